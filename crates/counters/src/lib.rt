@@ -1,0 +1,2 @@
+// Counters, and the fibers that wait for them.
+#![tactic(auto)]

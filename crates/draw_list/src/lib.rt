@@ -1,0 +1,2 @@
+// Bands of rows, and the text of a frame.
+#![tactic(auto)]

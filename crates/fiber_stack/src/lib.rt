@@ -1,0 +1,2 @@
+// Stacks of the nodes that a suspended tick has open.
+#![tactic(auto)]

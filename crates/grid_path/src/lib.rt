@@ -1,0 +1,2 @@
+// Path questions: the way from a cell to a place.
+#![tactic(auto)]

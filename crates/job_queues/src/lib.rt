@@ -1,0 +1,2 @@
+// Queues of jobs and ready fibers, and the pool of fibers.
+#![tactic(auto)]

@@ -1,0 +1,2 @@
+// Levels and scripts as text: reading, writing, and what they stand for.
+#![tactic(auto)]
