@@ -1,0 +1,34 @@
+-- Numbers counted up, and what is joined along them.
+use Rattle.std.proofs.Common.{◌≡◌, ℕ, zero, suc, ◌+◌, ◌*◌, List, [], ◌∷◌, ◌++◌, length, map, refl, sym, ap, ◌∙◌, arith, append_assoc}
+use Rattle.std.specs.List.{flat_map}
+use Rattle.std.proofs.lemmas.List.{length-append, length-map}
+use Rattle.std.proofs.lemmas.List.Concat.{flat_map-append}
+use Rattle.grid_world.specs.Map.{count_up}
+
+pub count_up-zero : (i : ℕ) → count_up i 0 ≡ []
+unfolding count_up
+count_up-zero i = refl
+
+pub count_up-suc : (i n : ℕ) → count_up i (suc n) ≡ i ∷ count_up (suc i) n
+unfolding count_up
+count_up-suc i n = refl
+
+pub length-count_up : (i n : ℕ) → length (count_up i n) ≡ n
+length-count_up i zero = rw count_up-zero refl
+length-count_up i (suc n) = rw count_up-suc (ap suc (length-count_up (suc i) n))
+
+pub count_up-append : (i m n : ℕ) → count_up i (m + n) ≡ count_up i m ++ count_up (i + m) n
+count_up-append i zero n =
+    let e : zero + n ≡ n = omega arith in let f : i + zero ≡ i = omega arith in rw (e, f, count_up-zero) refl
+count_up-append i (suc m) n =
+    let e : suc m + n ≡ suc (m + n) = omega arith in
+    let f : i + suc m ≡ suc i + m = omega arith in
+    rw (e, f, count_up-suc i (m + n), count_up-suc i m) (ap (λ l. i ∷ l) (count_up-append (suc i) m n))
+
+-- pieces of one length each
+pub length-flat_map-count_up : (f : ℕ → List ℕ) (k i n : ℕ) → ((j : ℕ) → length (f j) ≡ k) → length (flat_map f (count_up i n)) ≡ k * n
+length-flat_map-count_up f k i zero h = rw count_up-zero (omega arith)
+length-flat_map-count_up f k i (suc n) h =
+    let rest = length-flat_map-count_up f k (suc i) n h in
+    let more : k * suc n ≡ k + k * n = omega arith in
+    rw (count_up-suc, length-append (f i) (flat_map f (count_up (suc i) n)), h i, rest, more) refl
