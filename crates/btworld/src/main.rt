@@ -1,0 +1,6 @@
+// The program: plays a level, and prints its frames.
+#![tactic(auto)]
+
+mod words;
+
+fn main() {}
