@@ -1,8 +1,7 @@
 -- Numbers counted up, and what is joined along them.
-use Rattle.std.proofs.Common.{◌≡◌, ℕ, zero, suc, ◌+◌, ◌*◌, List, [], ◌∷◌, ◌++◌, length, map, refl, sym, ap, ◌∙◌, arith, append_assoc}
+use Rattle.std.proofs.Common.{◌≡◌, ◌<◌, ◌≤◌, ℕ, zero, suc, ◌+◌, ◌-◌, ◌*◌, List, [], ◌∷◌, ◌++◌, length, map, refl, sym, ap, ◌∙◌, arith, append_assoc, append-nil}
 use Rattle.std.specs.List.{flat_map}
-use Rattle.std.proofs.lemmas.List.{length-append, length-map}
-use Rattle.std.proofs.lemmas.List.Concat.{flat_map-append}
+use Rattle.std.proofs.lemmas.List.{length-append}
 use Rattle.grid_world.specs.Map.{count_up}
 
 pub count_up-zero : (i : ℕ) → count_up i 0 ≡ []
@@ -32,3 +31,33 @@ length-flat_map-count_up f k i (suc n) h =
     let rest = length-flat_map-count_up f k (suc i) n h in
     let more : k * suc n ≡ k + k * n = omega arith in
     rw (count_up-suc, length-append (f i) (flat_map f (count_up (suc i) n)), h i, rest, more) refl
+
+-- what is left to count, one number on and at the end
+count_up-left : (i n : ℕ) → i < n → count_up i (n - i) ≡ i ∷ count_up (i + 1) (n - (i + 1))
+count_up-left i n h =
+    let e : n - i ≡ suc (n - (i + 1)) = omega arith in
+    let f : i + 1 ≡ suc i = omega arith in
+    rw (e, f, count_up-suc) refl
+
+count_up-end : (i n : ℕ) → n ≤ i → count_up i (n - i) ≡ []
+count_up-end i n h = let e : n - i ≡ 0 = omega arith in rw (e, count_up-zero) refl
+
+pub pieces_more : (f : ℕ → List ℕ) (done after whole : List ℕ) (i n : ℕ) → i < n → after ≡ done ++ f i
+    → done ++ flat_map f (count_up i (n - i)) ≡ whole → after ++ flat_map f (count_up (i + 1) (n - (i + 1))) ≡ whole
+pieces_more f done after whole i n h e w =
+    ap (λ l. l ++ flat_map f (count_up (i + 1) (n - (i + 1)))) e
+    ∙ append_assoc done (f i) (flat_map f (count_up (i + 1) (n - (i + 1))))
+    ∙ ap (λ l. done ++ flat_map f l) (sym (count_up-left i n h)) ∙ w
+
+pub pieces_end : (f : ℕ → List ℕ) (done whole : List ℕ) (i n : ℕ) → n ≤ i → done ++ flat_map f (count_up i (n - i)) ≡ whole → done ≡ whole
+pieces_end f done whole i n h w = sym (append-nil done) ∙ ap (λ l. done ++ flat_map f l) (sym (count_up-end i n h)) ∙ w
+
+pub items_more : (f : ℕ → ℕ) (done after whole : List ℕ) (i n x : ℕ) → i < n → x ≡ f i → after ≡ done ++ x ∷ []
+    → done ++ map f (count_up i (n - i)) ≡ whole → after ++ map f (count_up (i + 1) (n - (i + 1))) ≡ whole
+items_more f done after whole i n x h same e w =
+    ap (λ l. l ++ map f (count_up (i + 1) (n - (i + 1)))) (e ∙ ap (λ y. done ++ y ∷ []) same)
+    ∙ append_assoc done (f i ∷ []) (map f (count_up (i + 1) (n - (i + 1))))
+    ∙ ap (λ l. done ++ map f l) (sym (count_up-left i n h)) ∙ w
+
+pub items_end : (f : ℕ → ℕ) (done whole : List ℕ) (i n : ℕ) → n ≤ i → done ++ map f (count_up i (n - i)) ≡ whole → done ≡ whole
+items_end f done whole i n h w = sym (append-nil done) ∙ ap (λ l. done ++ map f l) (sym (count_up-end i n h)) ∙ w

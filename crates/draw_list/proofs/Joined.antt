@@ -1,7 +1,6 @@
 -- The bands of a map, joined, are its rows, and have no gap.
-use Rattle.std.proofs.Common.{◌≡◌, ◌≤◌, ◌<◌, ℕ, zero, suc, ◌+◌, ◌-◌, ◌*◌, min, Bool, true, false, ◌==◌, ◌&&◌, nat_lt, if◌then◌else◌, List, [], ◌∷◌, ◌++◌, length, map, None, Some, refl, sym, ap, ◌∙◌, arith, ⊎_elim, inl, inr, ◌⊎◌, Option, append-nil}
+use Rattle.std.proofs.Common.{◌≡◌, ℕ, zero, suc, ◌+◌, ◌-◌, ◌*◌, min, Bool, true, false, ◌==◌, ◌&&◌, nat_lt, List, [], ◌∷◌, ◌++◌, length, map, None, Some, refl, sym, ap, ◌∙◌, arith, ⊎_elim, inl, inr, ◌⊎◌, append-nil}
 use Rattle.std.specs.List.{flat_map}
-use Rattle.std.specs.Int.{div_ceil}
 use Rattle.std.proofs.lemmas.Bool.{and_from, eq-eqb, cases_lt, lt-ltb, le-ltb}
 use Rattle.std.proofs.lemmas.List.{length-append, length-map}
 use Rattle.std.proofs.lemmas.List.Concat.{flat_map-append}
@@ -67,3 +66,15 @@ module _ (w : Grid) (on : List Bool) where
 
   pub no_gap : gap_of w (bands_of w on) ≡ None
   no_gap = no_gap_from 0 (band_count w.height) (omega arith)
+
+  pub band_is : (b width : ℕ) (rows : List ℕ) → width ≡ w.width → rows ≡ band_text w on b → record { number = b; width = width; rows = rows } ≡ band_of w on b
+  band_is b width rows e f = ap (λ (n : ℕ). let d : Band = record { number = b; width = n; rows = rows } in d) e ∙ ap (λ (r : List ℕ). let d : Band = record { number = b; width = w.width; rows = r } in d) f
+
+  pub not_gap : (bands : List Band) (k : ℕ) → bands ≡ bands_of w on → Some k ≡ gap_of w bands → ⊥
+  not_gap bands k e f = let g : Some k ≡ None = f ∙ ap (gap_of w) e ∙ no_gap in cc
+
+  -- a text that was written in three steps
+  pub written : (line agents t0 t1 t2 t3 : List ℕ) (bands : List Band) → t0 ≡ [] → t1 ≡ t0 ++ line → t2 ≡ t1 ++ flat_map (λ d. d.rows) bands → t3 ≡ t2 ++ agents
+      → bands ≡ bands_of w on → t3 ≡ line ++ flat_map (row_text w on) (count_up 0 w.height) ++ agents
+  written line agents t0 t1 t2 t3 bands a b c d e =
+      d ∙ ap (λ l. l ++ agents) (c ∙ ap (λ l. l ++ flat_map (λ d. d.rows) bands) (b ∙ ap (λ l. l ++ line) a) ∙ ap (λ l. line ++ l) (ap (flat_map (λ d. d.rows)) e ∙ joined))

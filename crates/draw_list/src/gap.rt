@@ -20,7 +20,8 @@ fn stands_at(width: u32, height: u32, place: u32, band: &Band) -> bool
 {
     band.number == place
         && band.width == width
-        && band.rows.as_bytes().len() as u64 == u64::from(width + 1) * u64::from(band_height(height, place))
+        && band.rows.as_bytes().len() as u64
+            == u64::from(width + 1) * u64::from(band_height(height, place))
 }
 
 /// The first place whose band is missing, has another number or another size, or is one too many.

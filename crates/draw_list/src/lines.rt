@@ -27,7 +27,12 @@ pub fn push_frame_line(text: &mut Vec<u8>, frame: u32) -> Result<(), AllocError>
 }
 
 /// Appends the line of an agent.
-pub fn push_agent_line(text: &mut Vec<u8>, number: u8, agent: &Agent, status: Status) -> Result<(), AllocError>
+pub fn push_agent_line(
+    text: &mut Vec<u8>,
+    number: u8,
+    agent: &Agent,
+    status: Status,
+) -> Result<(), AllocError>
     requires { number < 26 }
     ensures { OnOk result (text.new.items ≡ text.old.items ++ agent_text number agent.now status) }
 {
@@ -44,7 +49,11 @@ pub fn push_agent_line(text: &mut Vec<u8>, number: u8, agent: &Agent, status: St
 }
 
 /// Appends the lines of all agents.
-pub fn push_agent_lines(text: &mut Vec<u8>, agents: &[Agent], statuses: &[Status]) -> Result<(), AllocError>
+pub fn push_agent_lines(
+    text: &mut Vec<u8>,
+    agents: &[Agent],
+    statuses: &[Status],
+) -> Result<(), AllocError>
     requires few { length agents.now ≤ 26 }
     requires statuses { length statuses.now ≡ length agents.now }
     ensures { OnOk result (text.new.items ≡ text.old.items ++ agents_text 0 agents.now statuses.now) }

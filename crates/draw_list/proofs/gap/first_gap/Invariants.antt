@@ -1,5 +1,4 @@
 use Rattle.std.proofs.Common.{◌≡◌, ◌≤◌, drop}
-use Rattle.std.specs.Int.{div_ceil}
 use Rattle.draw_list.specs.Bands.{gap_from}
 use Rattle.draw_list.proofs.gap.first_gap.Given as goal
 
