@@ -1,0 +1,3 @@
+pub mod Forests
+pub mod Views
+pub mod AtLeastOne
