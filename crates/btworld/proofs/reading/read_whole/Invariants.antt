@@ -1,0 +1,6 @@
+use Rattle.std.proofs.Common.{◌≡◌}
+use Rattle.std.specs.Io.KnownBytes.{Consumes}
+use Rattle.btworld.proofs.reading.read_whole.Given as goal
+
+abbrev pub invariant-reads : goal.invariant-reads
+invariant-reads g l = Consumes (g.R.Read.remaining l.initial.input) (g.R.Read.remaining l.input) l.bytes.items

@@ -1,0 +1,8 @@
+// The program: plays a level, and prints its frames.
+#![tactic(auto)]
+
+mod reading;
+mod words;
+mod writing;
+
+fn main() {}
