@@ -1,0 +1,3 @@
+pub mod Meeting
+pub mod Visits
+pub mod Finding
