@@ -50,6 +50,9 @@ meets_both P Q R u u' u'' q q' q'' m m' m'' one two left right parts = record {
         (right (q'' l) now.0,
          ⊎_elim (λ there. there) (λ gone. absurd (both_ways (u' (q'' l)) (one.falls (q'' l) gone) now.1)) (cases_Bool (u (q'' l))))
 
+abbrev IsEither : ℕ → ℕ → ℕ → Type 0
+IsEither a b i = (i ≡ a) ⊎ (i ≡ b)
+
 -- the four cells around a cell
 pub meets_around : (s cell north east south west : ℕ) → north + s ≡ cell → east ≡ cell + 1 → south ≡ cell + s → west + 1 ≡ cell
     → (u u1 u2 u3 u4 : ℕ → Bool) (q q1 q2 q3 q4 : ℕ → ℕ) (m m1 m2 m3 m4 : ℕ)
@@ -57,20 +60,14 @@ pub meets_around : (s cell north east south west : ℕ) → north + s ≡ cell �
     → Meets (λ i. i ≡ south) u2 u3 q2 q3 m2 m3 → Meets (λ i. i ≡ west) u3 u4 q3 q4 m3 m4
     → Meets (λ i. (d : Dir) × IsNext s d i cell) u u4 q q4 m m4
 meets_around s cell north east south west en ee es ew u u1 u2 u3 u4 q q1 q2 q3 q4 m m1 m2 m3 m4 a b c d =
-    let ab = meets_both (λ i. i ≡ north) (λ i. i ≡ east) AB u u1 u2 q q1 q2 m m1 m2 a b (λ i e. inl e) (λ i e. inr e) (λ i r. r) in
-    let cd = meets_both (λ i. i ≡ south) (λ i. i ≡ west) CD u2 u3 u4 q2 q3 q4 m2 m3 m4 c d (λ i e. inl e) (λ i e. inr e) (λ i r. r) in
-    meets_both AB CD (λ i. (d : Dir) × IsNext s d i cell) u u2 u4 q q2 q4 m m2 m4 ab cd
+    let ab = meets_both (λ i. i ≡ north) (λ i. i ≡ east) (IsEither north east) u u1 u2 q q1 q2 m m1 m2 a b (λ i e. inl e) (λ i e. inr e) (λ i r. r) in
+    let cd = meets_both (λ i. i ≡ south) (λ i. i ≡ west) (IsEither south west) u2 u3 u4 q2 q3 q4 m2 m3 m4 c d (λ i e. inl e) (λ i e. inr e) (λ i r. r) in
+    meets_both (IsEither north east) (IsEither south west) (λ i. (d : Dir) × IsNext s d i cell) u u2 u4 q q2 q4 m m2 m4 ab cd
     (λ i r. ⊎_elim (λ e. (South, omega (arith, e, en))) (λ e. (West, omega (arith, e, ee))) r)
     (λ i r. ⊎_elim (λ e. (North, omega (arith, e, es))) (λ e. (East, omega (arith, e, ew))) r)
     side
   where
-    abbrev AB : ℕ → Type 0
-    AB i = (i ≡ north) ⊎ (i ≡ east)
-
-    abbrev CD : ℕ → Type 0
-    CD i = (i ≡ south) ⊎ (i ≡ west)
-
-    side : (i : ℕ) → (d : Dir) × IsNext s d i cell → AB i ⊎ CD i
+    side : (i : ℕ) → (d : Dir) × IsNext s d i cell → IsEither north east i ⊎ IsEither south west i
     side i (North, e) = inr (inl (omega (arith, e, es)))
     side i (East, e) = inr (inr (omega (arith, e, ew)))
     side i (South, e) = inl (inl (omega (arith, e, en)))

@@ -31,16 +31,19 @@ pub record Meets (P : ℕ → Type 0) (unmet unmet' : ℕ → Bool) (queue queue
   pub only : (i : ℕ) → unmet i ≡ true → unmet' i ≡ false → P i × ((l : ℕ) × (met ≤ l) × (l < met') × (queue' l ≡ i))
   pub queued : (l : ℕ) → met ≤ l → l < met' → P (queue' l) × (unmet (queue' l) ≡ true)
 
--- the cells of level k stand in the queue from head on, before met, and those of lower levels are met too
+-- a met cell of a level before level k, with no unmet neighbour
+pub record IsPassed (open_at : ℕ → Bool) (s goal : ℕ) (unmet : ℕ → Bool) (k i : ℕ) : Type 0 where
+  pub walk : (n : ℕ) × (n < k) × Reaches open_at s goal n i
+  pub closed : (d : Dir) (j : ℕ) → IsNext s d j i → open_at j ≡ true → unmet j ≡ false
+
+-- the cells of level k stand in the queue from head on, before met; what else is met is of a level before
 pub record Level (open_at : ℕ → Bool) (s goal : ℕ) (unmet : ℕ → Bool) (queue : ℕ → ℕ) (head met k : ℕ) : Type 0 where
   pub within : head ≤ met
   pub open_only : (i : ℕ) → unmet i ≡ true → open_at i ≡ true
-  pub near : (i : ℕ) → open_at i ≡ true → unmet i ≡ false → (n : ℕ) × (n ≤ k) × Reaches open_at s goal n i
   pub lower : (i n : ℕ) → open_at i ≡ true → n ≤ k → Reaches open_at s goal n i → unmet i ≡ false
   pub level : (l : ℕ) → head ≤ l → l < met → (open_at (queue l) ≡ true) × Reaches open_at s goal k (queue l)
   pub rest : (i : ℕ) → open_at i ≡ true → unmet i ≡ false
-      → ((l : ℕ) × (head ≤ l) × (l < met) × (queue l ≡ i))
-          ⊎ ((d : Dir) (j : ℕ) → IsNext s d j i → open_at j ≡ true → unmet j ≡ false)
+      → ((l : ℕ) × (head ≤ l) × (l < met) × (queue l ≡ i)) ⊎ IsPassed open_at s goal unmet k i
 
 -- the next cell in a direction is open, and n steps lead from there to the goal
 abbrev pub Nears : (ℕ → Bool) → (s goal from : ℕ) → ℕ → Dir → Type 0

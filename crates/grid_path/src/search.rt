@@ -71,7 +71,7 @@ pub(crate) fn search(unmet: &mut [bool], queue: &mut [u32], stride: usize, from:
     requires from { (stride ≤ from) × (from + stride < length unmet.old) }
     requires goal { at unmet.old goal ≡ true }
     requires numbers { length unmet.old < 2 ^ 32 }
-    requires room { length unmet.old < length queue.old }
+    requires room { length queue.old ≡ length unmet.old + 1 }
     ensures { IsFound (at unmet.old) stride goal from result }
 {
     let before = Around::of(unmet, stride, from);
