@@ -1,6 +1,6 @@
 -- What the search knows as it begins and as it ends.
-use Rattle.std.proofs.Common.{◌≡◌, ◌≢◌, ℕ, zero, suc, ◌+◌, ◌-◌, ◌<◌, ◌≤◌, ◌⊎◌, inl, inr, Bool, true, false, not, ◌&&◌, refl, sym, ap, subst, ◌∙◌, arith, ⊎_elim}
-use Rattle.std.proofs.lemmas.Bool.{both_ways, cases_Bool, cases_lt, and_parts, and_cases, and_from, not-true, not-false, not_from_false}
+use Rattle.std.proofs.Common.{◌≡◌, ℕ, zero, suc, ◌+◌, ◌-◌, ◌<◌, ◌≤◌, inl, Bool, true, false, not, ◌&&◌, refl, sym, subst, ◌∙◌, arith, ⊎_elim}
+use Rattle.std.proofs.lemmas.Bool.{both_ways, cases_Bool, cases_lt, and_parts, and_from, not-true, not_from_false}
 use Rattle.grid_world.specs.declared.cell.Dir.{Dir}
 use Rattle.grid_world.specs.declared.cell.Dir.TheVariants.{North, East, South, West}
 use Rattle.grid_world.specs.Way.{order}
@@ -24,7 +24,7 @@ module _ (open_at : ℕ → Bool) (s goal : ℕ) where
     open_only = λ i e. ⊎_elim (λ o. o) (λ o. absurd (both_ways (unmet i) (m.falls i o) e)) (cases_Bool (open_at i));
     lower = λ i n o low walk. m.all i (at_goal n i (omega (arith, low)) walk);
     level = λ l from to. let e = m.queued l from to in (e.1, e.0);
-    rest = λ i o e. inl (m.only i o e).1
+    rest = λ i o e. inl (m.only i o e).1;
   }
     where
       at_goal : (n i : ℕ) → n ≡ 0 → Reaches open_at s goal n i → i ≡ goal
@@ -67,7 +67,7 @@ module _ (open_at : ℕ → Bool) (s goal : ℕ) where
     found head met k v far next d new first = record {
       nears = subst (λ (n : ℕ). Nears open_at s goal from n d) same (j.0, j.1, there, walk.2);
       first = λ e low nears. both_ways (before e && not (now e)) (first e low) (newly_met head met k v e k (omega arith) nears);
-      least = far
+      least = far;
     }
       where
         j : (j : ℕ) × IsNext s d from j

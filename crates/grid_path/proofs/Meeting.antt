@@ -1,5 +1,5 @@
 -- One visit after another.
-use Rattle.std.proofs.Common.{◌≡◌, ℕ, ◌+◌, ◌<◌, ◌≤◌, ◌⊎◌, inl, inr, Bool, true, false, sym, subst, ◌∙◌, arith, ⊎_elim, refl}
+use Rattle.std.proofs.Common.{◌≡◌, ℕ, ◌+◌, ◌<◌, ◌≤◌, ◌⊎◌, inl, inr, Bool, true, sym, subst, ◌∙◌, arith, ⊎_elim, refl}
 use Rattle.std.proofs.lemmas.Bool.{cases_Bool, cases_lt, both_ways}
 use Rattle.grid_world.specs.declared.cell.Dir.{Dir}
 use Rattle.grid_world.specs.declared.cell.Dir.TheVariants.{North, East, South, West}
@@ -14,7 +14,7 @@ meets_none P u q m none = record {
   falls = λ i e. e;
   all = λ i p. absurd (none i p);
   only = λ i e f. absurd (both_ways (u i) f e);
-  queued = λ l from to. absurd (omega (arith, from, to))
+  queued = λ l from to. absurd (omega (arith, from, to));
 }
 
 -- the cells of P, and then those of Q
@@ -28,7 +28,7 @@ meets_both P Q R u u' u'' q q' q'' m m' m'' one two left right parts = record {
   falls = λ i e. two.falls i (one.falls i e);
   all = λ i r. ⊎_elim (λ p. two.falls i (one.all i p)) (λ p. two.all i p) (parts i r);
   only = λ i e f. ⊎_elim (λ there. later i (two.only i there f)) (λ gone. earlier i (one.only i e gone)) (cases_Bool (u' i));
-  queued = λ l from to. ⊎_elim (λ low. old l from low) (λ high. new l high to) (cases_lt l m')
+  queued = λ l from to. ⊎_elim (λ low. old l from low) (λ high. new l high to) (cases_lt l m');
 }
   where
     earlier : (i : ℕ) → P i × ((l : ℕ) × (m ≤ l) × (l < m') × (q' l ≡ i)) → R i × ((l : ℕ) × (m ≤ l) × (l < m'') × (q'' l ≡ i))
@@ -46,9 +46,10 @@ meets_both P Q R u u' u'' q q' q'' m m' m'' one two left right parts = record {
 
     new : (l : ℕ) → m' ≤ l → l < m'' → R (q'' l) × (u (q'' l) ≡ true)
     new l high to =
-        let now = two.queued l high to in
-        (right (q'' l) now.0,
-         ⊎_elim (λ there. there) (λ gone. absurd (both_ways (u' (q'' l)) (one.falls (q'' l) gone) now.1)) (cases_Bool (u (q'' l))))
+        let now = two.queued l high to in (
+          right (q'' l) now.0,
+          ⊎_elim (λ there. there) (λ gone. absurd (both_ways (u' (q'' l)) (one.falls (q'' l) gone) now.1)) (cases_Bool (u (q'' l))),
+        )
 
 abbrev IsEither : ℕ → ℕ → ℕ → Type 0
 IsEither a b i = (i ≡ a) ⊎ (i ≡ b)

@@ -1,7 +1,6 @@
 -- What one level of the search makes of the next, and what the levels say of walks.
-use Rattle.std.proofs.Common.{◌≡◌, ◌≢◌, ℕ, zero, suc, ◌+◌, ◌<◌, ◌≤◌, ◌⊎◌, inl, inr, Bool, true, false, List, refl, sym, ap, subst, ◌∙◌, arith, ⊎_elim}
-use Rattle.std.proofs.lemmas.Bool.{both_ways, cases_Bool, cases_lt, false_from_ne_true}
-use Rattle.grid_world.specs.declared.cell.Dir.{Dir}
+use Rattle.std.proofs.Common.{◌≡◌, ℕ, zero, suc, ◌+◌, ◌<◌, ◌≤◌, ◌⊎◌, inl, inr, Bool, true, false, sym, subst, arith, ⊎_elim}
+use Rattle.std.proofs.lemmas.Bool.{both_ways, cases_Bool, cases_lt}
 use Rattle.grid_path.specs.Bordered.{IsNext}
 use Rattle.grid_path.specs.Levels.{Reaches, IsBeside, Meets, IsPassed, Level}
 
@@ -45,7 +44,7 @@ module _ (open_at : ℕ → Bool) (s goal : ℕ) where
     level = λ l from to.
         let q = m.queued l from to in
         (v.open_only (queue' l) q.1, one_more (queue' l) (beside_reaches v (queue' l) q.0));
-    rest = λ i here gone. ⊎_elim (λ was. inr (passed i here was)) (λ new. inl new.1) (was_met m i gone)
+    rest = λ i here gone. ⊎_elim (λ was. inr (passed i here was)) (λ new. inl new.1) (was_met m i gone);
   }
     where
       one_more : (i : ℕ) → Reaches open_at s goal (suc k) i → Reaches open_at s goal (k + 1) i
@@ -57,13 +56,13 @@ module _ (open_at : ℕ → Bool) (s goal : ℕ) where
           from_level : (l : ℕ) × (head ≤ l) × (l < met) × (queue l ≡ i) → IsPassed open_at s goal unmet' (k + 1) i
           from_level (l, from, to, e) = record {
             walk = (k, omega arith, subst (λ (c : ℕ). Reaches open_at s goal k c) e (v.level l from to).1);
-            closed = λ d j next there. m.all j (l, from, to, d, subst (λ (x : ℕ). IsNext s d j x) (sym e) next)
+            closed = λ d j next there. m.all j (l, from, to, d, subst (λ (x : ℕ). IsNext s d j x) (sym e) next);
           }
 
           before : IsPassed open_at s goal unmet k i → IsPassed open_at s goal unmet' (k + 1) i
           before p = record {
             walk = (let w = p.walk in (w.0, omega (arith, w.1), w.2));
-            closed = λ d j next there. m.falls j (p.closed d j next there)
+            closed = λ d j next there. m.falls j (p.closed d j next there);
           }
 
       last : (n : ℕ) → n ≤ k + 1 → (n ≤ k) ⊎ (n ≡ suc k)

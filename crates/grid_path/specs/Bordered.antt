@@ -11,7 +11,7 @@ abbrev pub stride_of : Grid → ℕ
 stride_of g = g.width + 2
 
 abbrev pub number_of : Grid → Point → ℕ
-number_of g p = (p.y + 1) * stride_of g + (p.x + 1)
+number_of g p = suc p.y * stride_of g + suc p.x
 
 -- whether the cell in column x and row y, counted with the border, is an open cell of the map
 abbrev pub is_open_inside : Grid → List Bool → ℕ → ℕ → Bool

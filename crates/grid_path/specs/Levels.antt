@@ -2,9 +2,8 @@
 --
 -- `open_at` tells the open cells, and `unmet` those of them that the search has not met yet; `queue` has the cells in
 -- the order in which they were met.
-use Rattle.std.specs.Prelude.{ℕ, zero, suc, ◌≡◌, ◌+◌, ◌<◌, ◌≤◌, ◌⊎◌, Bool, true, false, List, slice_index, slice_index_or}
+use Rattle.std.specs.Prelude.{ℕ, zero, suc, ◌≡◌, ◌+◌, ◌<◌, ◌≤◌, ◌⊎◌, Bool, true, false, List, slice_index_or}
 use Rattle.grid_world.specs.declared.cell.Dir.{Dir}
-use Rattle.grid_world.specs.declared.cell.Dir.TheVariants.{North, East, South, West}
 use Rattle.grid_world.specs.declared.cell.Answer.{Answer}
 use Rattle.grid_world.specs.declared.cell.Answer.TheVariants.{Here, NoWay, Step}
 use Rattle.grid_world.specs.Way.{order}

@@ -42,7 +42,13 @@ fn expand(unmet: &mut [bool], queue: &mut [u32], stride: usize, met: usize, cell
 }
 
 /// Expands the cells that stand in the queue from `head` on, before `end`.
-fn expand_level(unmet: &mut [bool], queue: &mut [u32], stride: usize, head: usize, end: usize) -> usize
+fn expand_level(
+    unmet: &mut [bool],
+    queue: &mut [u32],
+    stride: usize,
+    head: usize,
+    end: usize,
+) -> usize
     requires order { head ≤ end }
     requires stride { 1 ≤ stride }
     requires inner { (l : ℕ) → head ≤ l → l < end
@@ -65,7 +71,13 @@ fn expand_level(unmet: &mut [bool], queue: &mut [u32], stride: usize, head: usiz
 ///
 /// It stops at the first level that has a cell next to `from`: all such cells are met by then, and none of them was
 /// before. `queue` need not be cleared.
-pub(crate) fn search(unmet: &mut [bool], queue: &mut [u32], stride: usize, from: usize, goal: usize) -> Answer
+pub(crate) fn search(
+    unmet: &mut [bool],
+    queue: &mut [u32],
+    stride: usize,
+    from: usize,
+    goal: usize,
+) -> Answer
     requires stride { 1 ≤ stride }
     requires inner { (i : ℕ) → at unmet.old i ≡ true → (stride ≤ i) × (i + stride < length unmet.old) }
     requires from { (stride ≤ from) × (from + stride < length unmet.old) }

@@ -9,7 +9,7 @@ invariant-loop-head l = record {
   level : Level (at l.fn.unmet) l.stride l.goal (at l.unmet) (slice_index l.queue) l.head l.met l.steps;
   far : (d : Dir) (n : ℕ) → Nears (at l.fn.unmet) l.stride l.goal l.from n d → l.steps ≤ n;
   room : count_by (λ c. c) l.unmet + l.met < length l.queue;
-  short : l.steps ≤ l.head
+  short : l.steps ≤ l.head;
 }
 
 abbrev pub decreases-loop-head : goal.decreases-loop-head
