@@ -1,0 +1,100 @@
+ghost use Rattle.std.specs.Prelude.{◌≡◌, ◌<◌, ◌≤◌, ◌*◌, IfSome, Some, None, option_map, if◌then◌else◌};
+ghost use Rattle.grid_world.specs.Grid.{is_on_map, index_of, cell_at, place_of};
+ghost use Rattle.grid_world.specs.Open.{is_open, is_passable};
+ghost use Rattle.grid_world.specs.World.{point};
+
+use crate::cell::Cell;
+use crate::place::Place;
+use crate::signal::Signals;
+use std::marker::Model;
+
+/// What of a world never changes: made once, and shared by all worlds that follow one another.
+#[derive(Drop)]
+pub struct Ground {
+    columns: u32,
+    rows: u32,
+    kinds: Vec<Cell>,
+    spots: [Option<u32>; 10],
+}
+
+impl Model for Ground {
+    ghost use Rattle.std.specs.Prelude.{[]};
+    ghost use Rattle.grid_world.specs.Grid.{Grid};
+    ghost use Rattle.grid_world.specs.Ground.{bare, IsGround, ListsSpots};
+
+    ghost Value = { Grid };
+
+    ghost view = { λ g. bare g.columns g.rows g.kinds.items };
+
+    ghost invariant = { λ g. IsGround (bare g.columns g.rows g.kinds.items) × ListsSpots g.spots (bare g.columns g.rows g.kinds.items) };
+}
+
+impl Ground {
+    ghost use Rattle.grid_world.specs.Ground.{IsGround};
+
+    pub fn width(&self) -> u32
+        ensures value { result ≡ self.now.width }
+        ensures ground { IsGround self.now }
+    {
+        self.columns
+    }
+
+    pub fn height(&self) -> u32
+        ensures value { result ≡ self.now.height }
+        ensures ground { IsGround self.now }
+    {
+        self.rows
+    }
+
+    /// The number of a cell of the map, counted row after row.
+    pub fn index_of(&self, x: u32, y: u32) -> Option<u32>
+        ensures value { result ≡ (if is_on_map self.now (point x y) then Some (index_of self.now (point x y)) else None) }
+        ensures within { IfSome result (λ i. i < self.now.width * self.now.height) }
+        ensures ground { IsGround self.now }
+    {
+        if x < self.columns && y < self.rows {
+            Some(y * self.columns + x)
+        } else {
+            None
+        }
+    }
+
+    pub fn cell(&self, x: u32, y: u32) -> Option<Cell>
+        ensures { result ≡ (if is_on_map self.now (point x y) then Some (cell_at self.now (point x y)) else None) }
+    {
+        if x < self.columns && y < self.rows {
+            Some(self.kinds[(y * self.columns + x) as usize])
+        } else {
+            None
+        }
+    }
+
+    pub fn is_open(&self, signals: Signals, x: u32, y: u32) -> bool
+        ensures { result ≡ is_open self.now signals (point x y) }
+    {
+        match self.cell(x, y) {
+            Some(cell) => is_passable(cell, &signals),
+            None => false,
+        }
+    }
+
+    pub fn place(&self, place: Place) -> Option<(u32, u32)>
+        ensures { option_map (λ cell. point cell.0 cell.1) result ≡ place_of self.now place }
+    {
+        match self.spots[place.number() as usize] {
+            Some(i) => Some((i % self.columns, i / self.columns)),
+            None => None,
+        }
+    }
+}
+
+fn is_passable(cell: Cell, signals: &Signals) -> bool
+    ensures { result ≡ is_passable signals.now cell }
+{
+    match cell {
+        Cell::Wall => false,
+        Cell::Floor => true,
+        Cell::Door(signal) => signals.is_on(signal),
+        Cell::Spot(_) => true,
+    }
+}

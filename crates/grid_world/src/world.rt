@@ -1,0 +1,147 @@
+ghost use Rattle.std.specs.Prelude.{◌≡◌, AllPairs, ◌<◌, ◌≤◌, ◌++◌, ◌+◌, ◌&&◌, OnOk, OnErr, IfSome, position, Some, None, length, option_map, if◌then◌else◌, vec_len, vec_capacity};
+ghost use Rattle.grid_world.specs.Grid.{is_on_map, cell_at, place_of, point_of, same_point};
+ghost use Rattle.grid_world.specs.Open.{is_open};
+ghost use Rattle.grid_world.specs.Glyphs.{glyph};
+ghost use Rattle.grid_world.specs.World.{IsWorld, point, row_glyphs};
+ghost use Rattle.grid_world.specs.Ground.{is_among};
+
+use crate::cell::{Agent, Cell};
+use crate::glyph::glyph_of;
+use crate::ground::Ground;
+use crate::place::Place;
+use crate::signal::Signals;
+use std::alloc::AllocError;
+use std::marker::Model;
+use std::sync::Arc;
+
+/// A world: its cells, the items that lie on them, and the agents.
+///
+/// What never changes is shared by all worlds that come from one map; a world of its own holds only
+/// its agents and a list of the cells with an item.
+#[derive(Drop)]
+pub struct World {
+    ground: Arc<Ground>,
+    item_cells: Vec<u32>,
+    crew: Vec<Agent>,
+}
+
+// Whether a number is among those of a list, which stand in rising order.
+fn is_listed(listed: &[u32], number: u32) -> bool
+    requires { AllPairs (λ i j. i < j) listed.now }
+    ensures { result ≡ is_among listed.now number }
+{
+    listed.binary_search(&number).is_ok()
+}
+
+// The number of the agent on a cell.
+fn agent_on(agents: &[Agent], x: u32, y: u32) -> Option<usize>
+    ensures value { result ≡ position (λ a. same_point (point_of a) (point x y)) agents.now }
+    ensures within { IfSome result (λ a. a < length agents.now) }
+{
+    agents.iter().position(|agent| agent.x == x && agent.y == y)
+}
+
+impl Model for World {
+    ghost use Rattle.std.specs.Arc.{arc_value};
+    ghost use Rattle.grid_world.specs.Grid.{Grid};
+    ghost use Rattle.grid_world.specs.Ground.{furnished, IsKept};
+
+    ghost Value = { Grid };
+
+    ghost view = { λ w. furnished (arc_value w.ground) w.item_cells.items w.crew.items };
+
+    ghost invariant = { λ w. IsKept (arc_value w.ground) w.item_cells.items w.crew.items };
+}
+
+impl World {
+    ghost use Rattle.grid_world.specs.Grid.{has_item};
+
+    /// The number of columns, from 1 to 128.
+    pub fn width(&self) -> u32
+        ensures value { result ≡ self.now.width }
+        ensures world { IsWorld self.now }
+    {
+        let _ = &self.crew;
+        self.ground.width()
+    }
+
+    /// The number of rows, from 1 to 128.
+    pub fn height(&self) -> u32
+        ensures value { result ≡ self.now.height }
+        ensures world { IsWorld self.now }
+    {
+        let _ = &self.crew;
+        self.ground.height()
+    }
+
+    /// The agents by number, at most 26.
+    pub fn agents(&self) -> &[Agent]
+        ensures value { result.now ≡ self.now.agents }
+        ensures world { IsWorld self.now }
+    {
+        &self.crew
+    }
+
+    /// The ground of a cell; `None` off the map.
+    pub fn cell(&self, x: u32, y: u32) -> Option<Cell>
+        ensures { result ≡ (if is_on_map self.now (point x y) then Some (cell_at self.now (point x y)) else None) }
+    {
+        self.ground.cell(x, y)
+    }
+
+    /// Whether an item lies on a cell; not so off the map. Takes logarithmic time in the number of items.
+    pub fn has_item(&self, x: u32, y: u32) -> bool
+        ensures { result ≡ (is_on_map self.now (point x y) && has_item self.now (point x y)) }
+    {
+        match self.ground.index_of(x, y) {
+            Some(i) => is_listed(&self.item_cells, i),
+            None => false,
+        }
+    }
+
+    /// The cell of a place, as its column and its row, if the map has it. Takes constant time.
+    pub fn place(&self, place: Place) -> Option<(u32, u32)>
+        ensures { option_map (λ cell. point cell.0 cell.1) result ≡ place_of self.now place }
+    {
+        self.ground.place(place)
+    }
+
+    /// Whether a cell can be stepped on under these signals, whoever stands there; not so off the map.
+    pub fn is_open(&self, signals: Signals, x: u32, y: u32) -> bool
+        ensures { result ≡ is_open self.now signals (point x y) }
+    {
+        self.ground.is_open(signals, x, y)
+    }
+
+    /// The character that a cell is drawn as; `None` off the map.
+    pub fn glyph_at(&self, signals: Signals, x: u32, y: u32) -> Option<u8>
+        ensures { result ≡ (if is_on_map self.now (point x y) then Some (glyph self.now signals (point x y)) else None) }
+    {
+        match self.cell(x, y) {
+            Some(cell) => Some(glyph_of(
+                cell,
+                agent_on(self.agents(), x, y),
+                self.has_item(x, y),
+                &signals,
+            )),
+            None => None,
+        }
+    }
+
+    /// Appends the glyphs of a row, from the left. Takes no memory where the text has room for `width` more bytes.
+    pub fn draw_row(&self, signals: Signals, y: u32, text: &mut Vec<u8>) -> Result<(), AllocError>
+        requires { y < self.now.height }
+        ensures ok { OnOk result (text.new.items ≡ text.old.items ++ row_glyphs self.now signals y) }
+        ensures err { OnErr result (text.new.items ≡ text.old.items) }
+        ensures full { OnErr result (vec_capacity text.old < vec_len text.old + self.now.width) }
+    {
+        let mut row = [0; 128];
+        let width = self.width();
+        'cells: for x in 0..width {
+            if let Some(glyph) = self.glyph_at(signals, x, y) {
+                row[x as usize] = glyph;
+            }
+        }
+        text.extend_from_slice(&row[..width as usize])
+    }
+}
