@@ -1,0 +1,4 @@
+pub mod Nodes
+pub mod Parts
+pub mod Names
+pub mod Drafts
