@@ -1,2 +1,14 @@
 // Bands of rows, and the text of a frame.
 #![tactic(auto)]
+
+mod band;
+mod draw;
+mod fault;
+mod frame;
+mod gap;
+mod lines;
+
+pub use band::{BAND_ROWS, Band, Rows};
+pub use draw::draw_band;
+pub use fault::DrawFault;
+pub use frame::frame_text;

@@ -3,3 +3,9 @@ pub mod FirstLines
 pub mod FrameNumbers
 pub mod ThreeWords
 pub mod ReadLines
+pub mod Items
+pub mod NodesBefore
+pub mod NodesRead
+pub mod TreesRead
+pub mod PartsRead
+pub mod NameOrder

@@ -1,6 +1,10 @@
 // Levels and scripts as text: reading, writing, and what they stand for.
 #![tactic(auto)]
 
+mod draft;
+mod leaves;
+mod nodes;
+mod parts;
 mod script;
 mod script_file;
 #[cfg(test)]

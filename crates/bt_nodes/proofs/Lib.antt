@@ -1,0 +1,5 @@
+pub mod Forests
+pub mod Views
+pub mod AtLeastOne
+pub mod WithinLimits
+pub mod MemoryBounds

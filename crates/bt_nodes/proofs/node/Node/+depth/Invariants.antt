@@ -1,0 +1,12 @@
+use Rattle.std.proofs.Common.{◌≡◌, min, max, ◌≤◌, drop}
+use Rattle.bt_nodes.specs.Plain.{plains}
+use Rattle.bt_nodes.specs.Sizes.{deepest}
+use Rattle.bt_nodes.proofs.node.Node.+depth.Given as goal
+
+abbrev pub invariant-deepest-nodes : goal.invariant-deepest-nodes
+invariant-deepest-nodes g l = record {
+  fits : l.most ≤ 18446744073709551615;
+  left :
+      min (max l.most (deepest (plains (drop l.node-index l.nodes)))) 18446744073709551615
+      ≡ min (deepest (plains l.nodes)) 18446744073709551615;
+}

@@ -1,0 +1,12 @@
+use Rattle.std.proofs.Common.{◌≡◌, min, ◌+◌, ◌≤◌, drop}
+use Rattle.bt_nodes.specs.Plain.{plains}
+use Rattle.bt_nodes.specs.Sizes.{sizes}
+use Rattle.bt_nodes.proofs.node.Node.+size.Given as goal
+
+abbrev pub invariant-sizes-nodes : goal.invariant-sizes-nodes
+invariant-sizes-nodes g l = record {
+  fits : l.total ≤ 18446744073709551615;
+  left :
+      min (l.total + sizes (plains (drop l.node-index l.nodes))) 18446744073709551615
+      ≡ min (sizes (plains l.nodes)) 18446744073709551615;
+}

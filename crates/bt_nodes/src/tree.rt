@@ -1,0 +1,91 @@
+ghost use Rattle.std.specs.Prelude.{◌≡◌, ◌≤◌, None, Some, IfOk, IfErr};
+ghost use Rattle.bt_nodes.specs.Plain.{plain};
+ghost use Rattle.bt_nodes.specs.Sizes.{size, depth};
+ghost use Rattle.bt_nodes.specs.Limits.{tree_fault};
+
+use crate::fault::TreeFault;
+use crate::node::Node;
+use std::alloc::{AllocError, Allocator};
+
+/// A tree within the limits: 1 to 255 nodes, a depth of 1 to 32, a child in each node that lists children, the
+/// threshold of each `Par` from 1 to its number of children, each number of `Tries`, `Ticks` and `Wait` from 1 to
+/// 1000, and each of `Near` from 1 to 16.
+#[derive(Debug, Drop)]
+pub struct Tree<A: Allocator> {
+    root: Node<A>,
+    nodes: u64,
+    levels: u64,
+    ghost within: { tree_fault (plain root) ≡ None },
+    ghost counted: { nodes ≡ size (plain root) },
+    ghost measured: { levels ≡ depth (plain root) },
+}
+
+impl<A: Allocator> Tree<A> {
+    ghost use Rattle.bt_nodes.specs.Trees.{plain_of};
+
+    /// The tree with this root, or the first limit that it breaks, with the root handed back. It takes no memory,
+    /// and walks over the nodes once for each limit.
+    pub fn new(root: Node<A>) -> Result<Tree<A>, (TreeFault, Node<A>)>
+        ensures ok { IfOk result (λ tree. (plain_of tree ≡ plain root) × (tree_fault (plain root) ≡ None)) }
+        ensures err { IfErr result (λ e. (tree_fault (plain root) ≡ Some e.0) × (e.1 ≡ root)) }
+    {
+        let nodes = root.size();
+        if nodes > 255 {
+            return Err((TreeFault::TooManyNodes, root));
+        }
+        let levels = root.depth();
+        if levels > 32 {
+            return Err((TreeFault::TooDeep, root));
+        }
+        if !root.has_children() {
+            return Err((TreeFault::NoChild, root));
+        }
+        if !root.has_thresholds() {
+            return Err((TreeFault::Threshold, root));
+        }
+        if !root.has_counts() {
+            return Err((TreeFault::Count, root));
+        }
+        Ok(Tree {
+            root,
+            nodes,
+            levels,
+        })
+    }
+
+    /// The number of nodes, which `new` counted.
+    pub fn size(&self) -> u64
+        ensures value { result ≡ size (plain_of self.now) }
+        ensures least { 1 ≤ result }
+        ensures most { result ≤ 255 }
+    {
+        self.nodes
+    }
+
+    /// The depth, which `new` measured; that of the root alone is 1.
+    pub fn depth(&self) -> u64
+        ensures value { result ≡ depth (plain_of self.now) }
+        ensures least { 1 ≤ result }
+        ensures most { result ≤ 32 }
+    {
+        self.levels
+    }
+
+    pub fn root(&self) -> &Node<A>
+        ensures value { plain result.now ≡ plain_of self.now }
+        ensures within { tree_fault (plain result.now) ≡ None }
+    {
+        &self.root
+    }
+
+    /// A copy whose nodes lie in `alloc`.
+    pub fn copy_in<B: Allocator + Clone>(&self, alloc: B) -> Result<Tree<B>, AllocError>
+        ensures { IfOk result (λ copy. plain_of copy ≡ plain_of self.now) }
+    {
+        Ok(Tree {
+            root: self.root.copy_in(&alloc)?,
+            nodes: self.nodes,
+            levels: self.levels,
+        })
+    }
+}

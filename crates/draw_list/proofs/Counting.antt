@@ -1,0 +1,63 @@
+-- Numbers counted up, and what is joined along them.
+use Rattle.std.proofs.Common.{◌≡◌, ◌<◌, ◌≤◌, ℕ, zero, suc, ◌+◌, ◌-◌, ◌*◌, List, [], ◌∷◌, ◌++◌, length, map, refl, sym, ap, ◌∙◌, arith, append_assoc, append-nil}
+use Rattle.std.specs.List.{flat_map}
+use Rattle.std.proofs.lemmas.List.{length-append}
+use Rattle.grid_world.specs.Map.{count_up}
+
+pub count_up-zero : (i : ℕ) → count_up i 0 ≡ []
+unfolding count_up
+count_up-zero i = refl
+
+pub count_up-suc : (i n : ℕ) → count_up i (suc n) ≡ i ∷ count_up (suc i) n
+unfolding count_up
+count_up-suc i n = refl
+
+pub length-count_up : (i n : ℕ) → length (count_up i n) ≡ n
+length-count_up i zero = rw count_up-zero refl
+length-count_up i (suc n) = rw count_up-suc (ap suc (length-count_up (suc i) n))
+
+pub count_up-append : (i m n : ℕ) → count_up i (m + n) ≡ count_up i m ++ count_up (i + m) n
+count_up-append i zero n =
+    let e : zero + n ≡ n = omega arith in let f : i + zero ≡ i = omega arith in rw (e, f, count_up-zero) refl
+count_up-append i (suc m) n =
+    let e : suc m + n ≡ suc (m + n) = omega arith in
+    let f : i + suc m ≡ suc i + m = omega arith in
+    rw (e, f, count_up-suc i (m + n), count_up-suc i m) (ap (λ l. i ∷ l) (count_up-append (suc i) m n))
+
+-- pieces of one length each
+pub length-flat_map-count_up : (f : ℕ → List ℕ) (k i n : ℕ) → ((j : ℕ) → length (f j) ≡ k) → length (flat_map f (count_up i n)) ≡ k * n
+length-flat_map-count_up f k i zero h = rw count_up-zero (omega arith)
+length-flat_map-count_up f k i (suc n) h =
+    let rest = length-flat_map-count_up f k (suc i) n h in
+    let more : k * suc n ≡ k + k * n = omega arith in
+    rw (count_up-suc, length-append (f i) (flat_map f (count_up (suc i) n)), h i, rest, more) refl
+
+-- what is left to count, one number on and at the end
+count_up-left : (i n : ℕ) → i < n → count_up i (n - i) ≡ i ∷ count_up (i + 1) (n - (i + 1))
+count_up-left i n h =
+    let e : n - i ≡ suc (n - (i + 1)) = omega arith in
+    let f : i + 1 ≡ suc i = omega arith in
+    rw (e, f, count_up-suc) refl
+
+count_up-end : (i n : ℕ) → n ≤ i → count_up i (n - i) ≡ []
+count_up-end i n h = let e : n - i ≡ 0 = omega arith in rw (e, count_up-zero) refl
+
+pub pieces_more : (f : ℕ → List ℕ) (done after whole : List ℕ) (i n : ℕ) → i < n → after ≡ done ++ f i
+    → done ++ flat_map f (count_up i (n - i)) ≡ whole → after ++ flat_map f (count_up (i + 1) (n - (i + 1))) ≡ whole
+pieces_more f done after whole i n h e w =
+    ap (λ l. l ++ flat_map f (count_up (i + 1) (n - (i + 1)))) e
+    ∙ append_assoc done (f i) (flat_map f (count_up (i + 1) (n - (i + 1))))
+    ∙ ap (λ l. done ++ flat_map f l) (sym (count_up-left i n h)) ∙ w
+
+pub pieces_end : (f : ℕ → List ℕ) (done whole : List ℕ) (i n : ℕ) → n ≤ i → done ++ flat_map f (count_up i (n - i)) ≡ whole → done ≡ whole
+pieces_end f done whole i n h w = sym (append-nil done) ∙ ap (λ l. done ++ flat_map f l) (sym (count_up-end i n h)) ∙ w
+
+pub items_more : (f : ℕ → ℕ) (done after whole : List ℕ) (i n x : ℕ) → i < n → x ≡ f i → after ≡ done ++ x ∷ []
+    → done ++ map f (count_up i (n - i)) ≡ whole → after ++ map f (count_up (i + 1) (n - (i + 1))) ≡ whole
+items_more f done after whole i n x h same e w =
+    ap (λ l. l ++ map f (count_up (i + 1) (n - (i + 1)))) (e ∙ ap (λ y. done ++ y ∷ []) same)
+    ∙ append_assoc done (f i ∷ []) (map f (count_up (i + 1) (n - (i + 1))))
+    ∙ ap (λ l. done ++ map f l) (sym (count_up-left i n h)) ∙ w
+
+pub items_end : (f : ℕ → ℕ) (done whole : List ℕ) (i n : ℕ) → n ≤ i → done ++ map f (count_up i (n - i)) ≡ whole → done ≡ whole
+items_end f done whole i n h w = sym (append-nil done) ∙ ap (λ l. done ++ map f l) (sym (count_up-end i n h)) ∙ w

@@ -1,0 +1,115 @@
+-- The node that a JSON value spells: an array of a head and its arguments.
+use Rattle.std.specs.Prelude.{ℕ, ◌-◌, List, [], ◌∷◌, codes, if◌then◌else◌, Option, Some, None, option_map, option_and_then}
+use Rattle.std.specs.Str.{bytes_eq}
+use Rattle.serde_json.specs.Data.{Data, null, boolean, number, string, array, object, Items, no_items, item}
+use Rattle.serde_json.specs.Find.{as_u64, as_number, as_str}
+use Rattle.grid_world.specs.Map.{is_between}
+use Rattle.bt_nodes.specs.Plain.{Plain, Composite, CompositeStar, Parallel, Invert, Tries, Ticks, Wait, MoveTo, Does, Sequence, Fallback, TakeItem, DropItem, AtPlace, Carries, OnItem, SignalOn, NearOther, Forest, none, tree}
+
+-- ---- arguments
+
+abbrev pub first : Items → Option Data
+first no_items = None
+first (item d ds) = Some d
+
+-- the one item, where there is one
+abbrev pub only : Items → Option Data
+only no_items = None
+only (item d no_items) = Some d
+only (item d (item e ds)) = None
+
+-- a number that `as_u64` gives
+abbrev pub count_in : Data → Option ℕ
+count_in d = option_and_then as_u64 (as_number d)
+
+-- a text of one character from `low` to `high`, as its number from 0
+abbrev pub mark_of : (low high : ℕ) → List ℕ → Option ℕ
+mark_of low high [] = None
+mark_of low high (c ∷ []) = if is_between low high c then Some (c - low) else None
+mark_of low high (c ∷ d ∷ cs) = None
+
+-- a text of one digit
+abbrev pub place_in : Data → Option ℕ
+place_in d = option_and_then (mark_of 48 57) (as_str d)
+
+-- a text of one letter `a` to `z`
+abbrev pub signal_in : Data → Option ℕ
+signal_in d = option_and_then (mark_of 97 122) (as_str d)
+
+abbrev pub if_empty : Items → Plain → Option Plain
+if_empty no_items p = Some p
+if_empty (item d ds) p = None
+
+-- ---- nodes
+
+-- the node of a head that takes no node
+abbrev pub leaf_of : List ℕ → Items → Option Plain
+leaf_of head arguments =
+    if bytes_eq head (codes "wait") then option_map Wait (option_and_then count_in (only arguments))
+    else (if bytes_eq head (codes "move") then option_map MoveTo (option_and_then place_in (only arguments))
+    else (if bytes_eq head (codes "take") then if_empty arguments (Does TakeItem)
+    else (if bytes_eq head (codes "drop") then if_empty arguments (Does DropItem)
+    else (if bytes_eq head (codes "at") then option_map (λ p. Does (AtPlace p)) (option_and_then place_in (only arguments))
+    else (if bytes_eq head (codes "carrying") then if_empty arguments (Does Carries)
+    else (if bytes_eq head (codes "item") then if_empty arguments (Does OnItem)
+    else (if bytes_eq head (codes "signal") then option_map (λ a. Does (SignalOn a)) (option_and_then signal_in (only arguments))
+    else (if bytes_eq head (codes "near") then option_map (λ n. Does (NearOther n)) (option_and_then count_in (only arguments))
+    else None))))))))
+
+-- a number, and what stands behind it
+abbrev pub numbered : {B : Type 0} → Items → Option B → Option (ℕ × B)
+numbered arguments behind = option_and_then (λ n. option_map (λ b. (n, b)) behind) (option_and_then count_in (first arguments))
+
+-- what arguments spell where they are nodes, where they are one node, and where a number stands before these
+pub record Arguments : Type 0 where
+  pub all : Items
+  pub nodes : Option Forest
+  pub node : Option Plain
+  pub nodes_behind : Option Forest
+  pub node_behind : Option Plain
+
+abbrev pub form_of : List ℕ → Arguments → Option Plain
+form_of head arguments =
+    if bytes_eq head (codes "seq") then option_map (Composite Sequence) arguments.nodes
+    else (if bytes_eq head (codes "fallback") then option_map (Composite Fallback) arguments.nodes
+    else (if bytes_eq head (codes "seq*") then option_map (CompositeStar Sequence) arguments.nodes
+    else (if bytes_eq head (codes "fallback*") then option_map (CompositeStar Fallback) arguments.nodes
+    else (if bytes_eq head (codes "par") then option_map (λ p. Parallel p.0 p.1) (numbered arguments.all arguments.nodes_behind)
+    else (if bytes_eq head (codes "not") then option_map Invert arguments.node
+    else (if bytes_eq head (codes "tries") then option_map (λ p. Tries p.0 p.1) (numbered arguments.all arguments.node_behind)
+    else (if bytes_eq head (codes "ticks") then option_map (λ p. Ticks p.0 p.1) (numbered arguments.all arguments.node_behind)
+    else leaf_of head arguments.all)))))))
+
+abbrev mutual
+  pub node_of : Data → Option Plain
+  node_of null = None
+  node_of (boolean b) = None
+  node_of (number n) = None
+  node_of (string s) = None
+  node_of (array ds) = node_in ds
+  node_of (object ms) = None
+
+  -- the first item is a text, the head
+  pub node_in : Items → Option Plain
+  node_in no_items = None
+  node_in (item head arguments) =
+      option_and_then (λ name. form_of name (record { all = arguments; nodes = forest_in arguments; node = child_in arguments; nodes_behind = forest_behind arguments; node_behind = child_behind arguments })) (as_str head)
+
+  -- each item is a node
+  pub forest_in : Items → Option Forest
+  forest_in no_items = Some none
+  forest_in (item d ds) = option_and_then (λ p. option_map (tree p) (forest_in ds)) (node_of d)
+
+  -- the one item is a node
+  pub child_in : Items → Option Plain
+  child_in no_items = None
+  child_in (item d no_items) = node_of d
+  child_in (item d (item e ds)) = None
+
+  pub forest_behind : Items → Option Forest
+  forest_behind no_items = None
+  forest_behind (item d ds) = forest_in ds
+
+  pub child_behind : Items → Option Plain
+  child_behind no_items = None
+  child_behind (item d ds) = child_in ds
