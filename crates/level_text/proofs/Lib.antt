@@ -4,3 +4,7 @@ pub mod NodesRead
 pub mod TreesRead
 pub mod PartsRead
 pub mod NameOrder
+pub mod FaultOrder
+pub mod AgentTrees
+pub mod RowFaults
+pub mod Picks

@@ -3,5 +3,13 @@
 
 mod draft;
 mod leaves;
+mod level;
+mod level_fault;
+mod named_tree;
 mod nodes;
 mod parts;
+mod placed;
+mod read;
+
+pub use level::Level;
+pub use level_fault::LevelFault;
