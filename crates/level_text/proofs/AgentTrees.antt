@@ -1,15 +1,15 @@
 -- Where the tree of an agent stands among the trees.
-use Rattle.std.proofs.Common.{◌≡◌, ℕ, zero, suc, ◌<◌, List, [], ◌∷◌, length, get_or, map, Bool, true, false, cond, ltb, Option, Some, None, is_some, find, position, option_map, unwrap_or, refl, sym, ap, ◌∙◌, arith}
+use Rattle.std.proofs.Common.{◌≡◌, ℕ, zero, suc, ◌<◌, List, [], ◌∷◌, length, get_or, map, Bool, true, false, cond, ltb, Some, None, is_some, position, option_map, unwrap_or, refl, sym, ap, ◌∙◌, arith}
 use Rattle.std.proofs.lemmas.List.Folds.{find_at}
 use Rattle.std.proofs.lemmas.List.{get_or-map, length-map}
 use Rattle.std.proofs.lemmas.Option.{slice_get-get_or}
 use Rattle.std.proofs.lemmas.Bool.{ltb-true}
-use Rattle.std.specs.List.{position_or_len, slice_get, list_all}
+use Rattle.std.specs.List.{list_all}
 use Rattle.grid_world.specs.Grid.{Grid}
-use Rattle.bt_nodes.specs.Plain.{Plain, Does, Carries}
+use Rattle.bt_nodes.specs.Plain.{Does, Carries}
 use Rattle.level_text.specs.Parts.{NamedPlain, Parts}
 use Rattle.level_text.specs.Places.{places, has_place}
-use Rattle.level_text.specs.Faults.{Fault, is_named, agent_fault, place_fault, parts_fault, world_of}
+use Rattle.level_text.specs.Faults.{is_named, agent_fault, place_fault, parts_fault, world_of}
 use Rattle.level_text.specs.Kept.{index_of}
 use Rattle.level_text.specs.Levels.{tree_named, agent_trees}
 use Rattle.level_text.proofs.FaultOrder.{passes, faultless}

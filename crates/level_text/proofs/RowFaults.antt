@@ -1,5 +1,5 @@
 -- The fault of a map's rows beside that of their characters.
-use Rattle.std.proofs.Common.{◌≡◌, ◌⊎◌, inl, inr, List, [], ◌∷◌, map, Option, Some, None, option_and_then, String, Global, string_bytes, refl, sym, ap, ◌∙◌}
+use Rattle.std.proofs.Common.{◌≡◌, ◌⊎◌, inl, inr, List, [], ◌∷◌, map, Some, None, option_and_then, String, Global, string_bytes, refl, sym, ap, ◌∙◌}
 use Rattle.std.specs.Str.{chars}
 use Rattle.grid_world.specs.MapFaults.{map_fault, rows_of}
 use Rattle.grid_world.specs.declared.fault.MapFault.{MapFault}

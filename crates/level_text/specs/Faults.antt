@@ -1,5 +1,5 @@
 -- The first fault of a level's parts.
-use Rattle.std.specs.Prelude.{ℕ, suc, List, [], ◌∷◌, length, map, find, position, is_some, Bool, ◌==◌, if◌then◌else◌, Option, Some, None, option_map, option_and_then}
+use Rattle.std.specs.Prelude.{ℕ, suc, List, [], ◌∷◌, length, map, position, is_some, Bool, ◌==◌, if◌then◌else◌, Option, Some, None, option_map, option_and_then}
 use Rattle.std.specs.Option.{option_or}
 use Rattle.std.specs.List.{list_all}
 use Rattle.std.specs.Str.{bytes_eq, chars}

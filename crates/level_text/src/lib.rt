@@ -10,6 +10,13 @@ mod nodes;
 mod parts;
 mod placed;
 mod read;
+mod script;
+mod script_file;
+#[cfg(test)]
+mod script_tests;
 
 pub use level::Level;
 pub use level_fault::LevelFault;
+pub use read::{level_of, read_level};
+pub use script::Script;
+pub use script_file::{ScriptFault, read_script};

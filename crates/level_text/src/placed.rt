@@ -28,7 +28,13 @@ pub(crate) fn is_placed(node: &Node<Global>, world: &World) -> bool
         Node::Not(child) | Node::Tries(_, child) | Node::Ticks(_, child) => is_placed(child, world),
         Node::Move(place) => has_place(world, *place),
         Node::At(place) => has_place(world, *place),
-        Node::Wait(_) | Node::Take | Node::Drop | Node::Carrying | Node::Item | Node::Signal(_) | Node::Near(_) => true,
+        Node::Wait(_)
+        | Node::Take
+        | Node::Drop
+        | Node::Carrying
+        | Node::Item
+        | Node::Signal(_)
+        | Node::Near(_) => true,
     }
 }
 

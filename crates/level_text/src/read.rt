@@ -72,7 +72,9 @@ fn picks_of(alloc: Global, names: &[String], trees: &[NamedTree]) -> Result<Vec<
     'names: for (agent, name) in names.iter().enumerate() {
         match index_of(name, trees) {
             Some(i) => picks.push(i)?,
-            None => return Err(LevelFault::NoTree { agent: agent as u32 }),
+            None => return Err(LevelFault::NoTree {
+                agent: agent as u32,
+            }),
         }
     }
     Ok(picks)
@@ -96,4 +98,65 @@ fn is_counted(names: &[String], world: &World) -> bool
     ensures { result ≡ (length (texts_view names.now) == length world.now.agents) }
 {
     names.len() == world.agents().len()
+}
+
+/// The level of the parts, or their first fault.
+fn level_from(alloc: Global, draft: Draft) -> Result<Level, LevelFault>
+    requires { IsTrue (is_in_order (names_of (parts_view draft).trees)) }
+    ensures ok { IfOk result (λ level. of_parts (Some (parts_view draft)) ≡ Ok (value_of level)) }
+    ensures err { IfErr result (IsFaultOf (of_parts (Some (parts_view draft)))) }
+{
+    let world = match world_of(alloc, &draft.rows) {
+        Ok(world) => world,
+        Err(fault) => return Err(fault),
+    };
+    if !is_counted(&draft.names, &world) {
+        return Err(LevelFault::AgentCount);
+    }
+    let mut trees = match trees_within(alloc, draft.trees) {
+        Ok(trees) => trees,
+        Err(fault) => return Err(fault),
+    };
+    let picks = match picks_of(alloc, &draft.names, &trees) {
+        Ok(picks) => picks,
+        Err(fault) => return Err(fault),
+    };
+    if let Some(i) = first_unplaced(&trees, &world) {
+        return Err(LevelFault::NoPlace {
+            name: trees.remove(i).name,
+        });
+    }
+    Ok(Level {
+        rows: draft.rows,
+        names: draft.names,
+        trees,
+        world,
+        picks,
+    })
+}
+
+/// The level that a value spells, or the first fault of it, which is never `Json`.
+pub fn level_of(alloc: Global, value: &Value) -> Result<Level, LevelFault>
+    ensures ok { IfOk result (λ level. spelled_level (view value.now) ≡ Ok (value_of level)) }
+    ensures err { IfErr result (IsFaultOf (spelled_level (view value.now))) }
+{
+    match parts_of(alloc, value)? {
+        Some(draft) => level_from(alloc, draft),
+        None => Err(LevelFault::Shape),
+    }
+}
+
+/// The level that bytes spell, or the first fault of them.
+pub fn read_level(alloc: Global, bytes: &[u8]) -> Result<Level, LevelFault>
+    ensures ok { IfOk result (λ level. spelled bytes.now ≡ Ok (value_of level)) }
+    ensures err { IfErr result (IsFaultOf (spelled bytes.now)) }
+{
+    match Value::from_slice(alloc, bytes) {
+        Ok(value) => level_of(alloc, &value),
+        Err(error) => if error.is_memory() {
+            Err(LevelFault::OutOfMemory)
+        } else {
+            Err(LevelFault::Json)
+        },
+    }
 }
