@@ -1,14 +1,15 @@
-use std::test::Fail;
-
 use super::fiber::Fiber;
 use super::pick::Pick;
 use super::pool::{FiberPool, NoFiber, NotTaken};
 use super::priority::Priority;
 use super::queues::{QueueFault, Queues};
 use job_core::names::JobName;
+use std::test::Fail;
 
 const LOGIC: JobName = JobName::Logic { frame: 1 };
+
 const THINK: JobName = JobName::Think { frame: 1, agent: 0 };
+
 const DRAW: JobName = JobName::Draw { frame: 1, band: 0 };
 
 #[test]
