@@ -4,3 +4,5 @@ pub mod Nodes
 pub mod Parts
 pub mod Names
 pub mod Drafts
+pub mod PlainCode
+pub mod GameCode
