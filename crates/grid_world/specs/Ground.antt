@@ -1,5 +1,5 @@
 -- How a world is kept: its ground, which never changes, and the cells on which an item lies.
-use Rattle.std.specs.Prelude.{ℕ, ◌≡◌, ◌<◌, ◌==◌, Bool, List, [], All, AllPairs, length, map, position, Option, None, slice_index_or}
+use Rattle.std.specs.Prelude.{ℕ, ◌≡◌, ◌<◌, ◌≤◌, ◌==◌, Bool, List, [], All, AllPairs, length, map, position, Option, None, slice_index_or}
 use Rattle.std.specs.List.{list_any}
 use Rattle.grid_world.specs.declared.cell.Agent.{Agent}
 use Rattle.grid_world.specs.declared.cell.Cell.{Cell}
@@ -36,6 +36,12 @@ furnished ground listed agents =
 pub record IsListed (listed : List ℕ) (n : ℕ) : Type 0 where
   pub rising : AllPairs (λ i j. i < j) listed
   pub on_map : All (λ i. i < n) listed
+
+-- where a number that is not listed would stand
+pub record IsGap (listed : List ℕ) (number i : ℕ) : Type 0 where
+  pub within : i ≤ length listed
+  pub below : (k : ℕ) → k < i → slice_index_or listed k 0 < number
+  pub above : (k : ℕ) → i ≤ k → k < length listed → number < slice_index_or listed k 0
 
 pub record IsKept (ground : Grid) (listed : List ℕ) (agents : List Agent) : Type 0 where
   pub listing : IsListed listed (length ground.cells)
