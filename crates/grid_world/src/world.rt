@@ -1,18 +1,26 @@
-ghost use Rattle.std.specs.Prelude.{◌≡◌, AllPairs, ◌<◌, ◌≤◌, ◌++◌, ◌+◌, ◌&&◌, OnOk, OnErr, IfSome, position, Some, None, length, option_map, if◌then◌else◌, vec_len, vec_capacity};
+ghost use Rattle.std.specs.Prelude.{MatchResult, slice_index, IfOk, IfErr, ◌⊎◌, ◌≡◌, AllPairs, ◌<◌, ◌≤◌, ◌++◌, ◌+◌, ◌&&◌, OnOk, OnErr, IfSome, position, Some, None, length, option_map, if◌then◌else◌, vec_len, vec_capacity};
 ghost use Rattle.grid_world.specs.Grid.{is_on_map, cell_at, place_of, point_of, same_point};
 ghost use Rattle.grid_world.specs.Open.{is_open};
 ghost use Rattle.grid_world.specs.Glyphs.{glyph};
 ghost use Rattle.grid_world.specs.World.{IsWorld, point, row_glyphs};
-ghost use Rattle.grid_world.specs.Ground.{is_among};
+ghost use Rattle.grid_world.specs.Ground.{is_among, IsGap};
 
 use crate::cell::{Agent, Cell};
+use crate::fault::MapFault;
 use crate::glyph::glyph_of;
 use crate::ground::Ground;
+use crate::map::{
+    agents_in, cells_in, first_width, has_letters, has_size, item_cells_in, marks_in, strange_mark,
+};
 use crate::place::Place;
 use crate::signal::Signals;
-use std::alloc::AllocError;
+use std::alloc::{AllocError, Global};
 use std::marker::Model;
 use std::sync::Arc;
+
+mod changes;
+
+pub use changes::resolve;
 
 /// A world: its cells, the items that lie on them, and the agents.
 ///
@@ -25,12 +33,20 @@ pub struct World {
     crew: Vec<Agent>,
 }
 
-// Whether a number is among those of a list, which stand in rising order.
+// The place of a number in a rising list, or where it would stand.
+fn find(listed: &[u32], number: u32) -> Result<usize, usize>
+    requires { AllPairs (λ i j. i < j) listed.now }
+    ensures { MatchResult result (λ i. (i < length listed.now) × (slice_index listed.now i ≡ number)) (λ i. IsGap listed.now number i) }
+{
+    listed.binary_search(&number)
+}
+
+// Whether a number is among those of a rising list.
 fn is_listed(listed: &[u32], number: u32) -> bool
     requires { AllPairs (λ i j. i < j) listed.now }
     ensures { result ≡ is_among listed.now number }
 {
-    listed.binary_search(&number).is_ok()
+    find(listed, number).is_ok()
 }
 
 // The number of the agent on a cell.
@@ -51,6 +67,72 @@ impl Model for World {
     ghost view = { λ w. furnished (arc_value w.ground) w.item_cells.items w.crew.items };
 
     ghost invariant = { λ w. IsKept (arc_value w.ground) w.item_cells.items w.crew.items };
+}
+
+impl World {
+    ghost use Rattle.grid_world.specs.Map.{grid_of};
+    ghost use Rattle.grid_world.specs.MapFaults.{map_fault, rows_of};
+    ghost use Rattle.grid_world.specs.declared.fault.MapFault.TheVariants.{OutOfMemory};
+
+    /// The world of the rows of a map, from the top, or their first fault.
+    ///
+    /// `#` is a wall, `.` floor, `*` floor with an item, `a` to `z` a door of that signal, `0` to `9` a place, `A` to
+    /// `Z` an agent on floor, with empty hands. The characters of a row are Unicode scalar values. Takes time linear in
+    /// the number of cells.
+    pub fn from_rows(alloc: Global, rows: &[String]) -> Result<World, MapFault>
+        ensures ok { IfOk result (λ w. (map_fault (rows_of rows.now) ≡ None) × (w ≡ grid_of (rows_of rows.now))) }
+        ensures err { IfErr result (λ e. (e ≡ OutOfMemory) ⊎ (map_fault (rows_of rows.now) ≡ Some e)) }
+    {
+        if !has_size(rows) {
+            return Err(MapFault::Size);
+        }
+        let columns = first_width(rows) as u32;
+        let marks = marks_in(alloc, rows)?;
+        if let Some(i) = strange_mark(&marks) {
+            let at = i as u32;
+            return Err(MapFault::Char {
+                x: at % columns,
+                y: at / columns,
+            });
+        }
+        if !has_letters(&marks) {
+            return Err(MapFault::Letters);
+        }
+        let kinds = cells_in(alloc, &marks)?;
+        let item_cells = item_cells_in(alloc, &marks)?;
+        let crew = agents_in(alloc, columns, &marks)?;
+        let ground = Ground::new(columns, rows.len() as u32, kinds);
+        match Arc::new(alloc, ground) {
+            Ok(ground) => Ok(World {
+                ground,
+                item_cells,
+                crew,
+            }),
+            Err(_) => Err(MapFault::OutOfMemory),
+        }
+    }
+}
+
+impl World {
+    /// The same world. Its ground is shared, so this costs what its agents and items cost.
+    pub fn copy(&self, alloc: Global) -> Result<World, AllocError>
+        ensures { IfOk result (λ w. w ≡ self.now) }
+    {
+        self.copy_with_room(alloc, 0)
+    }
+
+    // The same world, with room for further items.
+    fn copy_with_room(&self, alloc: Global, room: usize) -> Result<World, AllocError>
+        ensures { IfOk result (λ w. w ≡ self.now) }
+    {
+        let mut item_cells = Vec::with_capacity(alloc, self.item_cells.len().saturating_add(room))?;
+        item_cells.extend_from_slice(&self.item_cells)?;
+        Ok(World {
+            ground: Arc::try_clone(&self.ground)?,
+            item_cells,
+            crew: Vec::from_slice(alloc, &self.crew)?,
+        })
+    }
 }
 
 impl World {

@@ -1,6 +1,17 @@
+pub mod Rising
+pub mod FirstLines
+pub mod FrameNumbers
+pub mod ThreeWords
+pub mod ReadLines
 pub mod Items
 pub mod NodesBefore
 pub mod NodesRead
 pub mod TreesRead
 pub mod PartsRead
 pub mod NameOrder
+pub mod FaultOrder
+pub mod AgentTrees
+pub mod RowFaults
+pub mod Picks
+pub mod JsonBytes
+pub mod Drafted

@@ -1,4 +1,10 @@
+pub mod Changes
+pub mod Scripts
 pub mod Nodes
 pub mod Parts
 pub mod Names
 pub mod Drafts
+pub mod Places
+pub mod Faults
+pub mod Kept
+pub mod Levels
