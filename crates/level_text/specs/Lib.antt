@@ -6,3 +6,7 @@ pub mod Names
 pub mod Drafts
 pub mod PlainCode
 pub mod GameCode
+pub mod Places
+pub mod Faults
+pub mod Kept
+pub mod Levels
