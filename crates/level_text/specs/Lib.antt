@@ -10,3 +10,4 @@ pub mod Places
 pub mod Faults
 pub mod Kept
 pub mod Levels
+pub mod Sessions
