@@ -1,7 +1,0 @@
-#![tactic(auto)]
-
-mod memory;
-mod session;
-
-pub use memory::Memory;
-pub use session::Session;
