@@ -3,13 +3,13 @@ ghost use Rattle.std.specs.Prelude.{◌≡◌, ℕ, List, [], IfSome, IsSomeAnd,
 ghost use Rattle.std.specs.Io.KnownBytes.{Appends, Keeps};
 ghost use Rattle.game_rules.specs.Text.{texts};
 ghost use Rattle.btworld.specs.Games.{spelled_game};
-ghost use Rattle.btworld.specs.Streams.{AppendsPart};
+ghost use Rattle.serial_run.specs.Streams.{AppendsPart};
 
 use crate::fault::Fault;
 use crate::play::play_bytes;
 use crate::reading::{ReadFault, read_file, read_whole};
 use crate::words::{Play, Words, WordsFault, read_words};
-use crate::writing::write_whole;
+use serial_run::write_whole;
 use std::alloc::Global;
 use std::io::{Read, Write};
 use std::rt::Files;
@@ -47,12 +47,18 @@ fn play_files<H: Files, W: Write>(rt: &H, alloc: Global, play: Play, out: &mut W
     ensures { OnOk result ((level : List ℕ) × (script : List ℕ) × IsSomeAnd (spelled_game level script)
         (λ g. Appends (W.contents out.old) (W.contents out.new) (texts g play.frames))) }
 {
-    let level = named_file(rt, alloc, play.level)?;
-    let script = match play.script {
+    let Play {
+        level,
+        frames,
+        workers: _,
+        script,
+    } = play;
+    let level = named_file(rt, alloc, level)?;
+    let script = match script {
         Some(path) => named_file(rt, alloc, path)?,
         None => Vec::new(alloc),
     };
-    match play_bytes(alloc, &level, &script, play.frames, out) {
+    match play_bytes(alloc, &level, &script, frames, out) {
         Ok(()) => Ok(()),
         Err(fault) => Err(Fault::from(fault)),
     }
@@ -76,21 +82,23 @@ pub fn command<H: Files, R: Read, W: Write, E: Write>(
         (Keeps (W.contents out.old) (W.contents out.new))
         (λ g. AppendsPart (W.contents out.old) (W.contents out.new) (texts g 3))) }
 {
-    let done = match read_words(alloc, words) {
-        Ok(Words::Piped) => play_input(alloc, input, out),
-        Ok(Words::Play(play)) => play_files(rt, alloc, play, out),
-        Err(WordsFault::OutOfMemory) => Err(Fault::OutOfMemory),
+    match read_words(alloc, words) {
+        Ok(Words::Piped) => match play_input(alloc, input, out) {
+            Ok(()) => 0,
+            Err(fault) => fault.report(err),
+        },
+        Ok(Words::Play(play)) => match play_files(rt, alloc, play, out) {
+            Ok(()) => 0,
+            Err(fault) => fault.report(err),
+        },
+        Err(WordsFault::OutOfMemory) => Fault::OutOfMemory.report(err),
         Err(WordsFault::Refused(text)) => {
             let _ = write_whole(err, text.as_bytes());
-            return 2;
+            2
         }
         Err(WordsFault::Help(text)) => match write_whole(out, text.as_bytes()) {
-            Ok(()) => Ok(()),
-            Err(_) => Err(Fault::Write),
+            Ok(()) => 0,
+            Err(_) => Fault::Write.report(err),
         },
-    };
-    match done {
-        Ok(()) => 0,
-        Err(fault) => fault.report(err),
     }
 }

@@ -1,7 +1,9 @@
+ghost use Rattle.std.specs.Prelude.{◌≤◌};
+
 use crate::play::PlayFault;
-use crate::serial::SerialFault;
 use bt_nodes::TreeFault;
 use level_text::{LevelFault, ScriptFault};
+use serial_run::SerialFault;
 use std::io::Write;
 use thiserror::Error;
 
@@ -109,7 +111,9 @@ impl From<PlayFault> for Fault {
 
 impl Fault {
     /// The status with which the program ends.
-    fn status(&self) -> u8 {
+    fn status(&self) -> u8
+        ensures { 1 ≤ result }
+    {
         match self {
             Fault::File(_) | Fault::Input | Fault::Write => 1,
             Fault::OutOfMemory => 3,
@@ -118,7 +122,9 @@ impl Fault {
     }
 
     /// Writes the line, and gives the status, also where the line can't be written. Takes no memory.
-    pub fn report<E: Write>(&self, err: &mut E) -> u8 {
+    pub fn report<E: Write>(&self, err: &mut E) -> u8
+        ensures { 1 ≤ result }
+    {
         let _ = writeln!(err, "{self}");
         self.status()
     }

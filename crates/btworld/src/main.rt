@@ -5,24 +5,33 @@ mod command;
 mod fault;
 mod play;
 mod reading;
-mod serial;
-mod thinking;
-mod thought;
-mod tick_stub;
 mod words;
-mod writing;
 
 use command::command;
 use fault::Fault;
-use std::alloc::{AllocError, Global};
+use std::alloc::Alloc;
 use std::env;
+use std::io;
 use std::process::ExitCode;
 
 /// The words after the program's name.
-fn words_given(rt: &HostRuntime) -> Result<Vec<String>, AllocError> {
-    Err(AllocError)
+fn words_given(rt: &HostRuntime) -> io::Result<Vec<String>> {
+    let mut words = Vec::new(rt.alloc());
+    let mut given = env::args(rt)?;
+    let _name = given.next();
+    for word in given {
+        words.push(word)?;
+    }
+    Ok(words)
 }
 
 fn main(rt: HostRuntime) -> ExitCode {
-    ExitCode::from(3)
+    let mut err = rt.stderr();
+    match words_given(&rt) {
+        Ok(words) => {
+            let status = command(&rt, rt.alloc(), &words, &mut rt.stdin(), &mut rt.stdout(), &mut err);
+            ExitCode::from(status)
+        }
+        Err(_) => ExitCode::from(Fault::OutOfMemory.report(&mut err)),
+    }
 }

@@ -3,10 +3,10 @@ ghost use Rattle.std.specs.Prelude.{OnOk, OnErr, IsSomeAnd, MatchOption};
 ghost use Rattle.std.specs.Io.KnownBytes.{Appends, Keeps};
 ghost use Rattle.game_rules.specs.Text.{texts};
 ghost use Rattle.btworld.specs.Games.{spelled_game};
-ghost use Rattle.btworld.specs.Streams.{AppendsPart};
+ghost use Rattle.serial_run.specs.Streams.{AppendsPart};
 
-use crate::serial::{SerialFault, play_serially};
-use level_text::{LevelFault, ScriptFault, read_level, read_script};
+use level_text::{LevelFault, ScriptFault, Session, read_level, read_script};
+use serial_run::{SerialFault, play_serially};
 use std::alloc::Global;
 use std::io::Write;
 
@@ -43,7 +43,8 @@ pub fn play_bytes<W: Write>(
         Ok(script) => script,
         Err(fault) => return Err(PlayFault::Script(fault)),
     };
-    match play_serially(alloc, &level, &script, frames, out) {
+    let session = Session::new(level, script);
+    match play_serially(alloc, &session, frames, out) {
         Ok(()) => Ok(()),
         Err(fault) => Err(PlayFault::Serial(fault)),
     }

@@ -170,7 +170,8 @@ fn play_words(alloc: Global, matches: &ArgMatches<'_>) -> Result<Words, WordsFau
 /// Words that clap refuses, numbers out of their limits among them, are `Refused` with clap's text; `--help` is
 /// `Help` with its text. Where a growth is refused while clap makes that text, the text may be shorter.
 pub fn read_words(alloc: Global, words: &[String]) -> Result<Words, WordsFault>
-    ensures { IfOk result (λ w. IsReading (map string_bytes words.now) w) }
+    ensures reading { IfOk result (λ w. IsReading (map string_bytes words.now) w) }
+    ensures none { words.now ≡ [] → result ≡ Ok Words.Piped }
 {
     if words.is_empty() {
         return Ok(Words::Piped);

@@ -6,8 +6,8 @@ use Rattle.btworld.specs.Program.{Enters, IsReading}
 use Rattle.btworld.proofs.Entered.{enters}
 use Rattle.btworld.proofs.words.read_words.Goals as goal
 
-pub returns-in-Some : goal.returns-in-Some
-returns-in-Some c =
+pub returns-in-Some-clause-reading : goal.returns-in-Some-clause-reading
+returns-in-Some-clause-reading c =
     let words : List Text = map (λ s. string_bytes s) c.args.words.now in
     let some : words ≢ [] = search rules in
     let h = c.in-Some.ensures in
