@@ -36,9 +36,8 @@ fn open_doors(table: &mut [bool], world: &World, signals: Signals)
     for door in world.doors() {
         let x = *door % width;
         let y = *door / width;
-        table[(y as usize + 1) * (width as usize + 2) + x as usize + 1] = world.is_open(
-            signals, x, y,
-        );
+        let number = (y as usize + 1) * (width as usize + 2) + x as usize + 1;
+        table[number] = world.is_open(signals, x, y);
     }
 }
 
