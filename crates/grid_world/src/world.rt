@@ -19,6 +19,8 @@ use std::marker::Model;
 use std::sync::Arc;
 
 mod changes;
+#[cfg(test)]
+mod tests;
 
 pub use changes::resolve;
 
