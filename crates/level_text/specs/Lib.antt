@@ -4,3 +4,7 @@ pub mod Nodes
 pub mod Parts
 pub mod Names
 pub mod Drafts
+pub mod Places
+pub mod Faults
+pub mod Kept
+pub mod Levels
