@@ -1,4 +1,4 @@
-use super::{resolve, World};
+use super::{World, resolve};
 use crate::cell::{Agent, Cell, Dir, Intent};
 use crate::fault::{MapFault, ResolveFault};
 use crate::place::Place;
@@ -8,8 +8,11 @@ use std::process::Abort;
 use std::test::Fail;
 
 const NORTH: Intent = Intent::Move(Dir::North);
+
 const EAST: Intent = Intent::Move(Dir::East);
+
 const SOUTH: Intent = Intent::Move(Dir::South);
+
 const WEST: Intent = Intent::Move(Dir::West);
 
 fn texts(alloc: Global, rows: &[&str]) -> Result<Vec<String>, AllocError> {
@@ -74,11 +77,17 @@ fn tells_the_kinds_of_cells(rt: HostRuntime) -> Result<(), Fail> {
     let mut on = Signals::off();
     assert!(rt; !on.is_on(door));
     assert!(rt; !world.is_open(on, 2, 0));
-    assert_eq!(rt; picture(alloc, &world, on)?.as_slice(), b"#.c\n7A*\n".as_slice());
+    assert_eq!(rt;
+        picture(alloc, &world, on)?.as_slice(),
+        b"#.c\n7A*\n".as_slice()
+    );
     on.set(door, true);
     assert!(rt; on.is_on(door));
     assert!(rt; world.is_open(on, 2, 0));
-    assert_eq!(rt; picture(alloc, &world, on)?.as_slice(), b"#./\n7A*\n".as_slice());
+    assert_eq!(rt;
+        picture(alloc, &world, on)?.as_slice(),
+        b"#./\n7A*\n".as_slice()
+    );
     on.set(door, false);
     assert!(rt; !on.is_on(door));
     assert_eq!(rt; door.number(), 2);
@@ -103,10 +112,22 @@ fn refuses_what_is_no_map(rt: HostRuntime) -> Result<(), Fail> {
     assert_eq!(rt; fault_of(alloc, &[""])?, Some(MapFault::Size));
     assert_eq!(rt; fault_of(alloc, &["A.", "."])?, Some(MapFault::Size));
     assert_eq!(rt; fault_of(alloc, &["?", ""])?, Some(MapFault::Size));
-    assert_eq!(rt; fault_of(alloc, &["AÄ"])?, Some(MapFault::Char { x: 1, y: 0 }));
-    assert_eq!(rt; fault_of(alloc, &["A.", ".?"])?, Some(MapFault::Char { x: 1, y: 1 }));
-    assert_eq!(rt; fault_of(alloc, &["B?"])?, Some(MapFault::Char { x: 1, y: 0 }));
-    assert_eq!(rt; fault_of(alloc, &["/"])?, Some(MapFault::Char { x: 0, y: 0 }));
+    assert_eq!(rt;
+        fault_of(alloc, &["AÄ"])?,
+        Some(MapFault::Char { x: 1, y: 0 })
+    );
+    assert_eq!(rt;
+        fault_of(alloc, &["A.", ".?"])?,
+        Some(MapFault::Char { x: 1, y: 1 })
+    );
+    assert_eq!(rt;
+        fault_of(alloc, &["B?"])?,
+        Some(MapFault::Char { x: 1, y: 0 })
+    );
+    assert_eq!(rt;
+        fault_of(alloc, &["/"])?,
+        Some(MapFault::Char { x: 0, y: 0 })
+    );
     assert_eq!(rt; fault_of(alloc, &["B"])?, Some(MapFault::Letters));
     assert_eq!(rt; fault_of(alloc, &["AC"])?, Some(MapFault::Letters));
     assert_eq!(rt; fault_of(alloc, &["AA"])?, Some(MapFault::Letters));
@@ -119,7 +140,8 @@ fn refuses_what_is_no_map(rt: HostRuntime) -> Result<(), Fail> {
 #[test]
 fn reads_maps_up_to_128_by_128(rt: HostRuntime) -> Result<(), Fail> {
     let alloc = rt.alloc();
-    let wide = "................................................................................................................................";
+    let wide =
+        "................................................................................................................................";
     assert_eq!(rt; wide.len(), 128);
     let mut rows = Vec::new(alloc);
     for _ in 0..128u32 {
@@ -153,12 +175,21 @@ fn applies_intents_in_order(rt: HostRuntime) -> Result<(), Fail> {
         ("AB.", Signals::off(), &[EAST, EAST], b"A.B\n"),
         ("BA.", Signals::off(), &[EAST, EAST], b".BA\n"),
         ("A.B", Signals::off(), &[EAST, WEST], b".AB\n"),
-        ("A*B", Signals::off(), &[Intent::Take, Intent::Drop], b"A*B\n"),
+        (
+            "A*B",
+            Signals::off(),
+            &[Intent::Take, Intent::Drop],
+            b"A*B\n",
+        ),
     ];
     for (row, signals, intents, after) in cases {
         let world = World::from_rows(alloc, &texts(alloc, &[row])?)?;
         let world = resolve(alloc, &world, signals, intents)?;
-        assert_eq!(rt; picture(alloc, &world, signals)?.as_slice(), after, "after {row}");
+        assert_eq!(rt;
+            picture(alloc, &world, signals)?.as_slice(),
+            after,
+            "after {row}"
+        );
     }
     Ok(())
 }
@@ -201,6 +232,9 @@ fn carries_an_item(rt: HostRuntime) -> Result<(), Fail> {
         assert_eq!(rt; world.agents().len(), 1);
         assert_eq!(rt; world.agents()[0].carrying, carrying);
     }
-    assert_eq!(rt; picture(alloc, &world, Signals::off())?.as_slice(), b"..A*\n".as_slice());
+    assert_eq!(rt;
+        picture(alloc, &world, Signals::off())?.as_slice(),
+        b"..A*\n".as_slice()
+    );
     Ok(())
 }
