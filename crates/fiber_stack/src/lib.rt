@@ -1,2 +1,9 @@
 // Stacks of the nodes that a suspended tick has open.
 #![tactic(auto)]
+
+mod frame;
+mod link;
+mod pile;
+
+pub use frame::Frame;
+pub use pile::{Pile, Stack};

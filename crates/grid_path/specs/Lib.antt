@@ -1,0 +1,3 @@
+pub mod Bordered
+pub mod Levels
+pub mod Around

@@ -1,2 +1,12 @@
-// Path questions: the way from a cell to a place.
+//! Path questions: the way from a cell to a place.
 #![tactic(auto)]
+
+mod around;
+mod fault;
+mod question;
+mod search;
+mod table;
+
+pub use fault::PathFault;
+pub use grid_world::Answer;
+pub use question::ask;

@@ -6,7 +6,7 @@ use Rattle.grid_world.specs.Grid.{Grid, Point, agent_on, cell_at, has_item, is_o
 use Rattle.grid_world.specs.Glyphs.{base_glyph, content_glyph, glyph, glyph_of}
 use Rattle.grid_world.specs.Map.{count_up}
 use Rattle.grid_world.specs.World.{point, row_glyphs}
-use Rattle.grid_world.proofs.Marked.{get_or-map-count_up, length-map-count_up}
+use Rattle.grid_world.proofs.CountUp.{get_or-map-count_up, length-map-count_up}
 
 -- the glyph of a cell that is on the map
 pub glyph-on_map : (g : Grid) (signals : List Bool) (p : Point) (cell : Cell) (agent : Option ℕ) (item : Bool)

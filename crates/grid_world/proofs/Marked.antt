@@ -1,21 +1,10 @@
--- The numbers counted up, and the marks of the cells that are listed.
-use Rattle.std.proofs.Common.{◌≡◌, ℕ, zero, suc, ◌+◌, ◌*◌, ◌<◌, List, map, length, get_or, refl, sym, ap, ◌∙◌, arith, Bool, true, false, ◌&&◌, if◌then◌else◌, Some, None}
-use Rattle.grid_world.specs.Map.{count_up}
+-- The marks of the cells that are listed.
+use Rattle.std.proofs.Common.{map, ◌≡◌, ℕ, ◌+◌, ◌*◌, ◌<◌, List, map, length, get_or, sym, ap, ◌∙◌, arith, Bool, true, false, ◌&&◌, if◌then◌else◌, Some, None}
+use Rattle.grid_world.proofs.CountUp.{get_or-map-count_up, length-map-count_up}
+use Rattle.std.proofs.lemmas.List.{ext_get_or, get_or-map, length-map}
 use Rattle.grid_world.specs.Ground.{is_among, marked, furnished}
 use Rattle.grid_world.specs.Grid.{Grid, Point, has_item, index_of, is_on_map}
 use Rattle.grid_world.specs.declared.cell.Agent.{Agent}
-
-pub get_or-map-count_up : {X : Type 0} (f : ℕ → X) (a n i : ℕ) (d : X) → i < n → get_or (map f (count_up a n)) i d ≡ f (a + i)
-unfolding count_up
-get_or-map-count_up f a zero i d h = absurd (omega arith)
-get_or-map-count_up f a (suc n) zero d h = let e : a ≡ a + zero = omega arith in ap f e
-get_or-map-count_up f a (suc n) (suc i) d h =
-    let e : suc a + i ≡ a + suc i = omega arith in get_or-map-count_up f (suc a) n i d (omega arith) ∙ ap f e
-
-pub length-map-count_up : {X : Type 0} (f : ℕ → X) (a n : ℕ) → length (map f (count_up a n)) ≡ n
-unfolding count_up
-length-map-count_up f a zero = refl
-length-map-count_up f a (suc n) = ap suc (length-map-count_up f (suc a) n)
 
 pub get_or-marked : (n : ℕ) (listed : List ℕ) (i : ℕ) → i < n → get_or (marked n listed) i false ≡ is_among listed i
 get_or-marked n listed i h = get_or-map-count_up (is_among listed) 0 n i false h ∙ (let e : 0 + i ≡ i = omega arith in ap (is_among listed) e)
@@ -31,3 +20,11 @@ is_among-has_item ground listed agents p i full at within = at_test (is_on_map g
         let same : i ≡ index_of ground p = cc in
         ap (is_among listed) same ∙ sym (get_or-marked (length ground.cells) listed (index_of ground p) (omega (arith, full, within, same)))
     at_test false e = absurd (cc)
+
+-- marks that agree with a test of each item
+pub marked-from_each : {X : Type 0} (test : X → Bool) (xs : List X) (d : X) (listed : List ℕ)
+    → ((k : ℕ) → k < length xs → is_among listed k ≡ test (get_or xs k d)) → marked (length xs) listed ≡ map test xs
+marked-from_each test xs d listed each =
+    ext_get_or false (marked (length xs) listed) (map test xs) (length-map-count_up (is_among listed) 0 (length xs) ∙ sym (length-map xs test))
+    (λ k within. let below : k < length xs = omega (arith, length-map-count_up (is_among listed) 0 (length xs)) in
+    get_or-marked (length xs) listed k below ∙ each k below ∙ sym (get_or-map test xs k d false below))

@@ -1,19 +1,11 @@
 -- How a world is kept: its ground, which never changes, and the cells on which an item lies.
-use Rattle.std.specs.Prelude.{ℕ, ◌≡◌, ◌*◌, ◌<◌, ◌≤◌, ◌==◌, Bool, List, [], All, AllPairs, length, map, position, Option, None, slice_index_or}
+use Rattle.std.specs.Prelude.{ℕ, ◌≡◌, ◌<◌, ◌==◌, Bool, List, [], All, AllPairs, length, map, position, Option, None, slice_index_or}
 use Rattle.std.specs.List.{list_any}
 use Rattle.grid_world.specs.declared.cell.Agent.{Agent}
 use Rattle.grid_world.specs.declared.cell.Cell.{Cell}
 use Rattle.grid_world.specs.Grid.{Grid, is_spot}
 use Rattle.grid_world.specs.Map.{count_up}
-use Rattle.grid_world.specs.World.{IsWorld}
-
--- a grid's numbers of columns and rows, and its cells
-pub record IsGround (g : Grid) : Type 0 where
-  pub some_columns : 1 ≤ g.width
-  pub most_columns : g.width ≤ 128
-  pub some_rows : 1 ≤ g.height
-  pub most_rows : g.height ≤ 128
-  pub all_cells : length g.cells ≡ g.width * g.height
+use Rattle.grid_world.specs.World.{IsSized, IsWorld}
 
 -- a ground with nothing on it
 abbrev pub bare : ℕ → ℕ → List Cell → Grid
@@ -25,6 +17,11 @@ ListsSpots table g = (p : ℕ) → p < 10 → slice_index_or table p None ≡ po
 
 abbrev pub is_among : List ℕ → ℕ → Bool
 is_among numbers i = list_any (λ j. j == i) numbers
+
+-- a ground with its table
+pub record IsGround (g : Grid) (spots : List (Option ℕ)) : Type 0 where
+  pub sized : IsSized g
+  pub listing : ListsSpots spots g
 
 -- for each of n cells whether it is among those listed
 abbrev pub marked : ℕ → List ℕ → List Bool

@@ -1,7 +1,7 @@
-ghost use Rattle.std.specs.Prelude.{◌≡◌, ◌<◌, ◌≤◌, ◌*◌, IfSome, Some, None, option_map, if◌then◌else◌};
-ghost use Rattle.grid_world.specs.Grid.{is_on_map, index_of, cell_at, place_of};
+ghost use Rattle.std.specs.Prelude.{ℕ, length, position, slice_index_or, ◌≡◌, ◌<◌, ◌≤◌, ◌*◌, IfSome, Some, None, option_map, if◌then◌else◌};
+ghost use Rattle.grid_world.specs.Grid.{cell_at, index_of, is_on_map, is_spot, place_of};
 ghost use Rattle.grid_world.specs.Open.{is_open, is_passable};
-ghost use Rattle.grid_world.specs.World.{point};
+ghost use Rattle.grid_world.specs.World.{IsSized, point};
 
 use crate::cell::Cell;
 use crate::place::Place;
@@ -20,28 +20,42 @@ pub struct Ground {
 impl Model for Ground {
     ghost use Rattle.std.specs.Prelude.{[]};
     ghost use Rattle.grid_world.specs.Grid.{Grid};
-    ghost use Rattle.grid_world.specs.Ground.{bare, IsGround, ListsSpots};
+    ghost use Rattle.grid_world.specs.Ground.{bare, IsGround};
 
     ghost Value = { Grid };
 
     ghost view = { λ g. bare g.columns g.rows g.kinds.items };
 
-    ghost invariant = { λ g. IsGround (bare g.columns g.rows g.kinds.items) × ListsSpots g.spots (bare g.columns g.rows g.kinds.items) };
+    ghost invariant = { λ g. IsGround (bare g.columns g.rows g.kinds.items) g.spots };
 }
 
 impl Ground {
-    ghost use Rattle.grid_world.specs.Ground.{IsGround};
+    ghost use Rattle.grid_world.specs.Ground.{bare};
+
+    /// The ground of these cells, row after row; no more can be refused it, since it takes no memory.
+    pub fn new(columns: u32, rows: u32, kinds: Vec<Cell>) -> Ground
+        requires { IsSized (bare columns rows kinds.items) }
+        ensures { result ≡ bare columns rows kinds.items }
+    {
+        let spots = spots_in(&kinds);
+        Ground {
+            columns,
+            rows,
+            kinds,
+            spots,
+        }
+    }
 
     pub fn width(&self) -> u32
         ensures value { result ≡ self.now.width }
-        ensures ground { IsGround self.now }
+        ensures sized { IsSized self.now }
     {
         self.columns
     }
 
     pub fn height(&self) -> u32
         ensures value { result ≡ self.now.height }
-        ensures ground { IsGround self.now }
+        ensures sized { IsSized self.now }
     {
         self.rows
     }
@@ -50,7 +64,7 @@ impl Ground {
     pub fn index_of(&self, x: u32, y: u32) -> Option<u32>
         ensures value { result ≡ (if is_on_map self.now (point x y) then Some (index_of self.now (point x y)) else None) }
         ensures within { IfSome result (λ i. i < self.now.width * self.now.height) }
-        ensures ground { IsGround self.now }
+        ensures sized { IsSized self.now }
     {
         if x < self.columns && y < self.rows {
             Some(y * self.columns + x)
@@ -97,4 +111,44 @@ fn is_passable(cell: Cell, signals: &Signals) -> bool
         Cell::Door(signal) => signals.is_on(signal),
         Cell::Spot(_) => true,
     }
+}
+
+fn is_spot(cell: &Cell, number: u32) -> bool
+    ensures { result ≡ is_spot number cell.now }
+{
+    match cell {
+        Cell::Spot(place) => place.number() == number,
+        Cell::Wall => false,
+        Cell::Floor => false,
+        Cell::Door(_) => false,
+    }
+}
+
+fn spot_at(kinds: &[Cell], number: u32) -> Option<usize>
+    ensures is { result ≡ position (is_spot number) kinds.now }
+    ensures within { IfSome result (λ i. i < length kinds.now) }
+{
+    kinds.iter().position(|cell| is_spot(cell, number))
+}
+
+fn spot_in(kinds: &[Cell], number: u32) -> Option<u32>
+    requires { length kinds.now ≤ 16384 }
+    ensures { result ≡ position (is_spot number) kinds.now }
+{
+    match spot_at(kinds, number) {
+        Some(i) => Some(i as u32),
+        None => None,
+    }
+}
+
+// The number of each place's cell.
+fn spots_in(kinds: &[Cell]) -> [Option<u32>; 10]
+    requires { length kinds.now ≤ 16384 }
+    ensures { (p : ℕ) → p < 10 → slice_index_or result p None ≡ position (is_spot p) kinds.now }
+{
+    let mut spots = [None; 10];
+    'places: for number in 0..10u32 {
+        spots[number as usize] = spot_in(kinds, number);
+    }
+    spots
 }

@@ -1,4 +1,4 @@
-ghost use Rattle.std.specs.Prelude.{◌≡◌, AllPairs, ◌<◌, ◌≤◌, ◌++◌, ◌+◌, ◌&&◌, OnOk, OnErr, IfSome, position, Some, None, length, option_map, if◌then◌else◌, vec_len, vec_capacity};
+ghost use Rattle.std.specs.Prelude.{IfOk, IfErr, ◌⊎◌, ◌≡◌, AllPairs, ◌<◌, ◌≤◌, ◌++◌, ◌+◌, ◌&&◌, OnOk, OnErr, IfSome, position, Some, None, length, option_map, if◌then◌else◌, vec_len, vec_capacity};
 ghost use Rattle.grid_world.specs.Grid.{is_on_map, cell_at, place_of, point_of, same_point};
 ghost use Rattle.grid_world.specs.Open.{is_open};
 ghost use Rattle.grid_world.specs.Glyphs.{glyph};
@@ -6,11 +6,15 @@ ghost use Rattle.grid_world.specs.World.{IsWorld, point, row_glyphs};
 ghost use Rattle.grid_world.specs.Ground.{is_among};
 
 use crate::cell::{Agent, Cell};
+use crate::fault::MapFault;
 use crate::glyph::glyph_of;
 use crate::ground::Ground;
+use crate::map::{
+    agents_in, cells_in, first_width, has_letters, has_size, item_cells_in, marks_in, strange_mark,
+};
 use crate::place::Place;
 use crate::signal::Signals;
-use std::alloc::AllocError;
+use std::alloc::{AllocError, Global};
 use std::marker::Model;
 use std::sync::Arc;
 
@@ -51,6 +55,50 @@ impl Model for World {
     ghost view = { λ w. furnished (arc_value w.ground) w.item_cells.items w.crew.items };
 
     ghost invariant = { λ w. IsKept (arc_value w.ground) w.item_cells.items w.crew.items };
+}
+
+impl World {
+    ghost use Rattle.grid_world.specs.Map.{grid_of};
+    ghost use Rattle.grid_world.specs.MapFaults.{map_fault, rows_of};
+    ghost use Rattle.grid_world.specs.declared.fault.MapFault.TheVariants.{OutOfMemory};
+
+    /// The world of the rows of a map, from the top, or their first fault.
+    ///
+    /// `#` is a wall, `.` floor, `*` floor with an item, `a` to `z` a door of that signal, `0` to `9` a place, `A` to
+    /// `Z` an agent on floor, with empty hands. The characters of a row are Unicode scalar values. Takes time linear in
+    /// the number of cells.
+    pub fn from_rows(alloc: Global, rows: &[String]) -> Result<World, MapFault>
+        ensures ok { IfOk result (λ w. (map_fault (rows_of rows.now) ≡ None) × (w ≡ grid_of (rows_of rows.now))) }
+        ensures err { IfErr result (λ e. (e ≡ OutOfMemory) ⊎ (map_fault (rows_of rows.now) ≡ Some e)) }
+    {
+        if !has_size(rows) {
+            return Err(MapFault::Size);
+        }
+        let columns = first_width(rows) as u32;
+        let marks = marks_in(alloc, rows)?;
+        if let Some(i) = strange_mark(&marks) {
+            let at = i as u32;
+            return Err(MapFault::Char {
+                x: at % columns,
+                y: at / columns,
+            });
+        }
+        if !has_letters(&marks) {
+            return Err(MapFault::Letters);
+        }
+        let kinds = cells_in(alloc, &marks)?;
+        let item_cells = item_cells_in(alloc, &marks)?;
+        let crew = agents_in(alloc, columns, &marks)?;
+        let ground = Ground::new(columns, rows.len() as u32, kinds);
+        match Arc::new(alloc, ground) {
+            Ok(ground) => Ok(World {
+                ground,
+                item_cells,
+                crew,
+            }),
+            Err(_) => Err(MapFault::OutOfMemory),
+        }
+    }
 }
 
 impl World {

@@ -1,0 +1,6 @@
+pub mod Places
+pub mod Threes
+pub mod Picks
+pub mod Pools
+pub mod AfterPick
+pub mod Takings

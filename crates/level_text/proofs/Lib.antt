@@ -1,3 +1,8 @@
+pub mod Rising
+pub mod FirstLines
+pub mod FrameNumbers
+pub mod ThreeWords
+pub mod ReadLines
 pub mod Items
 pub mod NodesBefore
 pub mod NodesRead

@@ -1,3 +1,5 @@
+pub mod Changes
+pub mod Scripts
 pub mod Nodes
 pub mod Parts
 pub mod Names

@@ -1,0 +1,121 @@
+ghost use Rattle.std.specs.Prelude.{◌≡◌, ◌+◌, ◌-◌, ◌<◌, ◌^◌, List, [], ◌∷◌, length, MatchResult, MatchOption, IfOk};
+
+use crate::frame::Frame;
+use crate::link::{Cell, Link};
+use std::alloc::{AllocError, Allocator};
+use std::marker::Model;
+use std::mem;
+
+/// A stack of plain values, each in a box of its own. Contracts see it as the list of them, the top one first.
+#[derive(Drop)]
+pub struct Pile<F: Copy, A: Allocator> {
+    top: Link<F, A>,
+    depth: u32,
+    alloc: A,
+}
+
+/// A stack of open nodes: `T` holds the tree's nodes, and `A` the stack's boxes.
+pub type Stack<'t, T, A> = Pile<Frame<'t, T>, A>;
+
+impl<F: Copy, A: Allocator> Model for Pile<F, A> {
+    ghost use Rattle.std.specs.Prelude.{◌≡◌, List, length};
+    ghost use Rattle.fiber_stack.specs.Links.{elements};
+
+    ghost Value = { List F };
+
+    ghost view = { λ s. elements s.top };
+
+    ghost invariant = { λ s. s.depth ≡ length (elements s.top) };
+}
+
+impl<F: Copy, A: Allocator> Pile<F, A> {
+    pub fn empty(alloc: A) -> Self
+        ensures { result ≡ [] }
+    {
+        Pile {
+            top: Link::End,
+            depth: 0,
+            alloc,
+        }
+    }
+
+    pub fn depth(&self) -> u32
+        ensures { result ≡ length self.now }
+    {
+        self.depth
+    }
+
+    /// The value on the top.
+    pub fn top(&self) -> Option<&F>
+        ensures { MatchOption result (self.now ≡ []) (λ top. (below : List F) × (self.now ≡ top.now ∷ below)) }
+    {
+        match &self.top {
+            Link::End => None,
+            Link::More(cell) => Some(&cell.element),
+        }
+    }
+
+    /// Takes the value on the top off.
+    pub fn pop(&mut self) -> Option<F>
+        ensures { MatchOption result ((self.old ≡ []) × (self.new ≡ [])) (λ top. self.old ≡ top ∷ self.new) }
+    {
+        match mem::replace(&mut self.top, Link::End).split() {
+            None => None,
+            Some((element, below)) => {
+                self.top = below;
+                self.depth -= 1;
+                Some(element)
+            }
+        }
+    }
+
+    /// Puts a value in place of the one on the top, and hands that one out.
+    pub fn replace_top(&mut self, element: F) -> Option<F>
+        ensures { MatchOption result ((self.old ≡ []) × (self.new ≡ []))
+            (λ top. (below : List F) × (self.old ≡ top ∷ below) × (self.new ≡ element ∷ below)) }
+    {
+        match &mut self.top {
+            Link::End => None,
+            Link::More(cell) => Some(mem::replace(&mut cell.element, element)),
+        }
+    }
+}
+
+impl<F: Copy, A: Allocator + Clone> Pile<F, A> {
+    /// Puts a value on the top. Where memory is refused it is handed back, and the stack is unchanged.
+    pub fn push(&mut self, element: F) -> Result<(), F>
+        requires { length self.old < 2 ^ 32 - 1 }
+        ensures { MatchResult result (λ done. self.new ≡ element ∷ self.old)
+            (λ refused. (refused ≡ element) × (self.new ≡ self.old)) }
+    {
+        let Ok(alloc) = self.alloc.clone() else {
+            return Err(element);
+        };
+        let below = mem::replace(&mut self.top, Link::End);
+        match Box::new(alloc, Cell { element, below }) {
+            Ok(cell) => {
+                self.top = Link::More(cell);
+                self.depth += 1;
+                Ok(())
+            }
+            Err(refused) => {
+                let Cell { element, below } = refused.value;
+                self.top = below;
+                Err(element)
+            }
+        }
+    }
+}
+
+impl<F: Copy, A: Allocator> Pile<F, A> {
+    /// A copy whose boxes lie in `alloc`.
+    pub fn copy_in<B: Allocator + Clone>(&self, alloc: B) -> Result<Pile<F, B>, AllocError>
+        ensures { IfOk result (λ copy. copy ≡ self.now) }
+    {
+        Ok(Pile {
+            top: self.top.copy_in(&alloc)?,
+            depth: self.depth,
+            alloc,
+        })
+    }
+}

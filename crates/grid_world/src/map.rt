@@ -1,0 +1,199 @@
+// Reading the rows of a map: one function for each part, with its part of the definition as contract.
+ghost use Rattle.std.specs.Prelude.{◌≡◌, ◌≤◌, ◌<◌, ◌+◌, ◌*◌, ◌++◌, ◌==◌, [], not, map, length, count_by, position, string_bytes, IfOk, IfSome, OnOk, All, AllPairs};
+ghost use Rattle.std.specs.List.{cons_option, filter_map};
+ghost use Rattle.std.specs.Str.{chars};
+ghost use Rattle.grid_world.specs.Map.{agent_in, cell_of, count_up, marks_of, width_of};
+ghost use Rattle.grid_world.specs.MapFaults.{digit_fits, has_letters, has_size, is_letter, is_mark, letter_fits, rows_of};
+ghost use Rattle.grid_world.specs.Ground.{IsListed, marked};
+
+use crate::cell::{Agent, Cell};
+use crate::place::Place;
+use crate::signal::Signal;
+use std::alloc::{AllocError, Global};
+
+fn row_width(row: &String) -> usize
+    ensures { result ≡ length (chars (string_bytes row.now)) }
+{
+    row.chars().count()
+}
+
+pub fn first_width(rows: &[String]) -> usize
+    ensures { result ≡ width_of (rows_of rows.now) }
+{
+    match rows {
+        [] => 0,
+        [row, ..] => row_width(row),
+    }
+}
+
+pub fn has_size(rows: &[String]) -> bool
+    ensures { result ≡ has_size (rows_of rows.now) }
+{
+    let width = first_width(rows);
+    if rows.len() < 1 || rows.len() > 128 || width < 1 || width > 128 {
+        return false;
+    }
+    'rows: for row in rows {
+        if row_width(row) != width {
+            return false;
+        }
+    }
+    true
+}
+
+fn row_marks(alloc: Global, row: &String) -> Result<Vec<char>, AllocError>
+    ensures { IfOk result (λ marks. marks.items ≡ chars (string_bytes row.now)) }
+{
+    row.chars().collect(alloc)
+}
+
+pub fn marks_in(alloc: Global, rows: &[String]) -> Result<Vec<char>, AllocError>
+    ensures { IfOk result (λ marks. marks.items ≡ marks_of (rows_of rows.now)) }
+{
+    let mut marks = Vec::new(alloc);
+    'rows: for row in rows {
+        let mut more = row_marks(alloc, row)?;
+        marks.append(&mut more)?;
+    }
+    Ok(marks)
+}
+
+fn is_mark(c: char) -> bool
+    ensures { result ≡ is_mark c }
+{
+    matches!(c, '#' | '.' | '*' | 'a'..='z' | '0'..='9' | 'A'..='Z')
+}
+
+pub fn strange_mark(marks: &[char]) -> Option<usize>
+    ensures is { result ≡ position (λ c. not (is_mark c)) marks.now }
+    ensures within { IfSome result (λ i. i < length marks.now) }
+{
+    marks.iter().position(|c| !is_mark(*c))
+}
+
+fn letter_fits(marks: &[char], letters: usize, k: u32) -> bool
+    requires { k < 26 }
+    ensures { result ≡ letter_fits marks.now letters k }
+{
+    let wanted = if (k as usize) < letters { 1 } else { 0 };
+    marks.iter().filter(|c| **c as u32 == 65 + k).count() == wanted
+}
+
+fn digit_fits(marks: &[char], d: u32) -> bool
+    requires { d < 10 }
+    ensures { result ≡ digit_fits marks.now d }
+{
+    marks.iter().filter(|c| **c as u32 == 48 + d).count() <= 1
+}
+
+fn letters_in(marks: &[char]) -> usize
+    ensures { result ≡ count_by is_letter marks.now }
+{
+    marks.iter().filter(|c| **c >= 'A' && **c <= 'Z').count()
+}
+
+pub fn has_letters(marks: &[char]) -> bool
+    ensures { result ≡ has_letters marks.now }
+{
+    let letters = letters_in(marks);
+    'letters: for k in 0..26u32 {
+        if !letter_fits(marks, letters, k) {
+            return false;
+        }
+    }
+    'digits: for d in 0..10u32 {
+        if !digit_fits(marks, d) {
+            return false;
+        }
+    }
+    true
+}
+
+fn letter_at(marks: &[char], k: u32) -> Option<usize>
+    requires { k < 26 }
+    ensures is { result ≡ position (λ c. c == 65 + k) marks.now }
+    ensures within { IfSome result (λ i. i < length marks.now) }
+{
+    marks.iter().position(|c| *c as u32 == 65 + k)
+}
+
+fn agent_in(width: u32, marks: &[char], k: u32) -> Option<Agent>
+    requires wide { 0 < width }
+    requires few { length marks.now ≤ 16384 }
+    requires letter { k < 26 }
+    ensures { result ≡ agent_in width marks.now k }
+{
+    match letter_at(marks, k) {
+        Some(i) => {
+            let at = i as u32;
+            Some(Agent {
+                x: at % width,
+                y: at / width,
+                carrying: false,
+            })
+        }
+        None => None,
+    }
+}
+
+fn push_some(agents: &mut Vec<Agent>, agent: Option<Agent>) -> Result<(), AllocError>
+    ensures { OnOk result (agents.new.items ≡ agents.old.items ++ cons_option agent []) }
+{
+    if let Some(agent) = agent {
+        agents.push(agent)?;
+    }
+    Ok(())
+}
+
+pub fn agents_in(alloc: Global, width: u32, marks: &[char]) -> Result<Vec<Agent>, AllocError>
+    requires wide { 0 < width }
+    requires few { length marks.now ≤ 16384 }
+    ensures { IfOk result (λ agents. agents.items ≡ filter_map (agent_in width marks.now) (count_up 0 26)) }
+{
+    let mut agents = Vec::new(alloc);
+    'letters: for k in 0..26u32 {
+        push_some(&mut agents, agent_in(width, marks, k))?;
+    }
+    Ok(agents)
+}
+
+fn cell_in(c: char) -> Cell
+    ensures { result ≡ cell_of c }
+{
+    let code = c as u32;
+    if code == 35 {
+        return Cell::Wall;
+    }
+    if code >= 97 {
+        if let Some(signal) = Signal::new(code - 97) {
+            return Cell::Door(signal);
+        }
+    }
+    if code >= 48 {
+        if let Some(place) = Place::new(code - 48) {
+            return Cell::Spot(place);
+        }
+    }
+    Cell::Floor
+}
+
+pub fn cells_in(alloc: Global, marks: &[char]) -> Result<Vec<Cell>, AllocError>
+    ensures { IfOk result (λ cells. cells.items ≡ map cell_of marks.now) }
+{
+    marks.iter().map(|c| cell_in(*c)).collect(alloc)
+}
+
+// The numbers of the cells on which an item lies, in rising order.
+pub fn item_cells_in(alloc: Global, marks: &[char]) -> Result<Vec<u32>, AllocError>
+    requires { length marks.now ≤ 16384 }
+    ensures listed { IfOk result (λ cells. IsListed cells.items (length marks.now)) }
+    ensures marked { IfOk result (λ cells. marked (length marks.now) cells.items ≡ map (λ c. c == 42) marks.now) }
+{
+    let mut cells = Vec::new(alloc);
+    'marks: for (i, mark) in marks.iter().enumerate() {
+        if *mark == '*' {
+            cells.push(i as u32)?;
+        }
+    }
+    Ok(cells)
+}

@@ -1,0 +1,16 @@
+use Rattle.std.proofs.Common.{◌<◌, not, true, length, take, arith}
+use Rattle.std.proofs.Common.{length-take}
+use Rattle.job_queues.specs.contracts.pool.FiberPool.{the_view}
+use Rattle.job_queues.proofs.Pools.{front_write, none_passes, first_found}
+use Rattle.job_queues.proofs.pool.FiberPool.take.Goals as goal
+
+pub returns-in_default-clause-none_free : goal.returns-in_default-clause-none_free
+returns-in_default-clause-none_free c = rw (← c.self.view_is) (none_passes not (the_view c.self.inside) c.in_default.ensures.value)
+
+pub returns-clause-lowest : goal.returns-clause-lowest
+returns-clause-lowest c = rw (← c.self.view_is) (first_found not (the_view c.self.inside) c.in-Some.at c.in-Some.ensures.value)
+
+pub returns-clause-taken : goal.returns-clause-taken
+returns-clause-taken c =
+    let below : c.in-Some.at < c.self.inside.count = omega (arith, c.in-Some.ensures.bound, length-take c.self.inside.count c.self.inside.taken) in
+    rw (← c.self.view_is) (front_write c.self.inside.count c.self.inside.taken c.in-Some.at true below)

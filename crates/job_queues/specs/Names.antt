@@ -1,0 +1,16 @@
+-- The code's priorities and picks as the law of the board has them.
+use Rattle.job_queues.specs.declared.priority.Priority.{Priority as CodePriority}
+use Rattle.job_queues.specs.declared.priority.Priority.TheVariants as code
+use Rattle.job_queues.specs.declared.pick.Pick.{Pick as CodePick}
+use Rattle.job_queues.specs.declared.pick.Pick.TheVariants as pick
+use Rattle.board_law.specs.Lists.{Priority, High, Normal, Low}
+use Rattle.board_law.specs.Pick.{Pick, Ready, New}
+
+abbrev pub level : CodePriority → Priority
+level code.High = High
+level code.Normal = Normal
+level code.Low = Low
+
+abbrev pub picked : CodePick → Pick
+picked (pick.Ready fiber) = Ready fiber
+picked (pick.New job) = New job
