@@ -5,3 +5,5 @@ pub mod Forests
 pub mod Nests
 pub mod Leaving
 pub mod Numbers
+pub mod Opening
+pub mod Outcomes

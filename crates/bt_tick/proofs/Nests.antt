@@ -12,7 +12,7 @@ use Rattle.bt_nodes.proofs.WithinLimits.{tree_within}
 use Rattle.game_rules.specs.View.{View}
 use Rattle.game_rules.specs.Tick.{State, tick}
 use Rattle.bt_tick.specs.Children.{children_of, from_child, child_number}
-use Rattle.bt_tick.specs.Lists.{HasList}
+use Rattle.bt_tick.specs.Kinds.{HasList}
 use Rattle.bt_tick.specs.Suspended.{Open, close_at, unwind}
 use Rattle.bt_tick.specs.Places.{Sits, Standing, Nested, Resting, limit_of, weight_of, weight_all}
 use Rattle.bt_tick.specs.Machine.{rest_of}

@@ -5,7 +5,7 @@ use Rattle.bt_nodes.specs.Sizes.{size, count}
 use Rattle.game_rules.specs.View.{View}
 use Rattle.game_rules.specs.Tick.{State, Result, gives, on, on_kind, goes, stops, verdict, put, number_of, tick, tick_line, tick_star, tick_all}
 use Rattle.bt_tick.specs.Children.{children_of, from_child, child_number}
-use Rattle.bt_tick.specs.Lists.{HasList}
+use Rattle.bt_tick.specs.Kinds.{HasList}
 use Rattle.bt_tick.specs.Suspended.{go_on, close_at}
 use Rattle.bt_tick.proofs.Trees.{child_next, from_count}
 

@@ -7,7 +7,7 @@ use Rattle.bt_nodes.specs.Bounds.{bounds}
 use Rattle.bt_nodes.specs.Trees.{plain_of}
 use Rattle.game_rules.specs.View.{View}
 use Rattle.game_rules.specs.Tick.{State, Result, gives, tick}
-use Rattle.fiber_stack.specs.declared.Frame.{Frame}
+use Rattle.fiber_stack.specs.declared.frame.Frame.{Frame}
 use Rattle.bt_tick.specs.Suspended.{Open, go_on, unwind}
 use Rattle.bt_tick.specs.Places.{Sits, Nested, weight_all}
 use Rattle.bt_tick.specs.declared.machine.Mode.{Mode}

@@ -5,7 +5,7 @@ ghost use Rattle.bt_nodes.specs.Plain.{plain, plains};
 ghost use Rattle.game_rules.specs.View.{View};
 ghost use Rattle.game_rules.specs.Tick.{verdict};
 ghost use Rattle.bt_tick.specs.Children.{children_of};
-ghost use Rattle.bt_tick.specs.Lists.{HasList};
+ghost use Rattle.bt_tick.specs.Kinds.{HasList};
 ghost use Rattle.bt_tick.specs.Places.{Resting, weight_of, weight_all};
 ghost use Rattle.bt_tick.specs.Machine.{opened, opens, rest_of, Keeps, bounds_of, Placed, weight};
 

@@ -2,10 +2,18 @@
 #![tactic(auto)]
 
 mod ascend;
+mod descend;
+mod fault;
 mod frames;
 mod machine;
 mod memory;
+mod open;
+mod run;
+mod tick;
 mod view;
 
+pub use fault::TickFault;
 pub use memory::Memory;
+pub use run::{begin, resume};
+pub use tick::{Outcome, Pending};
 pub use view::View;
