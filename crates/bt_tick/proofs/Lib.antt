@@ -7,3 +7,4 @@ pub mod Leaving
 pub mod Numbers
 pub mod Opening
 pub mod Outcomes
+pub mod Zero

@@ -8,6 +8,7 @@ mod frames;
 mod machine;
 mod memory;
 mod open;
+mod pending;
 mod run;
 mod tick;
 mod view;

@@ -45,7 +45,16 @@ impl Memory {
         self.numbers.get(node as usize).copied()
     }
 
-    /// The number of a node.
+    // A copy where this memory lies.
+    pub(crate) fn duplicate(&self) -> Result<Memory, AllocError>
+        ensures { IfOk result (λ m. m ≡ self.now) }
+    {
+        Ok(Memory {
+            numbers: self.numbers.clone()?,
+        })
+    }
+
+    // The number of a node.
     pub(crate) fn number(&self, node: u64) -> u64
         requires { node < length self.now }
         ensures { result ≡ slice_index self.now node }
@@ -53,7 +62,7 @@ impl Memory {
         self.numbers[node as usize]
     }
 
-    /// Changes the number of a node.
+    // Changes the number of a node.
     pub(crate) fn set(&mut self, node: u64, number: u64)
         requires { node < length self.old }
         ensures { self.new ≡ slice_set self.old node number }
