@@ -1,9 +1,10 @@
 -- A map with a border of cells around it that are not open, so that each cell of the map has four neighbours.
 -- Its cells are numbered from 0, row after row.
-use Rattle.std.specs.Prelude.{ℕ, zero, suc, ◌≡◌, ◌+◌, ◌*◌, ◌/◌, ◌%◌, ◌<◌, Bool, false, List, length, slice_index_or}
+use Rattle.std.specs.Prelude.{ℕ, zero, suc, ◌≡◌, ◌+◌, ◌*◌, ◌/◌, ◌%◌, ◌<◌, Bool, false, List, length, map, slice_index_or}
 use Rattle.grid_world.specs.declared.cell.Dir.{Dir}
 use Rattle.grid_world.specs.declared.cell.Dir.TheVariants.{North, East, South, West}
 use Rattle.grid_world.specs.Grid.{Grid, Point}
+use Rattle.grid_world.specs.Map.{count_up}
 use Rattle.grid_world.specs.Open.{is_open}
 
 -- the cells of a row
@@ -18,6 +19,10 @@ abbrev pub is_open_inside : Grid → List Bool → ℕ → ℕ → Bool
 is_open_inside g signals zero y = false
 is_open_inside g signals (suc x) zero = false
 is_open_inside g signals (suc x) (suc y) = is_open g signals (record { x = x; y = y })
+
+-- the cells of row y of the map, from the left
+abbrev pub open_row : Grid → List Bool → ℕ → List Bool
+open_row g signals y = map (λ x. is_open g signals (record { x = x; y = y })) (count_up 0 g.width)
 
 -- the first entries of the table of open cells
 abbrev pub BeginsTable : Grid → List Bool → List Bool → Type 0

@@ -6,6 +6,8 @@ mod fault;
 mod question;
 mod search;
 mod table;
+#[cfg(test)]
+mod tests;
 
 pub use fault::PathFault;
 pub use grid_world::Answer;

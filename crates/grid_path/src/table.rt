@@ -1,15 +1,33 @@
 //! The table that a search begins with.
-ghost use Rattle.grid_path.specs.Bordered.{IsTable, BeginsTable, stride_of, is_open_inside};
-ghost use Rattle.std.specs.Prelude.{◌≡◌, ◌+◌, ◌*◌, ◌<◌, ◌≤◌, IfOk, OnOk, length};
+ghost use Rattle.grid_path.specs.Bordered.{IsTable, open_row};
+ghost use Rattle.std.specs.Prelude.{◌≡◌, ◌++◌, ◌<◌, false, IfOk, OnOk, replicate};
 
 use grid_world::{Signals, World};
 use std::alloc::{AllocError, Allocator};
 
-// Whether the cell in a column and a row, counted with the border, is an open cell of the map.
-fn is_open_inside(world: &World, signals: Signals, x: u32, y: u32) -> bool
-    ensures { result ≡ is_open_inside world.now signals x y }
+// Appends cells that are not open.
+fn push_border<A: Allocator>(table: &mut Vec<bool, A>, count: usize) -> Result<(), AllocError>
+    ensures { OnOk result (table.new.items ≡ table.old.items ++ replicate count false) }
 {
-    x > 0 && y > 0 && world.is_open(signals, x - 1, y - 1)
+    for _ in 0..count {
+        table.push(false)?;
+    }
+    Ok(())
+}
+
+// Appends the cells of a row of the map.
+fn push_row<A: Allocator>(
+    table: &mut Vec<bool, A>,
+    world: &World,
+    signals: Signals,
+    y: u32,
+) -> Result<(), AllocError>
+    ensures { OnOk result (table.new.items ≡ table.old.items ++ open_row world.now signals y) }
+{
+    for x in 0..world.width() {
+        table.push(world.is_open(signals, x, y))?;
+    }
+    Ok(())
 }
 
 /// The open cells of a map and, around it, a border of cells that are not open: one `bool` for each cell, row after row.
@@ -20,13 +38,14 @@ pub(crate) fn open_cells<A: Allocator>(
 ) -> Result<Vec<bool, A>, AllocError>
     ensures { IfOk result (λ table. IsTable world.now signals table.items) }
 {
-    let columns = world.width() + 2;
-    let rows = world.height() + 2;
-    let mut table = Vec::with_capacity(alloc, rows as usize * columns as usize)?;
-    for y in 0..rows {
-        for x in 0..columns {
-            table.push(is_open_inside(world, signals, x, y))?;
-        }
+    let stride = world.width() as usize + 2;
+    let mut table = Vec::with_capacity(alloc, (world.height() as usize + 2) * stride)?;
+    push_border(&mut table, stride)?;
+    for y in 0..world.height() {
+        table.push(false)?;
+        push_row(&mut table, world, signals, y)?;
+        table.push(false)?;
     }
+    push_border(&mut table, stride)?;
     Ok(table)
 }

@@ -1,14 +1,14 @@
-ghost use Rattle.std.specs.Prelude.{IfOk, IfErr, ◌⊎◌, ◌≡◌, AllPairs, ◌<◌, ◌≤◌, ◌++◌, ◌+◌, ◌&&◌, OnOk, OnErr, IfSome, position, Some, None, length, option_map, if◌then◌else◌, vec_len, vec_capacity};
+ghost use Rattle.std.specs.Prelude.{MatchResult, slice_index, IfOk, IfErr, ◌⊎◌, ◌≡◌, AllPairs, ◌<◌, ◌≤◌, ◌++◌, ◌+◌, ◌&&◌, OnOk, OnErr, IfSome, position, Some, None, length, map, option_map, if◌then◌else◌, vec_len, vec_capacity};
 ghost use Rattle.grid_world.specs.Grid.{is_on_map, cell_at, place_of, point_of, same_point};
-ghost use Rattle.grid_world.specs.Open.{is_open};
+ghost use Rattle.grid_world.specs.Open.{is_open, is_passable};
 ghost use Rattle.grid_world.specs.Glyphs.{glyph};
 ghost use Rattle.grid_world.specs.World.{IsWorld, point, row_glyphs};
-ghost use Rattle.grid_world.specs.Ground.{is_among};
+ghost use Rattle.grid_world.specs.Ground.{is_among, IsGap, ListsDoors, no_signals};
 
 use crate::cell::{Agent, Cell};
 use crate::fault::MapFault;
 use crate::glyph::glyph_of;
-use crate::ground::Ground;
+use crate::ground::{Ground, doors_in, floor_in};
 use crate::map::{
     agents_in, cells_in, first_width, has_letters, has_size, item_cells_in, marks_in, strange_mark,
 };
@@ -17,6 +17,10 @@ use crate::signal::Signals;
 use std::alloc::{AllocError, Global};
 use std::marker::Model;
 use std::sync::Arc;
+
+mod changes;
+
+pub use changes::resolve;
 
 /// A world: its cells, the items that lie on them, and the agents.
 ///
@@ -29,12 +33,20 @@ pub struct World {
     crew: Vec<Agent>,
 }
 
-// Whether a number is among those of a list, which stand in rising order.
+// The place of a number in a rising list, or where it would stand.
+fn find(listed: &[u32], number: u32) -> Result<usize, usize>
+    requires { AllPairs (λ i j. i < j) listed.now }
+    ensures { MatchResult result (λ i. (i < length listed.now) × (slice_index listed.now i ≡ number)) (λ i. IsGap listed.now number i) }
+{
+    listed.binary_search(&number)
+}
+
+// Whether a number is among those of a rising list.
 fn is_listed(listed: &[u32], number: u32) -> bool
     requires { AllPairs (λ i j. i < j) listed.now }
     ensures { result ≡ is_among listed.now number }
 {
-    listed.binary_search(&number).is_ok()
+    find(listed, number).is_ok()
 }
 
 // The number of the agent on a cell.
@@ -89,7 +101,9 @@ impl World {
         let kinds = cells_in(alloc, &marks)?;
         let item_cells = item_cells_in(alloc, &marks)?;
         let crew = agents_in(alloc, columns, &marks)?;
-        let ground = Ground::new(columns, rows.len() as u32, kinds);
+        let floor = floor_in(alloc, &kinds)?;
+        let doors = doors_in(alloc, &kinds)?;
+        let ground = Ground::new(columns, rows.len() as u32, kinds, floor, doors);
         match Arc::new(alloc, ground) {
             Ok(ground) => Ok(World {
                 ground,
@@ -98,6 +112,28 @@ impl World {
             }),
             Err(_) => Err(MapFault::OutOfMemory),
         }
+    }
+}
+
+impl World {
+    /// The same world. Its ground is shared, so this costs what its agents and items cost.
+    pub fn copy(&self, alloc: Global) -> Result<World, AllocError>
+        ensures { IfOk result (λ w. w ≡ self.now) }
+    {
+        self.copy_with_room(alloc, 0)
+    }
+
+    // The same world, with room for further items.
+    fn copy_with_room(&self, alloc: Global, room: usize) -> Result<World, AllocError>
+        ensures { IfOk result (λ w. w ≡ self.now) }
+    {
+        let mut item_cells = Vec::with_capacity(alloc, self.item_cells.len().saturating_add(room))?;
+        item_cells.extend_from_slice(&self.item_cells)?;
+        Ok(World {
+            ground: Arc::try_clone(&self.ground)?,
+            item_cells,
+            crew: Vec::from_slice(alloc, &self.crew)?,
+        })
     }
 }
 
@@ -159,6 +195,27 @@ impl World {
         ensures { result ≡ is_open self.now signals (point x y) }
     {
         self.ground.is_open(signals, x, y)
+    }
+
+    /// The cells, row after row.
+    pub fn cells(&self) -> &[Cell]
+        ensures { result.now ≡ self.now.cells }
+    {
+        self.ground.cells()
+    }
+
+    /// For each cell, row after row, whether it can be stepped on while all signals are off.
+    pub fn floor(&self) -> &[bool]
+        ensures { result.now ≡ map (is_passable no_signals) self.now.cells }
+    {
+        self.ground.floor()
+    }
+
+    /// The numbers of the cells with a door, where cells are counted row after row.
+    pub fn doors(&self) -> &[u32]
+        ensures { ListsDoors result.now self.now.cells }
+    {
+        self.ground.doors()
     }
 
     /// The character that a cell is drawn as; `None` off the map.

@@ -9,3 +9,9 @@ pub mod NodesRead
 pub mod TreesRead
 pub mod PartsRead
 pub mod NameOrder
+pub mod FaultOrder
+pub mod AgentTrees
+pub mod RowFaults
+pub mod Picks
+pub mod JsonBytes
+pub mod Drafted

@@ -1,18 +1,25 @@
-use Rattle.std.proofs.Common.{◌≡◌, ◌<◌, ◌++◌, [], ◌∷◌, List, Bool, arith, subst, sym}
-use Rattle.grid_path.specs.Bordered.{BeginsTable, stride_of}
-use Rattle.grid_path.proofs.Cells.{begins_push}
+use Rattle.std.proofs.Common.{◌≡◌, ◌+◌, arith}
+use Rattle.std.proofs.Common.{false, ap, ◌∙◌, ◌++◌}
+use Rattle.std.specs.Prelude.{replicate}
+use Rattle.grid_path.proofs.Cells.{first_row, inner_row, last_row}
 use Rattle.grid_path.proofs.table.open_cells.Goals as goal
 
-pub loop-x-preserved : goal.loop-x-preserved
-loop-x-preserved g c =
-    let world = c.args.world.now in
-    let wide = c.width-columns.ensures.value in
-    let within : c.loop-x.x < stride_of world = omega arith in
-    let pushed : c.push.new.self.items ≡ c.loop-x.table.items ++ c.is_open_inside.result ∷ [] = c.in_ok-push.ensures.items in
-    let size = c.loop-x.invariant.size in
-    record {
-      begins = subst (λ (t : List Bool). BeginsTable world c.args.signals t) (sym pushed)
-          (begins_push world c.args.signals c.loop-x.table.items c.loop-x.x c.loop-y.y c.is_open_inside.result
-          c.loop-x.invariant.begins size within c.is_open_inside.ensures);
-      size = (let len = c.in_ok-push.ensures.len in omega (arith, len, size));
-    }
+pub loop-y-init : goal.loop-y-init
+loop-y-init g c =
+    let wide = c.width.ensures.value in
+    let long : c.width.result + 2 ≡ c.args.world.now.width + 2 = omega (arith, wide) in
+    first_row c.args.world.now c.args.signals c.in_ok-table.table.items c.push_border.new.table.items c.in_ok-table.ensures.items
+    (c.in_ok-push_border.ensures ∙ ap (λ n. c.in_ok-table.table.items ++ replicate n false) long)
+
+pub loop-y-preserved : goal.loop-y-preserved
+loop-y-preserved g c =
+    inner_row c.args.world.now c.args.signals c.loop-y.table.items c.push.new.self.items c.push_row.new.table.items c.push-in-loop-y.new.self.items c.loop-y.y
+    c.loop-y.invariant c.in_ok-push.ensures.items c.in_ok-push_row.ensures c.in_ok-push-2.ensures.items
+
+pub returns : goal.returns
+returns g c =
+    let wide = c.width.ensures.value in
+    let high = c.height-y-end.ensures.value in
+    let long : c.width.result + 2 ≡ c.args.world.now.width + 2 = omega (arith, wide) in
+    last_row c.args.world.now c.args.signals c.loop-y.table.items c.push_border-2.new.table.items c.loop-y.y (omega (arith, high)) c.loop-y.invariant
+    (c.in_ok-push_border-2.ensures ∙ ap (λ n. c.loop-y.table.items ++ replicate n false) long)

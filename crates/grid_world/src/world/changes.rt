@@ -1,0 +1,117 @@
+// How the intents of a frame change a world.
+ghost use Rattle.std.specs.Prelude.{[], ◌≡◌, ◌≢◌, ◌↔◌, ◌<◌, length, option_map, Err, IfOk, OnOk};
+ghost use Rattle.grid_world.specs.Grid.{agent_of, point_of};
+ghost use Rattle.grid_world.specs.Intents.{apply, apply_all, moved};
+ghost use Rattle.grid_world.specs.Walks.{next};
+ghost use Rattle.grid_world.specs.World.{point};
+ghost use Rattle.grid_world.specs.declared.cell.Intent.TheVariants.{Take, Drop};
+ghost use Rattle.grid_world.specs.declared.fault.ResolveFault.TheVariants.{Count};
+
+use super::{World, agent_on, find};
+use crate::cell::{Agent, Dir, Intent};
+use crate::fault::ResolveFault;
+use crate::signal::Signals;
+use std::alloc::{AllocError, Global};
+
+/// The world after a frame's intents, one for each agent by number, each applied to the world as changed so far.
+///
+/// A move leads to an open cell on which no agent stands at that point; an agent takes an item of its cell with empty
+/// hands, and drops its item where none lies. What can't be done changes nothing. Takes time linear in the numbers of
+/// agents and items: the ground is shared with `world`.
+pub fn resolve(
+    alloc: Global,
+    world: &World,
+    signals: Signals,
+    intents: &[Intent],
+) -> Result<World, ResolveFault>
+    ensures ok { IfOk result (λ after. (length intents.now ≡ length world.now.agents) × (after ≡ apply_all world.now signals 0 intents.now)) }
+    ensures count { result ≡ Err Count ↔ (length intents.now ≢ length world.now.agents) }
+{
+    if intents.len() != world.agents().len() {
+        return Err(ResolveFault::Count);
+    }
+    let mut after = world.copy_with_room(alloc, intents.len())?;
+    'agents: for (number, intent) in intents.iter().enumerate() {
+        after.apply(signals, number, *intent)?;
+    }
+    Ok(after)
+}
+
+fn neighbour(dir: Dir, x: u32, y: u32) -> Option<(u32, u32)>
+    requires column { x < 128 }
+    requires row { y < 128 }
+    ensures { option_map (λ cell. point cell.0 cell.1) result ≡ next dir (point x y) }
+{
+    match dir {
+        Dir::North => { if y == 0 { None } else { Some((x, y - 1)) } }
+        Dir::East => Some((x + 1, y)),
+        Dir::South => Some((x, y + 1)),
+        Dir::West => { if x == 0 { None } else { Some((x - 1, y)) } }
+    }
+}
+
+impl World {
+    fn apply(&mut self, signals: Signals, number: usize, intent: Intent) -> Result<(), AllocError>
+        requires { number < length self.old.agents }
+        ensures { OnOk result (self.new ≡ apply self.old signals number intent) }
+    {
+        match intent {
+            Intent::Stay => {}
+            Intent::Move(dir) => self.step(signals, number, dir),
+            Intent::Take => self.take_item(number),
+            Intent::Drop => self.drop_item(number)?,
+        }
+        Ok(())
+    }
+
+    fn step(&mut self, signals: Signals, number: usize, dir: Dir)
+        requires { number < length self.old.agents }
+        ensures { self.new ≡ moved self.old signals number (next dir (point_of (agent_of self.old number))) }
+    {
+        let agent = self.crew[number];
+        if let Some((x, y)) = neighbour(dir, agent.x, agent.y) {
+            if self.ground.is_open(signals, x, y) && agent_on(&self.crew, x, y).is_none() {
+                self.crew[number] = Agent { x, y, ..agent };
+            }
+        }
+    }
+
+    fn take_item(&mut self, number: usize)
+        requires { number < length self.old.agents }
+        ensures { self.new ≡ apply self.old [] number Take }
+    {
+        let agent = self.crew[number];
+        if agent.carrying {
+            return;
+        }
+        if let Some(cell) = self.ground.index_of(agent.x, agent.y) {
+            if let Ok(i) = find(&self.item_cells, cell) {
+                self.item_cells.remove(i);
+                self.crew[number] = Agent {
+                    carrying: true,
+                    ..agent
+                };
+            }
+        }
+    }
+
+    fn drop_item(&mut self, number: usize) -> Result<(), AllocError>
+        requires { number < length self.old.agents }
+        ensures { OnOk result (self.new ≡ apply self.old [] number Drop) }
+    {
+        let agent = self.crew[number];
+        if !agent.carrying {
+            return Ok(());
+        }
+        if let Some(cell) = self.ground.index_of(agent.x, agent.y) {
+            if let Err(i) = find(&self.item_cells, cell) {
+                self.item_cells.insert(i, cell)?;
+                self.crew[number] = Agent {
+                    carrying: false,
+                    ..agent
+                };
+            }
+        }
+        Ok(())
+    }
+}

@@ -1,0 +1,9 @@
+use Rattle.std.proofs.Common.{◌≡◌, drop}
+use Rattle.std.specs.List.{list_all}
+use Rattle.bt_nodes.specs.Plain.{plains}
+use Rattle.level_text.specs.Places.{places_in, has_place}
+use Rattle.level_text.proofs.placed.+placed.Given as goal
+
+abbrev pub invariant-are_placed-nodes : goal.invariant-are_placed-nodes
+invariant-are_placed-nodes l =
+    list_all (has_place l.world) (places_in (plains (drop l.node-index l.nodes))) ≡ list_all (has_place l.world) (places_in (plains l.nodes))
