@@ -1,5 +1,5 @@
 -- The places that were asked before make no difference, but stand in front of those that are asked.
-use Rattle.std.proofs.Common.{◌≡◌, ℕ, zero, suc, ◌+◌, List, [], ◌∷◌, ◌++◌, refl, sym, ap, ◌∙◌, append_assoc, Bool, true, false, nat_lt}
+use Rattle.std.proofs.Common.{◌≡◌, ℕ, zero, suc, ◌+◌, List, [], ◌∷◌, ◌++◌, refl, ap, ◌∙◌, append_assoc, Bool, true, false, nat_lt}
 use Rattle.std.specs.Prelude.{if◌then◌else◌}
 use Rattle.grid_world.specs.declared.cell.Answer.{Answer}
 use Rattle.grid_world.specs.declared.cell.Answer.TheVariants.{Here, NoWay, Step}

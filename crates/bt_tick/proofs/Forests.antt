@@ -1,7 +1,7 @@
 -- The children of a node beside the list of nodes that they stand for.
-use Rattle.std.proofs.Common.{◌≡◌, ℕ, zero, suc, ◌+◌, ◌<◌, ◌≤◌, List, [], ◌∷◌, map, length, get_or, take, drop, refl, sym, ap, ◌∙◌, arith}
+use Rattle.std.proofs.Common.{◌≡◌, ℕ, zero, suc, ◌+◌, ◌<◌, List, [], ◌∷◌, length, get_or, take, drop, refl, sym, ap, ◌∙◌, arith}
 use Rattle.std.specs.Prelude.{Option, Some, None, MatchOption}
-use Rattle.bt_nodes.specs.Plain.{Plain, Forest, none, tree, plain, plains}
+use Rattle.bt_nodes.specs.Plain.{Plain, tree, plain, plains}
 use Rattle.bt_nodes.specs.Sizes.{size, sizes}
 use Rattle.bt_nodes.specs.declared.node.Node.{Node}
 use Rattle.bt_tick.specs.Children.{children_of, from_child, child_number}

@@ -1,6 +1,5 @@
 -- What leaving a node keeps, by the status that it gives.
-use Rattle.std.proofs.Common.{◌≡◌, ℕ, suc, ◌+◌, ◌<◌, ◌≤◌, List, length, drop, sym, ap, ◌∙◌, subst, arith}
-use Rattle.grid_world.specs.declared.cell.Intent.{Intent}
+use Rattle.std.proofs.Common.{◌≡◌, ℕ, suc, ◌+◌, ◌≤◌, List, length, drop, sym, ap, ◌∙◌, subst, arith}
 use Rattle.bt_nodes.specs.declared.node.Status.{Status}
 use Rattle.bt_nodes.specs.Plain.{Plain, Kind, Composite, CompositeStar, Parallel, Forest, plains}
 use Rattle.bt_nodes.specs.Sizes.{size, count}
@@ -12,7 +11,7 @@ use Rattle.game_rules.specs.View.{View}
 use Rattle.game_rules.specs.Tick.{State, Result, gives, goes, put, verdict}
 use Rattle.bt_tick.specs.Children.{children_of}
 use Rattle.bt_tick.specs.Suspended.{Open, go_on, unwind}
-use Rattle.bt_tick.specs.Places.{Nested, Resting, Standing}
+use Rattle.bt_tick.specs.Places.{Nested, Resting}
 use Rattle.bt_tick.specs.Machine.{opens, left_of, rest_of, with_parts, Keeps, bounds_of, Placed}
 use Rattle.bt_tick.specs.declared.machine.Mode.{Mode}
 use Rattle.bt_tick.specs.declared.machine.Mode.TheVariants.{Up}

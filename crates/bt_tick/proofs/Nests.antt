@@ -1,6 +1,6 @@
 -- What opening a child, and leaving a node, keep of the open nodes.
-use Rattle.std.proofs.Common.{◌≡◌, ℕ, zero, suc, ◌+◌, ◌*◌, ◌<◌, ◌≤◌, List, [], ◌∷◌, length, drop, refl, sym, ap, ◌∙◌, subst, arith}
-use Rattle.bt_nodes.specs.Plain.{Plain, Forest, none, tree, plains}
+use Rattle.std.proofs.Common.{◌≡◌, ℕ, suc, ◌+◌, ◌*◌, ◌<◌, ◌≤◌, List, ◌∷◌, length, drop, sym, ap, ◌∙◌, subst, arith}
+use Rattle.bt_nodes.specs.Plain.{Plain, tree, plains}
 use Rattle.bt_nodes.specs.Sizes.{size, sizes, count}
 use Rattle.bt_nodes.specs.Bounds.{bounds}
 use Rattle.bt_nodes.specs.Trees.{plain_of}
@@ -36,14 +36,17 @@ module _ (f : Open) (fs : List Open) (c : Plain) (at : ℕ) (there : from_child 
   entered_deep bs (r, n) = omega (arith, r.deep, r.following, child_above (children_of f.node) f.next (f.number + 1))
 
   pub entered_nested : (bs : List ℕ) → Resting bs at f fs → Nested bs (at + size c) (begun f ∷ fs)
-  entered_nested bs (r, n) = (record {
-    sits = r.sits;
-    some = omega arith;
-    begun = omega (arith, below_count (children_of f.node) f.next c _ there);
-    counts = (let e : suc f.next ≡ f.next + 1 = omega arith in subst (λ k. f.won + f.lost < limit_of f.node k) e r.counts);
-    following = child_next (children_of f.node) f.next (f.number + 1) c _ there ∙ ap (λ k. k + size c) r.following;
-    deep = r.deep;
-  }, n)
+  entered_nested bs (r, n) = (
+    record {
+      sits = r.sits;
+      some = omega arith;
+      begun = omega (arith, below_count (children_of f.node) f.next c _ there);
+      counts = (let e : suc f.next ≡ f.next + 1 = omega arith in subst (λ k. f.won + f.lost < limit_of f.node k) e r.counts);
+      following = child_next (children_of f.node) f.next (f.number + 1) c _ there ∙ ap (λ k. k + size c) r.following;
+      deep = r.deep;
+    },
+    n,
+  )
 
   pub entered_falls : 2 * size c + weight_all (begun f ∷ fs) ≤ weight_of f + weight_all fs
   entered_falls = let e = ap sizes there in omega (arith, e)

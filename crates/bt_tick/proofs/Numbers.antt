@@ -1,20 +1,19 @@
 -- The numbers that nodes write into a memory that fits.
-use Rattle.std.proofs.Common.{◌≡◌, ◌≢◌, ℕ, suc, ◌+◌, ◌<◌, ◌≤◌, List, ◌∷◌, length, get_or, set, inl, inr, sym, ap, ◌∙◌, subst, arith, refl}
+use Rattle.std.proofs.Common.{◌≡◌, ℕ, ◌+◌, ◌<◌, ◌≤◌, List, ◌∷◌, get_or, set, inl, inr, sym, ap, ◌∙◌, subst, arith, refl}
 use Rattle.std.specs.declared.boxed.Box.{Box}
 use Rattle.std.proofs.Common.{rules}
 use Rattle.std.proofs.lemmas.Bool.{cases_eq}
 use Rattle.std.proofs.lemmas.List.{get_or-set_same, get_or-set_other, length-set, set-set}
 use Rattle.bt_nodes.specs.Plain.{Plain, Kind, Sequence, Fallback, CompositeStar, Tries, Ticks, Invert, Forest, plain}
-use Rattle.bt_nodes.specs.Sizes.{size, count}
+use Rattle.bt_nodes.specs.Sizes.{count}
 use Rattle.bt_nodes.specs.Bounds.{bounds, Fits}
 use Rattle.bt_nodes.specs.declared.node.Node.{Node, Not, Tries as TriesNode, Ticks as TicksNode, the_lemmas}
-use Rattle.bt_nodes.proofs.MemoryBounds.{length-bounds}
 use Rattle.game_rules.specs.View.{View}
 use Rattle.game_rules.specs.Tick.{State, gives, goes, put}
 use Rattle.bt_tick.specs.Children.{children_of}
 use Rattle.bt_tick.specs.Suspended.{Open, close, close_at, go_on}
 use Rattle.bt_tick.specs.Places.{Sits, Standing, limit_of}
-use Rattle.bt_tick.proofs.Trees.{bound_at, sits_below, size-children}
+use Rattle.bt_tick.proofs.Trees.{bound_at}
 use Rattle.bt_tick.proofs.Steps.{go_on_star}
 
 pub plain-Not : {T : Type 0} (b : Box (Node T) T) → plain (Not b) ≡ Invert (plain b.value)
@@ -31,7 +30,7 @@ fits_set : (p : Plain) (m : List ℕ) (n v : ℕ) → Fits p m → v < get_or (b
 fits_set p m n v h l = record {
   same_length = length-set m n v ∙ h.same_length;
   below = λ k w. elim (cases_eq k n) [
-    inl e ↦ subst (λ x. get_or (set m n v) x 0 < get_or (bounds p) x 0) (sym e) (let s = get_or-set_same m n v 0 (omega (arith, w, e, length-set m n v)) in subst (λ x. x < get_or (bounds p) n 0) (sym s) l)
+    | inl e ↦ subst (λ x. get_or (set m n v) x 0 < get_or (bounds p) x 0) (sym e) (let s = get_or-set_same m n v 0 (omega (arith, w, e, length-set m n v)) in subst (λ x. x < get_or (bounds p) n 0) (sym s) l)
     | inr ne ↦ subst (λ x. x < get_or (bounds p) k 0) (sym (get_or-set_other m n k v 0 ne)) (h.below k (omega (arith, w, length-set m n v)))
   ];
 }

@@ -1,5 +1,5 @@
 -- What opening a node keeps.
-use Rattle.std.proofs.Common.{◌≡◌, ℕ, zero, suc, ◌+◌, ◌*◌, ◌<◌, ◌≤◌, List, [], ◌∷◌, length, get_or, take, refl, sym, ap, ◌∙◌, subst, arith}
+use Rattle.std.proofs.Common.{◌≡◌, ℕ, suc, ◌+◌, ◌*◌, ◌<◌, ◌≤◌, List, ◌∷◌, length, get_or, take, refl, sym, ap, ◌∙◌, subst, arith}
 use Rattle.std.specs.Prelude.{IfOk, Ok, Err, Result as Res}
 use Rattle.std.proofs.Common.{Bor}
 use Rattle.bt_nodes.specs.Plain.{Plain, Kind, Composite, CompositeStar, Parallel, Forest, none, tree, plain, plains}
@@ -8,11 +8,10 @@ use Rattle.bt_nodes.specs.Bounds.{bounds, Fits}
 use Rattle.bt_nodes.specs.Trees.{plain_of}
 use Rattle.bt_nodes.specs.declared.node.Node.{Node}
 use Rattle.bt_nodes.proofs.Forests.{count-plains}
-use Rattle.bt_nodes.proofs.MemoryBounds.{length-bounds}
 use Rattle.game_rules.specs.View.{View}
 use Rattle.game_rules.specs.Tick.{State, tick, number_of}
 use Rattle.fiber_stack.specs.declared.frame.Frame.{Frame}
-use Rattle.bt_tick.specs.Children.{children_of, from_child, child_number}
+use Rattle.bt_tick.specs.Children.{children_of, child_number}
 use Rattle.bt_tick.specs.Kinds.{HasList}
 use Rattle.bt_tick.specs.Suspended.{Open, go_on}
 use Rattle.bt_tick.specs.Places.{Sits, Standing, Nested, Resting, limit_of, weight_of}
@@ -70,14 +69,17 @@ module _ {T : Type 0} (p : Plain) (m : List ℕ) (f : Open) (fs : List Open) (ki
   star_room = omega (arith, star_at, child_split (children_of f.node) f.next (f.number + 1), size-children f.node, sits_below (bounds p) f.node f.number sits)
 
   pub star_rests : (passed : ℕ) → passed ≡ sizes (plains (take f.next nodes)) → f.won ≡ 0 → f.lost ≡ 0 → length fs ≤ f.number → Nested (bounds p) (f.number + size f.node) fs → Resting (bounds p) (f.number + 1 + passed) f fs
-  star_rests passed e won lost deep n = (record {
-    sits = sits;
-    some = omega arith;
-    begun = (let k = ap (λ q. count (children_of q)) is in omega (arith, star_next, k, count-plains nodes));
-    counts = subst (λ q. f.won + f.lost < limit_of q (suc f.next)) (sym is) (omega (arith, won, lost));
-    following = star_at ∙ ap (λ k. f.number + 1 + k) (sym e);
-    deep = deep;
-  }, n)
+  star_rests passed e won lost deep n = (
+    record {
+      sits = sits;
+      some = omega arith;
+      begun = (let k = ap (λ q. count (children_of q)) is in omega (arith, star_next, k, count-plains nodes));
+      counts = subst (λ q. f.won + f.lost < limit_of q (suc f.next)) (sym is) (omega (arith, won, lost));
+      following = star_at ∙ ap (λ k. f.number + 1 + k) (sym e);
+      deep = deep;
+    },
+    n,
+  )
 
   pub star_falls : weight_of f < 2 * size f.node
   star_falls = omega (arith, sizes_from (children_of f.node) f.next, size-children f.node)

@@ -1,8 +1,7 @@
 -- The outcome of what is left is that of the tick.
 use Rattle.std.proofs.Common.{◌≡◌, ℕ, List, [], ◌∷◌, ◌++◌, refl, sym, ap, ◌∙◌}
-use Rattle.std.specs.Prelude.{Some, None}
+use Rattle.std.specs.Prelude.{Some}
 use Rattle.grid_world.specs.declared.cell.Answer.{Answer}
-use Rattle.grid_world.specs.declared.cell.Intent.{Intent}
 use Rattle.game_rules.specs.View.{View}
 use Rattle.game_rules.specs.Tick.{State, Result, Stands, follow}
 use Rattle.game_rules.specs.Thought.{last_of, first_want}

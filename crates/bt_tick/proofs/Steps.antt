@@ -1,9 +1,9 @@
 -- What a node does from a child on is to tick that child, and then what it does by the child's status.
-use Rattle.std.proofs.Common.{◌≡◌, ℕ, zero, suc, ◌+◌, ◌<◌, ◌≤◌, refl, sym, ap, ◌∙◌, arith, zero-add}
-use Rattle.bt_nodes.specs.Plain.{Plain, Kind, Sequence, Fallback, Composite, CompositeStar, Parallel, Invert, Tries, Ticks, Forest, none, tree}
+use Rattle.std.proofs.Common.{◌≡◌, ℕ, zero, suc, ◌+◌, ◌≤◌, refl, sym, ap, ◌∙◌, arith, zero-add}
+use Rattle.bt_nodes.specs.Plain.{Plain, Kind, Composite, CompositeStar, Parallel, Forest, none, tree}
 use Rattle.bt_nodes.specs.Sizes.{size, count}
 use Rattle.game_rules.specs.View.{View}
-use Rattle.game_rules.specs.Tick.{State, Result, gives, on, on_kind, goes, stops, verdict, put, number_of, tick, tick_line, tick_star, tick_all}
+use Rattle.game_rules.specs.Tick.{State, gives, on, on_kind, goes, stops, verdict, put, number_of, tick, tick_line, tick_star, tick_all}
 use Rattle.bt_tick.specs.Children.{children_of, from_child, child_number}
 use Rattle.bt_tick.specs.Kinds.{HasList}
 use Rattle.bt_tick.specs.Suspended.{go_on, close_at}

@@ -4,7 +4,7 @@ use Rattle.std.proofs.lemmas.List.{get_or_append_left, get_or-append-add}
 use Rattle.bt_nodes.specs.Plain.{Plain, Composite, CompositeStar, Parallel, Invert, Tries, Ticks, Wait, MoveTo, Does, Forest, none, tree}
 use Rattle.bt_nodes.specs.Sizes.{size, sizes, count}
 use Rattle.bt_nodes.specs.Bounds.{bounds, bounds_all}
-use Rattle.bt_nodes.proofs.MemoryBounds.{length-bounds, length-bounds_all}
+use Rattle.bt_nodes.proofs.MemoryBounds.{length-bounds}
 use Rattle.bt_tick.specs.Children.{children_of, from_child, child_number}
 use Rattle.bt_tick.specs.Places.{Sits}
 

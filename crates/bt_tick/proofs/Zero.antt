@@ -1,5 +1,5 @@
 -- The zero memory fits its tree.
-use Rattle.std.proofs.Common.{◌≡◌, ℕ, ◌<◌, length, get_or, sym, ◌∙◌, subst, arith, replicate}
+use Rattle.std.proofs.Common.{◌<◌, get_or, sym, ◌∙◌, subst, arith}
 use Rattle.std.proofs.lemmas.List.{get_or-replicate, length-replicate}
 use Rattle.bt_nodes.specs.Plain.{Plain}
 use Rattle.bt_nodes.specs.Sizes.{size}

@@ -1,11 +1,10 @@
 -- What a pending tick means, and when an outcome is that of a tick.
-use Rattle.std.specs.Prelude.{◌≡◌, ℕ, List, [], ◌∷◌, Option, Some, None}
+use Rattle.std.specs.Prelude.{◌≡◌, ℕ, List, [], Some}
 use Rattle.grid_world.specs.declared.cell.Answer.{Answer}
 use Rattle.grid_world.specs.declared.cell.Intent.{Intent}
 use Rattle.bt_nodes.specs.Plain.{Plain}
 use Rattle.bt_nodes.specs.Bounds.{Fits}
 use Rattle.bt_nodes.specs.Trees.{plain_of}
-use Rattle.bt_nodes.specs.declared.tree.Tree.{Tree}
 use Rattle.game_rules.specs.View.{View}
 use Rattle.game_rules.specs.Tick.{State, Result, Gives, Stands, gives}
 use Rattle.game_rules.specs.Thought.{last_of, first_want}

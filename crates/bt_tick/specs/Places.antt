@@ -1,6 +1,6 @@
 -- Where a node stands in its tree, and what the open nodes of a tick keep.
 use Rattle.std.specs.Prelude.{◌≡◌, ◌<◌, ◌≤◌, ℕ, suc, ◌+◌, ◌*◌, List, [], ◌∷◌, length, slice_index}
-use Rattle.bt_nodes.specs.Plain.{Plain, Composite, CompositeStar, Parallel, Invert, Tries, Ticks, Forest}
+use Rattle.bt_nodes.specs.Plain.{Plain, Tries, Ticks}
 use Rattle.bt_nodes.specs.Sizes.{size, sizes, count}
 use Rattle.bt_nodes.specs.Bounds.{bounds}
 use Rattle.bt_tick.specs.Children.{children_of, from_child, child_number}

@@ -1,5 +1,5 @@
 -- A view as plain data.
-use Rattle.std.specs.Prelude.{ℕ, ◌<◌, length}
+use Rattle.std.specs.Prelude.{◌<◌, length}
 use Rattle.game_rules.specs.View.{View as PlainView}
 use Rattle.bt_tick.specs.declared.view.View.{View}
 

@@ -18,8 +18,15 @@ use std::alloc::Allocator;
 impl<'t, T: Allocator, A: Allocator> Machine<'t, T, A> {
     // Leaves the innermost open node before its children from the next one on are ticked. Only these are walked over,
     // for the number of the node that follows.
-    fn stop(&mut self, frame: Frame<'t, T>, children: &'t [Node<T>], status: Status, at: u64) -> Mode<'t, T>
-        requires stands { Standing (bounds_of self.old) frame.next at (length (opens (drop 1 self.old.stack))) (opened frame) }
+    fn stop(
+        &mut self,
+        frame: Frame<'t, T>,
+        children: &'t [Node<T>],
+        status: Status,
+        at: u64,
+    ) -> Mode<'t, T>
+        requires stands { Standing (bounds_of self.old)
+            frame.next at (length (opens (drop 1 self.old.stack))) (opened frame) }
         requires children { children_of (plain frame.node.now) ≡ plains children.now }
         ensures mode { result ≡ Mode.Up status (frame.entry.number + size (plain frame.entry.node.now)) }
         ensures stack { self.new.stack ≡ drop 1 self.old.stack }
@@ -34,11 +41,16 @@ impl<'t, T: Allocator, A: Allocator> Machine<'t, T, A> {
     // Hands a status to the innermost open node, whose next child has the number `at`.
     pub(crate) fn ascend(&mut self, frame: Frame<'t, T>, status: Status, at: u64) -> Mode<'t, T>
         requires some { 0 < length self.old.stack }
-        requires stands { Standing (bounds_of self.old) frame.next at (length (opens (drop 1 self.old.stack))) (opened frame) }
-        requires nested { Nested (bounds_of self.old) (frame.number + size (plain frame.node.now)) (opens (drop 1 self.old.stack)) }
-        ensures keeps { (v : View) → Keeps v self.new result self.old (drop 1 self.old.stack) (λ s. close v (opened frame.entry) (gives status s)) }
+        requires stands { Standing (bounds_of self.old)
+            frame.next at (length (opens (drop 1 self.old.stack))) (opened frame) }
+        requires nested { Nested (bounds_of self.old)
+            (frame.number + size (plain frame.node.now)) (opens (drop 1 self.old.stack)) }
+        ensures keeps { (v : View) →
+            Keeps v self.new result self.old (drop 1 self.old.stack)
+            (λ s. close v (opened frame.entry) (gives status s)) }
         ensures placed { Placed self.new result }
-        ensures falls { weight self.new result ≤ weight_of (opened frame.entry) + weight_all (opens (drop 1 self.old.stack)) }
+        ensures falls { weight self.new result
+            ≤ weight_of (opened frame.entry) + weight_all (opens (drop 1 self.old.stack)) }
         ensures tree { self.new.tree ≡ self.old.tree }
     {
         match frame.node {
@@ -112,9 +124,9 @@ impl<'t, T: Allocator, A: Allocator> Machine<'t, T, A> {
                 }
                 Status::Success | Status::Running => self.leave(status, at),
             },
-            Node::Ticks(most, _) => match status {
+            Node::Ticks(limit, _) => match status {
                 Status::Running => {
-                    let _most = *most;
+                    let _limit = *limit;
                     self.memory.set(frame.number, frame.failures + 1);
                     self.leave(Status::Running, at)
                 }

@@ -41,15 +41,22 @@ impl<'t, T: Allocator, A: Allocator + Clone> Machine<'t, T, A> {
     }
 
     // Ticks a node other than a `Move`: opens it and begins a child, or takes its status at once.
-    pub(crate) fn descend(&mut self, view: &View, node: &'t Node<T>, number: u64) -> Result<Mode<'t, T>, AllocError>
+    pub(crate) fn descend(
+        &mut self,
+        view: &View,
+        node: &'t Node<T>,
+        number: u64,
+    ) -> Result<Mode<'t, T>, AllocError>
         requires view { IsInWorld view.now }
         requires no_move { is_move (plain node.now) ≡ false }
         requires sits { Sits (bounds_of self.old) number (bounds (plain node.now)) }
         requires deep { length self.old.stack ≤ number }
         requires nested { Nested (bounds_of self.old) (number + size (plain node.now)) (opens self.old.stack) }
-        ensures keeps { IfOk result (λ m. Keeps (view_of view.now) self.new m self.old self.old.stack (tick (view_of view.now) (plain node.now) number)) }
+        ensures keeps { IfOk result (λ m.
+            Keeps (view_of view.now) self.new m self.old self.old.stack (tick (view_of view.now) (plain node.now) number)) }
         ensures placed { IfOk result (λ m. Placed self.new m) }
-        ensures falls { IfOk result (λ m. weight self.new m < 2 * size (plain node.now) + weight_all (opens self.old.stack)) }
+        ensures falls { IfOk result (λ m.
+            weight self.new m < 2 * size (plain node.now) + weight_all (opens self.old.stack)) }
         ensures tree { self.new.tree ≡ self.old.tree }
     {
         let frame = Frame {

@@ -63,9 +63,11 @@ impl<'t, T: Allocator, A: Allocator> Machine<'t, T, A> {
         requires list { HasList (plain frame.node.now) }
         requires children { children_of (plain frame.node.now) ≡ plains children.now }
         requires next { frame.next < length children.now }
-        ensures keeps { (v : View) → Keeps v self.new result self.old (drop 1 self.old.stack) (rest_of v (opened frame.entry)) }
+        ensures keeps { (v : View) →
+            Keeps v self.new result self.old (drop 1 self.old.stack) (rest_of v (opened frame.entry)) }
         ensures placed { Placed self.new result }
-        ensures falls { weight self.new result ≤ weight_of (opened frame.entry) + weight_all (opens (drop 1 self.old.stack)) }
+        ensures falls { weight self.new result
+            ≤ weight_of (opened frame.entry) + weight_all (opens (drop 1 self.old.stack)) }
         ensures tree { self.new.tree ≡ self.old.tree }
     {
         let next = frame.next;
@@ -82,9 +84,11 @@ impl<'t, T: Allocator, A: Allocator> Machine<'t, T, A> {
         requires some { 0 < length self.old.stack }
         requires rests { Resting (bounds_of self.old) at (opened frame) (opens (drop 1 self.old.stack)) }
         requires list { HasList (plain frame.node.now) }
-        ensures keeps { (v : View) → Keeps v self.new result self.old (drop 1 self.old.stack) (rest_of v (opened frame.entry)) }
+        ensures keeps { (v : View) →
+            Keeps v self.new result self.old (drop 1 self.old.stack) (rest_of v (opened frame.entry)) }
         ensures placed { Placed self.new result }
-        ensures falls { weight self.new result ≤ weight_of (opened frame.entry) + weight_all (opens (drop 1 self.old.stack)) }
+        ensures falls { weight self.new result
+            ≤ weight_of (opened frame.entry) + weight_all (opens (drop 1 self.old.stack)) }
         ensures tree { self.new.tree ≡ self.old.tree }
     {
         match frame.node {

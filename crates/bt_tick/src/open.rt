@@ -19,12 +19,18 @@ use std::alloc::{AllocError, Allocator};
 
 impl<'t, T: Allocator, A: Allocator + Clone> Machine<'t, T, A> {
     // Opens a node that lists children, and begins the one that the frame names next, which has the number `at`.
-    pub(crate) fn open_list(&mut self, frame: Frame<'t, T>, at: u64) -> Result<Mode<'t, T>, AllocError>
+    pub(crate) fn open_list(
+        &mut self,
+        frame: Frame<'t, T>,
+        at: u64,
+    ) -> Result<Mode<'t, T>, AllocError>
         requires rests { Resting (bounds_of self.old) at (opened frame) (opens self.old.stack) }
         requires list { HasList (plain frame.node.now) }
-        ensures keeps { IfOk result (λ m. (v : View) → Keeps v self.new m self.old self.old.stack (rest_of v (opened frame.entry))) }
+        ensures keeps { IfOk result (λ m. (v : View) →
+            Keeps v self.new m self.old self.old.stack (rest_of v (opened frame.entry))) }
         ensures placed { IfOk result (λ m. Placed self.new m) }
-        ensures falls { IfOk result (λ m. weight self.new m ≤ weight_of (opened frame.entry) + weight_all (opens self.old.stack)) }
+        ensures falls { IfOk result (λ m.
+            weight self.new m ≤ weight_of (opened frame.entry) + weight_all (opens self.old.stack)) }
         ensures tree { self.new.tree ≡ self.old.tree }
     {
         self.open(frame)?;
@@ -33,14 +39,21 @@ impl<'t, T: Allocator, A: Allocator + Clone> Machine<'t, T, A> {
 
     // Opens a node with memory, and begins the child that its number names. Only the children before that one are
     // walked over, for its number.
-    pub(crate) fn open_star(&mut self, node: &'t Node<T>, children: &'t [Node<T>], number: u64) -> Result<Mode<'t, T>, AllocError>
+    pub(crate) fn open_star(
+        &mut self,
+        node: &'t Node<T>,
+        children: &'t [Node<T>],
+        number: u64,
+    ) -> Result<Mode<'t, T>, AllocError>
         requires star { IsStarOf (plain node.now) (plains children.now) }
         requires sits { Sits (bounds_of self.old) number (bounds (plain node.now)) }
         requires deep { length self.old.stack ≤ number }
         requires nested { Nested (bounds_of self.old) (number + size (plain node.now)) (opens self.old.stack) }
-        ensures keeps { IfOk result (λ m. (v : View) → Keeps v self.new m self.old self.old.stack (tick v (plain node.now) number)) }
+        ensures keeps { IfOk result (λ m. (v : View) →
+            Keeps v self.new m self.old self.old.stack (tick v (plain node.now) number)) }
         ensures placed { IfOk result (λ m. Placed self.new m) }
-        ensures falls { IfOk result (λ m. weight self.new m < 2 * size (plain node.now) + weight_all (opens self.old.stack)) }
+        ensures falls { IfOk result (λ m.
+            weight self.new m < 2 * size (plain node.now) + weight_all (opens self.old.stack)) }
         ensures tree { self.new.tree ≡ self.old.tree }
     {
         let next = self.memory.number(number);
@@ -56,14 +69,23 @@ impl<'t, T: Allocator, A: Allocator + Clone> Machine<'t, T, A> {
     }
 
     // Opens a node with one child, and begins it.
-    pub(crate) fn open_only(&mut self, frame: Frame<'t, T>, child: &'t Node<T>) -> Result<Mode<'t, T>, AllocError>
+    pub(crate) fn open_only(
+        &mut self,
+        frame: Frame<'t, T>,
+        child: &'t Node<T>,
+    ) -> Result<Mode<'t, T>, AllocError>
         requires only { children_of (plain frame.node.now) ≡ tree (plain child.now) none }
-        requires stands { Standing (bounds_of self.old) 1 (frame.number + size (plain frame.node.now)) (length (opens self.old.stack)) (opened frame) }
+        requires stands { Standing (bounds_of self.old)
+            1 (frame.number + size (plain frame.node.now)) (length (opens self.old.stack)) (opened frame) }
         requires begun { frame.next ≡ 1 }
-        requires nested { Nested (bounds_of self.old) (frame.number + size (plain frame.node.now)) (opens self.old.stack) }
-        ensures keeps { IfOk result (λ m. (v : View) → Keeps v self.new m self.old self.old.stack (λ s. close v (opened frame.entry) (tick v (plain child.now) (frame.entry.number + 1) s))) }
+        requires nested { Nested (bounds_of self.old)
+            (frame.number + size (plain frame.node.now)) (opens self.old.stack) }
+        ensures keeps { IfOk result (λ m. (v : View) →
+            Keeps v self.new m self.old self.old.stack
+            (λ s. close v (opened frame.entry) (tick v (plain child.now) (frame.entry.number + 1) s))) }
         ensures placed { IfOk result (λ m. Placed self.new m) }
-        ensures falls { IfOk result (λ m. weight self.new m < 2 * size (plain frame.entry.node.now) + weight_all (opens self.old.stack)) }
+        ensures falls { IfOk result (λ m.
+            weight self.new m < 2 * size (plain frame.entry.node.now) + weight_all (opens self.old.stack)) }
         ensures tree { self.new.tree ≡ self.old.tree }
     {
         self.open(frame)?;

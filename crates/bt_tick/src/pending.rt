@@ -18,7 +18,8 @@ impl<'t, T: Allocator, A: Allocator> Pending<'t, T, A> {
 
     /// A copy whose open nodes and wants lie in `alloc`. It means what this tick means.
     pub fn copy_in<B: Allocator + Clone>(&self, alloc: B) -> Result<Pending<'t, T, B>, AllocError>
-        ensures means { IfOk result (λ copy. (v : View) (more : List Answer) → means v copy more ≡ means v self.now more) }
+        ensures means { IfOk result (λ copy.
+            (v : View) (more : List Answer) → means v copy more ≡ means v self.now more) }
         ensures place { IfOk result (λ copy. place_of copy ≡ place_of self.now) }
         ensures tree { IfOk result (λ copy. tree_of copy ≡ tree_of self.now) }
     {

@@ -69,7 +69,8 @@ fn run<'t, T: Allocator, A: Allocator + Clone>(
 ) -> Result<Outcome<'t, T, A>, AllocError>
     requires view { IsInWorld view.now }
     requires placed { Placed begun start }
-    ensures comes { IfOk result (λ o. ComesTo (view_of view.now) [] o (machine_left (view_of view.now) begun.entry start.entry)) }
+    ensures comes { IfOk result (λ o.
+        ComesTo (view_of view.now) [] o (machine_left (view_of view.now) begun.entry start.entry)) }
     ensures tree { IfOk result (λ o. IsOfTree (plain_of begun.entry.tree.now) o) }
 {
     let mut machine = begun;
@@ -123,7 +124,8 @@ pub fn begin<'t, T: Allocator, A: Allocator + Clone>(
     requires fits { Fits (plain_of tree.now) memory }
     requires agent { IsInWorld view.now }
     ensures outcome { IfOk result (λ o. IsOutcome o (ticked (view_of view.now) (plain_of tree.now) memory [])) }
-    ensures comes { IfOk result (λ o. ComesTo (view_of view.now) [] o (ticked (view_of view.now) (plain_of tree.now) memory)) }
+    ensures comes { IfOk result (λ o.
+        ComesTo (view_of view.now) [] o (ticked (view_of view.now) (plain_of tree.now) memory)) }
     ensures tree { IfOk result (λ o. IsOfTree (plain_of tree.now) o) }
 {
     let stack = Stack::empty(alloc.clone()?);
@@ -146,7 +148,9 @@ pub fn resume<'t, T: Allocator, A: Allocator + Clone>(
 ) -> Result<Outcome<'t, T, A>, TickFault>
     requires agent { IsInWorld view.now }
     ensures outcome { IfOk result (λ o. IsOutcome o (means (view_of view.now) pending.entry (answer ∷ []))) }
-    ensures comes { IfOk result (λ o. ComesTo (view_of view.now) (place_of pending.entry ∷ []) o (λ more. means (view_of view.now) pending.entry (answer ∷ more))) }
+    ensures comes { IfOk result (λ o.
+        ComesTo (view_of view.now) (place_of pending.entry ∷ [])
+        o (λ more. means (view_of view.now) pending.entry (answer ∷ more))) }
     ensures tree { IfOk result (λ o. IsOfTree (tree_of pending.entry) o) }
 {
     let Pending {

@@ -19,8 +19,7 @@ pub struct Pending<'t, T: Allocator, A: Allocator> {
     pub(crate) place: Place,
     // the number after the `Move` that asks
     pub(crate) after: u64,
-    ghost nested: { Nested (bounds (plain_of machine.tree.now)) after (opens machine.stack) }
-        by { Nested-prop (bounds (plain_of machine.tree.now)) after (opens machine.stack) },
+    ghost nested: { Nested (bounds (plain_of machine.tree.now)) after (opens machine.stack) } by { Nested-prop (bounds (plain_of machine.tree.now)) after (opens machine.stack) },
 }
 
 /// What a tick comes to.

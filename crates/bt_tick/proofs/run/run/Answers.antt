@@ -1,4 +1,4 @@
-use Rattle.std.proofs.Common.{◌≡◌, ◌+◌, ap, sym, ◌∙◌, arith, []}
+use Rattle.std.proofs.Common.{ap, sym, ◌∙◌, arith, []}
 use Rattle.game_rules.specs.Tick.{gives}
 use Rattle.bt_tick.specs.Suspended.{unwind}
 use Rattle.bt_tick.specs.Views.{view_of}

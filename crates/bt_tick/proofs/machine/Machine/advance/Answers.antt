@@ -1,4 +1,4 @@
-use Rattle.std.proofs.Common.{◌≡◌, ◌≤◌, ap, ◌∙◌, arith}
+use Rattle.std.proofs.Common.{◌≡◌, ap, ◌∙◌, arith}
 use Rattle.std.specs.Prelude.{slice_set}
 use Rattle.bt_nodes.specs.Plain.{plain, plains, Sequence, Fallback}
 use Rattle.bt_nodes.specs.Sizes.{count}
@@ -37,7 +37,7 @@ returns-else-frame-count-clause-keeps g c v =
     left_keeps c.args.self.now c.leave-in-Par.new.self c.leave-in-Par.result _ c.args.at c.leave-in-Par.ensures.mode c.leave-in-Par.ensures.stack c.args.self.now.memory c.leave-in-Par.ensures.memory c.leave-in-Par.ensures.wants v
     (rest_of v (opened c.args.frame))
     (λ s. ended_all v (opened c.args.frame) (with_parts c.args.self.now.memory c.args.self.now.wants.items s) c.in-Par.least (plains c.in-Par.children.items) c.par_status-status.result (ap plain c.in-Par.is ∙ plain-Par c.in-Par.least c.in-Par.children) (none_left (opened c.args.frame) c.in-Par.children.items (ap children_of (ap plain c.in-Par.is ∙ plain-Par c.in-Par.least c.in-Par.children)) (omega (arith, c.len-count.ensures)))
-        (c.par_status-status.ensures ∙ ap (λ n. verdict c.in-Par.least n c.args.frame.successes c.args.frame.failures) (let n : c.len-count.result ≡ count (plains c.in-Par.children.items) = omega (arith, c.len-count.ensures, count-plains c.in-Par.children.items) in n)))
+    (c.par_status-status.ensures ∙ ap (λ n. verdict c.in-Par.least n c.args.frame.successes c.args.frame.failures) (let n : c.len-count.result ≡ count (plains c.in-Par.children.items) = omega (arith, c.len-count.ensures, count-plains c.in-Par.children.items) in n)))
 
 pub returns-else-frame-count-clause-placed : goal.returns-else-frame-count-clause-placed
 returns-else-frame-count-clause-placed g c =
@@ -65,4 +65,3 @@ pub returns-else-frame-len-4-clause-placed : goal.returns-else-frame-len-4-claus
 returns-else-frame-len-4-clause-placed g c =
     ended_placed c.args.self.now c.leave-in-FallbackStar.new.self c.leave-in-FallbackStar.result _ c.args.at c.leave-in-FallbackStar.ensures.mode c.leave-in-FallbackStar.ensures.stack (opened c.args.frame) c.requires.rests
     (none_left (opened c.args.frame) c.in-FallbackStar.children.items (ap children_of (ap plain c.in-FallbackStar.is ∙ plain-FallbackStar c.in-FallbackStar.children)) (omega (arith, c.len-in-FallbackStar.ensures))) c.leave-in-FallbackStar.ensures.tree
-

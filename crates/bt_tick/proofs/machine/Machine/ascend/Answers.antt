@@ -1,4 +1,4 @@
-use Rattle.std.proofs.Common.{◌≡◌, ◌+◌, ap, sym, ◌∙◌, arith}
+use Rattle.std.proofs.Common.{◌+◌, ap, sym, ◌∙◌, arith}
 use Rattle.std.specs.Prelude.{slice_set}
 use Rattle.bt_nodes.specs.Plain.{plain, plains, Sequence, Fallback}
 use Rattle.bt_nodes.specs.Trees.{plain_of}
@@ -35,10 +35,10 @@ invariant_of-self-in-Failure-status-6 g c =
 
 pub invariant_of-self-in-Running-status-6 : goal.invariant_of-self-in-Running-status-6
 invariant_of-self-in-Running-status-6 g c =
-    let is = ap plain c.in-Ticks.is ∙ plain-Ticks c.in-Ticks.most c.in-Ticks.field-1 in
+    let is = ap plain c.in-Ticks.is ∙ plain-Ticks c.in-Ticks.limit c.in-Ticks.field-1 in
     record {
       fits = ticks_wrote (plain_of c.args.self.now.tree.now) c.args.self.now.memory _ (c.args.frame.failures + 1) _ _ _ (opened c.args.frame) c.args.self.now.fits c.requires.stands c.set-in-Running-status-6.ensures
-          c.in-Ticks.most (plain c.in-Ticks.field-1.value) is (omega (arith, ticks_lost _ _ _ _ (opened c.args.frame) c.in-Ticks.most _ c.requires.stands is));
+          c.in-Ticks.limit (plain c.in-Ticks.field-1.value) is (omega (arith, ticks_lost _ _ _ _ (opened c.args.frame) c.in-Ticks.limit _ c.requires.stands is));
     }
 
 pub returns-else-frame-len-clause-keeps : goal.returns-else-frame-len-clause-keeps
@@ -46,8 +46,8 @@ returns-else-frame-len-clause-keeps g c v =
     left_keeps c.args.self.now c.leave.new.self c.leave.result _ c.args.at c.leave.ensures.mode c.leave.ensures.stack (slice_set c.args.self.now.memory c.args.frame.number 0) (c.leave.ensures.memory ∙ c.set-in-Success-status-3.ensures)
     c.leave.ensures.wants v (λ s. close v (opened c.args.frame) (gives c.args.status s))
     (λ s. let parts = with_parts c.args.self.now.memory c.args.self.now.wants.items s in
-        end_star v (opened c.args.frame) Sequence (plains c.in-SeqStar.children.items) parts (ap plain c.in-SeqStar.is ∙ plain-SeqStar c.in-SeqStar.children) (none_left (opened c.args.frame) c.in-SeqStar.children.items (ap children_of (ap plain c.in-SeqStar.is ∙ plain-SeqStar c.in-SeqStar.children)) (omega arith))
-        ∙ ap (λ st. close v (opened c.args.frame) (gives st parts)) (sym c.in-Success-status-3.is))
+    end_star v (opened c.args.frame) Sequence (plains c.in-SeqStar.children.items) parts (ap plain c.in-SeqStar.is ∙ plain-SeqStar c.in-SeqStar.children) (none_left (opened c.args.frame) c.in-SeqStar.children.items (ap children_of (ap plain c.in-SeqStar.is ∙ plain-SeqStar c.in-SeqStar.children)) (omega arith))
+    ∙ ap (λ st. close v (opened c.args.frame) (gives st parts)) (sym c.in-Success-status-3.is))
 
 pub returns-else-frame-len-clause-placed : goal.returns-else-frame-len-clause-placed
 returns-else-frame-len-clause-placed g c =
@@ -59,8 +59,8 @@ returns-else-frame-len-2-clause-keeps g c v =
     left_keeps c.args.self.now c.leave-in-Failure-status-4.new.self c.leave-in-Failure-status-4.result _ c.args.at c.leave-in-Failure-status-4.ensures.mode c.leave-in-Failure-status-4.ensures.stack (slice_set c.args.self.now.memory c.args.frame.number 0) (c.leave-in-Failure-status-4.ensures.memory ∙ c.set-in-Failure-status-4.ensures)
     c.leave-in-Failure-status-4.ensures.wants v (λ s. close v (opened c.args.frame) (gives c.args.status s))
     (λ s. let parts = with_parts c.args.self.now.memory c.args.self.now.wants.items s in
-        end_star v (opened c.args.frame) Fallback (plains c.in-FallbackStar.children.items) parts (ap plain c.in-FallbackStar.is ∙ plain-FallbackStar c.in-FallbackStar.children) (none_left (opened c.args.frame) c.in-FallbackStar.children.items (ap children_of (ap plain c.in-FallbackStar.is ∙ plain-FallbackStar c.in-FallbackStar.children)) (omega arith))
-        ∙ ap (λ st. close v (opened c.args.frame) (gives st parts)) (sym c.in-Failure-status-4.is))
+    end_star v (opened c.args.frame) Fallback (plains c.in-FallbackStar.children.items) parts (ap plain c.in-FallbackStar.is ∙ plain-FallbackStar c.in-FallbackStar.children) (none_left (opened c.args.frame) c.in-FallbackStar.children.items (ap children_of (ap plain c.in-FallbackStar.is ∙ plain-FallbackStar c.in-FallbackStar.children)) (omega arith))
+    ∙ ap (λ st. close v (opened c.args.frame) (gives st parts)) (sym c.in-Failure-status-4.is))
 
 pub returns-else-frame-len-2-clause-placed : goal.returns-else-frame-len-2-clause-placed
 returns-else-frame-len-2-clause-placed g c =

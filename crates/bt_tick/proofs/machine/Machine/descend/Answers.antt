@@ -1,6 +1,6 @@
 use Rattle.std.proofs.Common.{◌≡◌, ◌+◌, ◌<◌, ap, sym, ◌∙◌, subst, arith, refl}
 use Rattle.std.proofs.lemmas.List.{length-map}
-use Rattle.bt_nodes.specs.Plain.{Sequence, Fallback, CompositeStar, none, tree, plain, plains}
+use Rattle.bt_nodes.specs.Plain.{Fallback, CompositeStar, none, tree, plain, plains}
 use Rattle.bt_nodes.specs.Sizes.{size}
 use Rattle.bt_nodes.proofs.Views.{plain-Seq, plain-Fallback, plain-Par, plain-FallbackStar}
 use Rattle.bt_tick.specs.Children.{children_of}

@@ -3,7 +3,6 @@ use Rattle.std.proofs.lemmas.List.{length-map}
 use Rattle.bt_nodes.specs.Plain.{plain}
 use Rattle.bt_tick.specs.Machine.{opened, opens, bounds_of}
 use Rattle.bt_tick.specs.declared.machine.Mode.TheVariants.{Down}
-use Rattle.bt_tick.proofs.Trees.{size-children}
 use Rattle.bt_tick.proofs.Nests.{room}
 use Rattle.bt_tick.proofs.Opening.{placed_by, only_nested, only_sits}
 use Rattle.bt_tick.proofs.machine.Machine.open_only.Goals as goal

@@ -1,7 +1,7 @@
 use Rattle.std.proofs.Common.{◌≡◌, ◌<◌, ap, ◌∙◌, arith, length, take, refl}
 use Rattle.std.proofs.lemmas.List.{length-map, length-take-le}
 use Rattle.bt_nodes.specs.Plain.{plain, plains}
-use Rattle.bt_nodes.specs.Sizes.{size, sizes}
+use Rattle.bt_nodes.specs.Sizes.{sizes}
 use Rattle.bt_nodes.specs.Trees.{plain_of}
 use Rattle.bt_nodes.proofs.MemoryBounds.{length-bounds}
 use Rattle.bt_nodes.proofs.WithinLimits.{tree_within}
@@ -32,7 +32,7 @@ open_list-requires-clause-rests g c =
     let f : Open = record { node = plain c.args.node.now; number = c.args.number; next = c.number-next.result; won = 0; lost = 0 } in
     let fs = opens c.args.self.now.stack in
     let passed : c.sizes-passed.result ≡ sizes (plains (take c.number-next.result c.args.children.now)) =
-        omega (arith, c.sizes-passed.ensures, length-bounds p, (tree_within c.args.self.now.tree.now).few, star_room p c.args.self.now.memory f fs c.requires.star.0 c.args.children.now c.requires.star.1 c.args.self.now.fits c.requires.sits c.number-next.ensures) in
+    omega (arith, c.sizes-passed.ensures, length-bounds p, (tree_within c.args.self.now.tree.now).few, star_room p c.args.self.now.memory f fs c.requires.star.0 c.args.children.now c.requires.star.1 c.args.self.now.fits c.requires.sits c.number-next.ensures) in
     star_rests p c.args.self.now.memory f fs c.requires.star.0 c.args.children.now c.requires.star.1 c.args.self.now.fits c.requires.sits c.number-next.ensures c.sizes-passed.result passed refl refl
     (omega (arith, c.requires.deep, length-map c.args.self.now.stack opened)) c.requires.nested
 

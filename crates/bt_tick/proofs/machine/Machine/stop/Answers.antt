@@ -25,5 +25,5 @@ pub returns-clause-mode : goal.returns-clause-mode
 returns-clause-mode g c =
     let rest = ap (λ xs. sizes (plains xs)) (take_rest c.args.children.now c.args.frame.next) in
     let e : c.args.at + c.sizes-passed.result ≡ c.args.frame.number + size (plain c.args.frame.node.now) =
-        omega (arith, rest, c.sizes-passed.ensures, stopped_at _ _ _ _ (opened c.args.frame) c.args.children.now c.requires.stands c.requires.children, room c.args.self.now.tree.now (plain c.args.frame.node.now) c.args.frame.number c.requires.stands.sits) in
+    omega (arith, rest, c.sizes-passed.ensures, stopped_at _ _ _ _ (opened c.args.frame) c.args.children.now c.requires.stands c.requires.children, room c.args.self.now.tree.now (plain c.args.frame.node.now) c.args.frame.number c.requires.stands.sits) in
     c.leave.ensures.mode ∙ ap (Up c.args.status) e
