@@ -7,3 +7,4 @@ pub mod Answered
 pub mod Places
 pub mod Asked
 pub mod Pushed
+pub mod Doors
