@@ -1,0 +1,3 @@
+pub mod Numbers
+pub mod Limits
+pub mod Seats
