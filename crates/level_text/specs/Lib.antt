@@ -8,3 +8,5 @@ pub mod Places
 pub mod Faults
 pub mod Kept
 pub mod Levels
+pub mod Written
+pub mod Marks

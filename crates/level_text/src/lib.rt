@@ -14,9 +14,12 @@ mod script;
 mod script_file;
 #[cfg(test)]
 mod script_tests;
+mod write;
+mod write_nodes;
 
 pub use level::Level;
 pub use level_fault::LevelFault;
 pub use read::{level_of, read_level};
 pub use script::Script;
 pub use script_file::{ScriptFault, read_script};
+pub use write::write_level;
