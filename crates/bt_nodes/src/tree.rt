@@ -84,8 +84,11 @@ impl<A: Allocator> Tree<A> {
     {
         Ok(Tree {
             root: self.root.copy_in(&alloc)?,
-            nodes: self.nodes,
-            levels: self.levels,
+            nodes: self.size(),
+            levels: self.depth(),
         })
     }
 }
+
+#[cfg(test)]
+mod tests;

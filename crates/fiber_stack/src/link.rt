@@ -48,7 +48,7 @@ impl<F: Copy, A: Allocator> Link<F, A> {
     }
 
     /// The same boxes in the other order.
-    fn reversed(mut self) -> Link<F, A>
+    pub(crate) fn reversed(mut self) -> Link<F, A>
         ensures { elements result ≡ reverse (elements self) }
     {
         let mut turned = Link::End;

@@ -119,3 +119,6 @@ impl<F: Copy, A: Allocator> Pile<F, A> {
         })
     }
 }
+
+#[cfg(test)]
+mod tests;

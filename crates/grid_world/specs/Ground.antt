@@ -1,9 +1,11 @@
 -- How a world is kept: its ground, which never changes, and the cells on which an item lies.
-use Rattle.std.specs.Prelude.{ℕ, ◌≡◌, ◌<◌, ◌≤◌, ◌==◌, Bool, List, [], All, AllPairs, length, map, position, Option, None, slice_index_or}
+use Rattle.std.specs.Prelude.{ℕ, ◌≡◌, ◌<◌, ◌≤◌, ◌==◌, Bool, true, false, List, [], All, AllPairs, Contains, length, map, replicate, position, Option, None, slice_index_or}
 use Rattle.std.specs.List.{list_any}
 use Rattle.grid_world.specs.declared.cell.Agent.{Agent}
 use Rattle.grid_world.specs.declared.cell.Cell.{Cell}
+use Rattle.grid_world.specs.declared.cell.Cell.TheVariants.{Wall, Floor, Door, Spot}
 use Rattle.grid_world.specs.Grid.{Grid, is_spot}
+use Rattle.grid_world.specs.Open.{is_passable}
 use Rattle.grid_world.specs.Map.{count_up}
 use Rattle.grid_world.specs.World.{IsSized, IsWorld}
 
@@ -18,9 +20,25 @@ ListsSpots table g = (p : ℕ) → p < 10 → slice_index_or table p None ≡ po
 abbrev pub is_among : List ℕ → ℕ → Bool
 is_among numbers i = list_any (λ j. j == i) numbers
 
--- a ground with its table
-pub record IsGround (g : Grid) (spots : List (Option ℕ)) : Type 0 where
+abbrev pub no_signals : List Bool
+no_signals = replicate 26 false
+
+abbrev pub is_door : Cell → Bool
+is_door Wall = false
+is_door Floor = false
+is_door (Door a) = true
+is_door (Spot p) = false
+
+-- each cell with a door is listed, and only cells are
+pub record ListsDoors (doors : List ℕ) (cells : List Cell) : Type 0 where
+  pub all : (i : ℕ) → i < length cells → is_door (slice_index_or cells i Wall) ≡ true → Contains doors i
+  pub within : All (λ i. i < length cells) doors
+
+-- a ground with its tables
+pub record IsGround (g : Grid) (floor : List Bool) (doors : List ℕ) (spots : List (Option ℕ)) : Type 0 where
   pub sized : IsSized g
+  pub passable : floor ≡ map (is_passable no_signals) g.cells
+  pub doored : ListsDoors doors g.cells
   pub listing : ListsSpots spots g
 
 -- for each of n cells whether it is among those listed

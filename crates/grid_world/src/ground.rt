@@ -1,11 +1,13 @@
-ghost use Rattle.std.specs.Prelude.{ℕ, length, position, slice_index_or, ◌≡◌, ◌<◌, ◌≤◌, ◌*◌, IfSome, Some, None, option_map, if◌then◌else◌};
+ghost use Rattle.std.specs.Prelude.{ℕ, IfOk, length, map, position, slice_index_or, ◌≡◌, ◌<◌, ◌≤◌, ◌*◌, IfSome, Some, None, option_map, if◌then◌else◌};
 ghost use Rattle.grid_world.specs.Grid.{cell_at, index_of, is_on_map, is_spot, place_of};
 ghost use Rattle.grid_world.specs.Open.{is_open, is_passable};
+ghost use Rattle.grid_world.specs.Ground.{ListsDoors, is_door, no_signals};
 ghost use Rattle.grid_world.specs.World.{IsSized, point};
 
 use crate::cell::Cell;
 use crate::place::Place;
 use crate::signal::Signals;
+use std::alloc::{AllocError, Global};
 use std::marker::Model;
 
 /// What of a world never changes: made once, and shared by all worlds that follow one another.
@@ -14,6 +16,8 @@ pub struct Ground {
     columns: u32,
     rows: u32,
     kinds: Vec<Cell>,
+    floor: Vec<bool>,
+    doors: Vec<u32>,
     spots: [Option<u32>; 10],
 }
 
@@ -26,15 +30,23 @@ impl Model for Ground {
 
     ghost view = { λ g. bare g.columns g.rows g.kinds.items };
 
-    ghost invariant = { λ g. IsGround (bare g.columns g.rows g.kinds.items) g.spots };
+    ghost invariant = { λ g. IsGround (bare g.columns g.rows g.kinds.items) g.floor.items g.doors.items g.spots };
 }
 
 impl Ground {
     ghost use Rattle.grid_world.specs.Ground.{bare};
 
-    /// The ground of these cells, row after row; no more can be refused it, since it takes no memory.
-    pub fn new(columns: u32, rows: u32, kinds: Vec<Cell>) -> Ground
-        requires { IsSized (bare columns rows kinds.items) }
+    /// The ground of these cells, row after row, with what `floor_in` and `doors_in` make of them. Takes no memory.
+    pub fn new(
+        columns: u32,
+        rows: u32,
+        kinds: Vec<Cell>,
+        floor: Vec<bool>,
+        doors: Vec<u32>,
+    ) -> Ground
+        requires sized { IsSized (bare columns rows kinds.items) }
+        requires floor { floor.items ≡ map (is_passable no_signals) kinds.items }
+        requires doors { ListsDoors doors.items kinds.items }
         ensures { result ≡ bare columns rows kinds.items }
     {
         let spots = spots_in(&kinds);
@@ -42,8 +54,31 @@ impl Ground {
             columns,
             rows,
             kinds,
+            floor,
+            doors,
             spots,
         }
+    }
+
+    /// The cells, row after row.
+    pub fn cells(&self) -> &[Cell]
+        ensures { result.now ≡ self.now.cells }
+    {
+        &self.kinds
+    }
+
+    /// For each cell whether it can be stepped on while all signals are off.
+    pub fn floor(&self) -> &[bool]
+        ensures { result.now ≡ map (is_passable no_signals) self.now.cells }
+    {
+        &self.floor
+    }
+
+    /// The numbers of the cells with a door.
+    pub fn doors(&self) -> &[u32]
+        ensures { ListsDoors result.now self.now.cells }
+    {
+        &self.doors
     }
 
     pub fn width(&self) -> u32
@@ -111,6 +146,42 @@ fn is_passable(cell: Cell, signals: &Signals) -> bool
         Cell::Door(signal) => signals.is_on(signal),
         Cell::Spot(_) => true,
     }
+}
+
+fn is_door(cell: &Cell) -> bool
+    ensures { result ≡ is_door cell.now }
+{
+    match cell {
+        Cell::Door(_) => true,
+        Cell::Wall => false,
+        Cell::Floor => false,
+        Cell::Spot(_) => false,
+    }
+}
+
+/// For each cell whether it can be stepped on while all signals are off.
+pub fn floor_in(alloc: Global, kinds: &[Cell]) -> Result<Vec<bool>, AllocError>
+    ensures { IfOk result (λ floor. floor.items ≡ map (is_passable no_signals) kinds.now) }
+{
+    let off = Signals::off();
+    kinds
+        .iter()
+        .map(|cell| is_passable(*cell, &off))
+        .collect(alloc)
+}
+
+/// The numbers of the cells with a door, in rising order.
+pub fn doors_in(alloc: Global, kinds: &[Cell]) -> Result<Vec<u32>, AllocError>
+    requires { length kinds.now ≤ 16384 }
+    ensures { IfOk result (λ doors. ListsDoors doors.items kinds.now) }
+{
+    let mut doors = Vec::new(alloc);
+    'cells: for (i, cell) in kinds.iter().enumerate() {
+        if is_door(cell) {
+            doors.push(i as u32)?;
+        }
+    }
+    Ok(doors)
 }
 
 fn is_spot(cell: &Cell, number: u32) -> bool

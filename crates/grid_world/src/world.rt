@@ -1,14 +1,14 @@
-ghost use Rattle.std.specs.Prelude.{MatchResult, slice_index, IfOk, IfErr, ◌⊎◌, ◌≡◌, AllPairs, ◌<◌, ◌≤◌, ◌++◌, ◌+◌, ◌&&◌, OnOk, OnErr, IfSome, position, Some, None, length, option_map, if◌then◌else◌, vec_len, vec_capacity};
+ghost use Rattle.std.specs.Prelude.{MatchResult, slice_index, IfOk, IfErr, ◌⊎◌, ◌≡◌, AllPairs, ◌<◌, ◌≤◌, ◌++◌, ◌+◌, ◌&&◌, OnOk, OnErr, IfSome, position, Some, None, length, map, option_map, if◌then◌else◌, vec_len, vec_capacity};
 ghost use Rattle.grid_world.specs.Grid.{is_on_map, cell_at, place_of, point_of, same_point};
-ghost use Rattle.grid_world.specs.Open.{is_open};
+ghost use Rattle.grid_world.specs.Open.{is_open, is_passable};
 ghost use Rattle.grid_world.specs.Glyphs.{glyph};
 ghost use Rattle.grid_world.specs.World.{IsWorld, point, row_glyphs};
-ghost use Rattle.grid_world.specs.Ground.{is_among, IsGap};
+ghost use Rattle.grid_world.specs.Ground.{is_among, IsGap, ListsDoors, no_signals};
 
 use crate::cell::{Agent, Cell};
 use crate::fault::MapFault;
 use crate::glyph::glyph_of;
-use crate::ground::Ground;
+use crate::ground::{Ground, doors_in, floor_in};
 use crate::map::{
     agents_in, cells_in, first_width, has_letters, has_size, item_cells_in, marks_in, strange_mark,
 };
@@ -101,7 +101,9 @@ impl World {
         let kinds = cells_in(alloc, &marks)?;
         let item_cells = item_cells_in(alloc, &marks)?;
         let crew = agents_in(alloc, columns, &marks)?;
-        let ground = Ground::new(columns, rows.len() as u32, kinds);
+        let floor = floor_in(alloc, &kinds)?;
+        let doors = doors_in(alloc, &kinds)?;
+        let ground = Ground::new(columns, rows.len() as u32, kinds, floor, doors);
         match Arc::new(alloc, ground) {
             Ok(ground) => Ok(World {
                 ground,
@@ -193,6 +195,27 @@ impl World {
         ensures { result ≡ is_open self.now signals (point x y) }
     {
         self.ground.is_open(signals, x, y)
+    }
+
+    /// The cells, row after row.
+    pub fn cells(&self) -> &[Cell]
+        ensures { result.now ≡ self.now.cells }
+    {
+        self.ground.cells()
+    }
+
+    /// For each cell, row after row, whether it can be stepped on while all signals are off.
+    pub fn floor(&self) -> &[bool]
+        ensures { result.now ≡ map (is_passable no_signals) self.now.cells }
+    {
+        self.ground.floor()
+    }
+
+    /// The numbers of the cells with a door, where cells are counted row after row.
+    pub fn doors(&self) -> &[u32]
+        ensures { ListsDoors result.now self.now.cells }
+    {
+        self.ground.doors()
     }
 
     /// The character that a cell is drawn as; `None` off the map.

@@ -1,16 +1,15 @@
 -- The queues after a pick from one of the priorities, where those above it gave nothing.
-use Rattle.std.proofs.Common.{◌≡◌, ℕ, Bool, true, false, if◌then◌else◌, ◌==◌, List, [], ◌∷◌, Option, Some, None, option_map, refl, sym, ap, ◌∙◌}
-use Rattle.job_core.specs.declared.names.JobName.{JobName}
+use Rattle.std.proofs.Common.{◌≡◌, ℕ, true, false, if◌then◌else◌, ◌==◌, List, [], ◌∷◌, Option, Some, None, option_map, refl, sym, ap, ◌∙◌}
 use Rattle.job_core.specs.Core.{same}
 use Rattle.job_core.proofs.ByCases.{by_eq}
-use Rattle.board_law.specs.Lists.{has, drop_first, Three, take_from}
+use Rattle.board_law.specs.Lists.{has, drop_first}
 use Rattle.board_law.specs.Pick.{lane}
 use Rattle.job_queues.specs.declared.lane.Lane.{Lane}
 use Rattle.job_queues.specs.declared.pick.Pick.{Pick}
 use Rattle.job_queues.specs.declared.pick.Pick.TheVariants.{Ready, New}
 use Rattle.job_queues.specs.Names.{picked}
 use Rattle.job_queues.specs.Waiting.{BoundedQueues, with_fresh, with_ready}
-use Rattle.job_queues.specs.Lanes.{may_start, IsPickedFrom}
+use Rattle.job_queues.specs.Lanes.{IsPickedFrom}
 use Rattle.job_queues.specs.Picks.{after_pick}
 use Rattle.job_queues.proofs.Threes.{taken_high, taken_normal, taken_low}
 use Rattle.job_queues.proofs.Picks.{nothing_given, given_may_start, none_starts}
@@ -34,7 +33,7 @@ own_fiber : (fiber : ℕ) (fibers : List ℕ) → (has (λ other. fiber == other
 own_fiber fiber fibers = by_eq fiber fiber (λ b. ((if b then true else has (λ other. fiber == other) fibers) ≡ true) × (fibers ≡ (if b then fibers else (fiber ∷ drop_first (λ other. fiber == other) fibers)))) (λ e. (refl, refl)) (λ n. absurd (n refl))
 
 -- the first ready fiber is the first entry of it
-fiber_gone : (fiber : ℕ) (old new : List ℕ) → old ≡ fiber ∷ new → (has (λ other. fiber == other) old ≡ true) × (new ≡ drop_first (λ other. fiber == other) old)
+pub fiber_gone : (fiber : ℕ) (old new : List ℕ) → old ≡ fiber ∷ new → (has (λ other. fiber == other) old ≡ true) × (new ≡ drop_first (λ other. fiber == other) old)
 fiber_gone fiber old new e =
     let o = own_fiber fiber new in
     (ap (has (λ other. fiber == other)) e ∙ o.0, o.1 ∙ ap (drop_first (λ other. fiber == other)) (sym e))

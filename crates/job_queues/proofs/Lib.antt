@@ -4,3 +4,4 @@ pub mod Picks
 pub mod Pools
 pub mod AfterPick
 pub mod Takings
+pub mod Given

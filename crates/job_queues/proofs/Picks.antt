@@ -1,22 +1,19 @@
 -- A pick takes the picked job or fiber out: an earlier entry of the same job would have been picked.
-use Rattle.std.proofs.Common.{◌≡◌, ◌≤◌, ◌<◌, ℕ, length, Bool, true, false, not, nat_le, ◌==◌, List, [], ◌∷◌, ◌++◌, Option, Some, None, find, cond, if◌then◌else◌, refl, sym, ap, ◌∙◌, arith}
-use Rattle.std.proofs.lemmas.Bool.{leb-true}
+use Rattle.std.proofs.Common.{◌≡◌, ℕ, length, Bool, true, false, nat_le, List, [], ◌∷◌, Option, Some, None, find, cond, if◌then◌else◌, refl, sym, ap, ◌∙◌, arith}
 use Rattle.job_core.specs.declared.names.JobName.{JobName}
-use Rattle.job_core.specs.declared.names.JobName.TheVariants.{Logic, Think, Path, Draw}
 use Rattle.job_core.specs.Core.{same, wants}
-use Rattle.job_core.proofs.ByCases.{by_same, by_eq}
-use Rattle.board_law.specs.Lists.{has, drop_first, Three, take_from}
+use Rattle.job_core.proofs.ByCases.{by_same}
+use Rattle.board_law.specs.Lists.{has, drop_first}
 use Rattle.board_law.specs.Board.{Queues}
 use Rattle.board_law.specs.Pick.{Pick, Ready, New, first_new, lane, pick}
 use Rattle.board_law.proofs.Kit.{by_bool}
 use Rattle.job_queues.specs.Lanes.{may_start}
-use Rattle.job_queues.proofs.Threes.{from_high, from_normal, from_low}
 
 abbrev or_else : Option Pick → Option Pick → Option Pick
 or_else None other = other
 or_else (Some x) other = Some x
 
-abbrev found_new : Option JobName → Option Pick
+abbrev pub found_new : Option JobName → Option Pick
 found_new None = None
 found_new (Some job) = Some (New job)
 
@@ -104,9 +101,13 @@ pub nothing_given : (free : ℕ) (ready : List ℕ) (fresh : List JobName) → N
 nothing_given free [] fresh e = (refl, first_new_none free fresh e)
 nothing_given free (f ∷ fs) fresh e = absurd cc
 
-found_new-some : (o : Option JobName) (job : JobName) → Some (New job) ≡ found_new o → o ≡ Some job
+pub found_new-some : (o : Option JobName) (job : JobName) → Some (New job) ≡ found_new o → o ≡ Some job
 found_new-some None job e = absurd cc
 found_new-some (Some other) job e = let i : other ≡ job = cc in ap Some i
+
+pub found_new-ready : (o : Option JobName) (fiber : ℕ) → Some (Ready fiber) ≡ found_new o → ⊥
+found_new-ready None fiber e = absurd cc
+found_new-ready (Some job) fiber e = absurd cc
 
 pub given_may_start : (free : ℕ) (ready : List ℕ) (fresh : List JobName) (job : JobName) → Some (New job) ≡ lane free ready fresh None → may_start free job ≡ true
 given_may_start free [] fresh job e = (first_of_name free job fresh (found_new-some (find (may_start free) fresh) job (e ∙ first_new_is free fresh))).0

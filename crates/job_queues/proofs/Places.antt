@@ -1,15 +1,14 @@
 -- The first item of a list that passes a test: what taking it out or changing it makes, by its place.
-use Rattle.std.proofs.Common.{◌≡◌, ◌<◌, ◌≤◌, ℕ, suc, ◌+◌, Bool, true, false, not, List, [], ◌∷◌, Option, Some, None, cond, if◌then◌else◌, find, length, position, slice_index_or, slice_set, slice_get, nat_lt, refl, ap, sym, ◌∙◌, arith}
+use Rattle.std.proofs.Common.{◌≡◌, ◌<◌, ◌≤◌, ℕ, suc, ◌+◌, Bool, true, false, not, List, [], ◌∷◌, Some, None, cond, if◌then◌else◌, find, length, position, slice_index_or, slice_set, nat_lt, refl, ap, sym, ◌∙◌, arith}
 use Rattle.std.specs.List.{remove, position_or_len}
 use Rattle.std.specs.Option.{is_some}
 use Rattle.std.proofs.lemmas.List.Folds.{find_at}
-use Rattle.std.proofs.lemmas.Grind.{common_steps}
 use Rattle.std.proofs.lemmas.Option.{slice_get-get_or, slice_get_past}
 use borrow.Author.Tests.{ltb-true, ltb-false}
 use Rattle.board_law.specs.Lists.{has, drop_first, change_first}
 use Rattle.board_law.proofs.Kit.{by_bool}
 use Rattle.board_law.proofs.Bridges.{has_is}
-use Rattle.job_queues.specs.Places.{IsFirst, HasNone, IsFirstPlace}
+use Rattle.job_queues.specs.Places.{IsFirstPlace}
 
 -- `1 + n` is `suc n`
 at_next : {X : Type 0} (x : X) (xs : List X) (n : ℕ) (d : X) → slice_index_or (x ∷ xs) (1 + n) d ≡ slice_index_or xs n d

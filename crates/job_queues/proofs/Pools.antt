@@ -1,5 +1,5 @@
 -- The pool's table: its front, and what is free there.
-use Rattle.std.proofs.Common.{◌≡◌, ◌<◌, ◌≤◌, ℕ, ◌+◌, Bool, List, ◌∷◌, length, take, slice_set, replicate, cond, count_by, position, nat_lt, Option, Some, None, refl, sym, ap, ◌∙◌, arith}
+use Rattle.std.proofs.Common.{◌≡◌, ◌<◌, ◌≤◌, ℕ, ◌+◌, Bool, List, ◌∷◌, length, take, slice_set, replicate, cond, count_by, position, nat_lt, Option, Some, None, refl, sym, ◌∙◌, arith}
 use Rattle.std.specs.List.{position_or_len}
 use Rattle.std.proofs.lemmas.List.{take-replicate}
 use Rattle.std.proofs.lemmas.List.Recursion.{is_count_by}

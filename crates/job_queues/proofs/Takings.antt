@@ -4,7 +4,7 @@ use Rattle.job_core.specs.declared.names.JobName.{JobName}
 use Rattle.job_core.specs.Core.{same}
 use Rattle.board_law.specs.Lists.{has, drop_first, all}
 use Rattle.job_queues.specs.declared.lane.Lane.{Lane}
-use Rattle.job_queues.specs.Waiting.{BoundedQueues, with_fresh, with_ready, without_job, without_fiber}
+use Rattle.job_queues.specs.Waiting.{with_fresh, with_ready, without_job, without_fiber}
 use Rattle.job_queues.proofs.Places.{drop_first_none}
 use Rattle.job_queues.proofs.Threes.{taken_high, taken_normal, taken_low, absent_all}
 use Rattle.job_queues.proofs.AfterPick.{queues_of}

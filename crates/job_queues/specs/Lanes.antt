@@ -1,5 +1,5 @@
 -- One priority's queues: which job may start, and what is left after a pick.
-use Rattle.std.specs.Prelude.{◌≡◌, ℕ, nat_le, ◌==◌, Bool, true, List, [], ◌∷◌, Option, Some, None}
+use Rattle.std.specs.Prelude.{◌≡◌, ℕ, nat_le, Bool, true, List, ◌∷◌, Option, Some, None}
 use Rattle.job_core.specs.declared.names.JobName.{JobName}
 use Rattle.job_core.specs.Core.{same, wants}
 use Rattle.job_queues.specs.declared.pick.Pick.{Pick}

@@ -4,9 +4,12 @@ pub mod Nodes
 pub mod Parts
 pub mod Names
 pub mod Drafts
+pub mod PlainCode
+pub mod GameCode
 pub mod Places
 pub mod Faults
 pub mod Kept
 pub mod Levels
 pub mod Written
 pub mod Marks
+pub mod Sessions

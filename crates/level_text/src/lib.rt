@@ -14,6 +14,7 @@ mod script;
 mod script_file;
 #[cfg(test)]
 mod script_tests;
+mod session;
 mod write;
 mod write_nodes;
 
@@ -22,4 +23,5 @@ pub use level_fault::LevelFault;
 pub use read::{level_of, read_level};
 pub use script::Script;
 pub use script_file::{ScriptFault, read_script};
+pub use session::Session;
 pub use write::write_level;

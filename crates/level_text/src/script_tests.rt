@@ -1,4 +1,4 @@
-use crate::{Script, ScriptFault, read_script};
+use crate::{Script, ScriptFault, Session, read_level, read_script};
 use grid_world::Signal;
 use std::test::Fail;
 
@@ -103,5 +103,27 @@ fn scripts_are_compared_by_value(rt: HostRuntime) -> Result<(), Fail> {
     assert!(rt; short.is_same(&ended));
     assert!(rt; !short.is_same(&longer));
     assert!(rt; !longer.is_same(&Script::empty(rt.alloc())));
+    Ok(())
+}
+
+#[test]
+fn a_session_gives_its_parts(rt: HostRuntime) -> Result<(), Fail> {
+    let level = read_level(
+        rt.alloc(),
+        br#"{"map":["Aa"],"agents":["t"],"trees":{"t":["not",["carrying"]]}}"#,
+    )?;
+    let script = read_script(rt.alloc(), b"1 on a\n3 off a\n")?;
+    let session = Session::new(level, script);
+    assert_eq!(rt; session.world().width(), 2);
+    assert_eq!(rt; session.world().agents().len(), 1);
+    assert_eq!(rt; session.level().trees(), 1);
+    for (frame, glyph) in [(0, b'a'), (1, b'/'), (2, b'/'), (3, b'a')] {
+        let signals = session.script().signals(frame);
+        assert_eq!(rt;
+            session.world().glyph_at(signals, 1, 0),
+            Some(glyph),
+            "in frame {frame}"
+        );
+    }
     Ok(())
 }

@@ -25,8 +25,13 @@ agents_in-requires-clause-few c =
     let size = IsRectangle-from_size (rows_of c.args.rows.now) (sym c.has_size.ensures ∙ c.if-not-has_size.false) in
     rw (c.deref-5.ensures.value, c.in_ok-marks.ensures) (few_marks _ size)
 
-pub new-ground-requires : goal.new-ground-requires
-new-ground-requires c =
+pub doors_in-requires : goal.doors_in-requires
+doors_in-requires c =
+    let size = IsRectangle-from_size (rows_of c.args.rows.now) (sym c.has_size.ensures ∙ c.if-not-has_size.false) in
+    rw (c.deref-7.ensures.value, c.in_ok-kinds.ensures, c.deref-3.ensures.value, c.in_ok-marks.ensures, length-map) (few_marks _ size)
+
+pub new-ground-requires-clause-sized : goal.new-ground-requires-clause-sized
+new-ground-requires-clause-sized c =
     let rows = rows_of c.args.rows.now in
     let size = IsRectangle-from_size rows (sym c.has_size.ensures ∙ c.if-not-has_size.false) in
     IsSized-parts rows size _ _ _ (record {

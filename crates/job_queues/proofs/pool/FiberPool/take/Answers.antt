@@ -1,4 +1,4 @@
-use Rattle.std.proofs.Common.{◌<◌, not, true, length, take, arith}
+use Rattle.std.proofs.Common.{◌<◌, not, true, arith}
 use Rattle.std.proofs.Common.{length-take}
 use Rattle.job_queues.specs.contracts.pool.FiberPool.{the_view}
 use Rattle.job_queues.proofs.Pools.{front_write, none_passes, first_found}

@@ -2,7 +2,7 @@ use Rattle.std.proofs.Common.{◌∙◌}
 use Rattle.job_queues.specs.Names.{picked}
 use Rattle.job_queues.specs.contracts.queues.Queues.{the_view}
 use Rattle.job_queues.proofs.Picks.{pick_high, pick_normal, pick_low}
-use Rattle.job_queues.proofs.AfterPick.{IsLanePick, after_high, after_normal, after_low}
+use Rattle.job_queues.proofs.AfterPick.{after_high, after_normal, after_low}
 use Rattle.job_queues.proofs.queues.Queues.pick.Goals as goal
 
 pub returns-in-Some-clause-value : goal.returns-in-Some-clause-value

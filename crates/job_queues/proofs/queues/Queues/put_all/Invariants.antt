@@ -3,7 +3,6 @@ use Rattle.std.specs.VecDeque.{deque_len, deque_capacity}
 use Rattle.job_core.specs.declared.names.JobName.{JobName}
 use Rattle.board_law.specs.Board.{put_all}
 use Rattle.job_queues.specs.Waiting.{BoundedQueues, with_fresh}
-use Rattle.job_queues.specs.declared.queues.Queues.TheInside.{Inside}
 use Rattle.job_queues.specs.declared.lane.Lane.{Lane}
 use Rattle.job_queues.specs.contracts.queues.Queues.{the_view}
 use Rattle.job_queues.proofs.queues.Queues.put_all.Given as goal

@@ -2,7 +2,7 @@ use Rattle.std.proofs.Common.{sym}
 use Rattle.job_core.specs.Core.{same}
 use Rattle.job_queues.specs.contracts.queues.Queues.{the_view}
 use Rattle.job_queues.proofs.Threes.{there_high, there_normal, there_low}
-use Rattle.job_queues.proofs.Takings.{IsJobTaken, job_from_high, job_from_normal, job_from_low, no_job, job_absent}
+use Rattle.job_queues.proofs.Takings.{job_from_high, job_from_normal, job_from_low, no_job, job_absent}
 use Rattle.job_queues.proofs.queues.Queues.take_out.Goals as goal
 
 pub returns-then-take_out-clause-after : goal.returns-then-take_out-clause-after

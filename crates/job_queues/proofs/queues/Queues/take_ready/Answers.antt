@@ -1,7 +1,7 @@
 use Rattle.std.proofs.Common.{◌==◌, sym}
 use Rattle.job_queues.specs.contracts.queues.Queues.{the_view}
 use Rattle.job_queues.proofs.Threes.{there_high, there_normal, there_low}
-use Rattle.job_queues.proofs.Takings.{IsFiberTaken, fiber_from_high, fiber_from_normal, fiber_from_low, no_ready, fiber_absent}
+use Rattle.job_queues.proofs.Takings.{fiber_from_high, fiber_from_normal, fiber_from_low, no_ready, fiber_absent}
 use Rattle.job_queues.proofs.queues.Queues.take_ready.Goals as goal
 
 pub returns-then-take_ready-clause-after : goal.returns-then-take_ready-clause-after

@@ -1,0 +1,212 @@
+use super::*;
+use bumpalo::Bump;
+use grid_world::{Place, Signal};
+use std::alloc::Global;
+use std::test::Fail;
+
+fn list(alloc: Global, length: u64) -> Result<Vec<Node<Global>>, AllocError> {
+    let mut nodes = Vec::new(alloc);
+    for _ in 0..length {
+        nodes.push(Node::Carrying)?;
+    }
+    Ok(nodes)
+}
+
+/// A condition inside so many `Not`s.
+fn nested(alloc: Global, inversions: u64) -> Result<Node<Global>, AllocError> {
+    let mut node = Node::Carrying;
+    for _ in 0..inversions {
+        node = Node::Not(Box::new(alloc, node)?);
+    }
+    Ok(node)
+}
+
+fn pair(
+    alloc: Global,
+    first: Node<Global>,
+    second: Node<Global>,
+) -> Result<Node<Global>, AllocError> {
+    let mut nodes = Vec::new(alloc);
+    nodes.push(first)?;
+    nodes.push(second)?;
+    Ok(Node::Seq(nodes))
+}
+
+fn fault(root: Node<Global>) -> Option<TreeFault> {
+    match Tree::new(root) {
+        Ok(_) => None,
+        Err((fault, _)) => Some(fault),
+    }
+}
+
+#[test]
+fn an_inverted_condition_is_copied_into_an_arena(rt: HostRuntime) -> Result<(), Fail> {
+    let Ok(tree) = Tree::new(nested(rt.alloc(), 1)?) else {
+        return Err("refused".into());
+    };
+    assert_eq!(rt; tree.size(), 2);
+    assert_eq!(rt; tree.depth(), 2);
+    let arena = Bump::new(rt.alloc());
+    let copy = tree.copy_in(&arena)?;
+    assert_eq!(rt; copy.size(), 2);
+    assert_eq!(rt; copy.depth(), 2);
+    assert_eq!(rt;
+        format!(in rt.alloc(); "{:?}", copy.root())?.as_str(),
+        "Not(Carrying)"
+    );
+    Ok(())
+}
+
+#[test]
+fn a_refused_root_comes_back(rt: HostRuntime) -> Result<(), Fail> {
+    let Err((fault, root)) = Tree::new(Node::Seq(Vec::<Node<Global>>::new(rt.alloc()))) else {
+        return Err("accepted".into());
+    };
+    assert_eq!(rt; fault, TreeFault::NoChild);
+    assert_eq!(rt; format!(in rt.alloc(); "{root:?}")?.as_str(), "Seq([])");
+    Ok(())
+}
+
+#[test]
+fn the_greatest_trees(rt: HostRuntime) -> Result<(), Fail> {
+    let alloc = rt.alloc();
+    assert_eq!(rt; fault(nested(alloc, 31)?), None);
+    assert_eq!(rt; fault(nested(alloc, 32)?), Some(TreeFault::TooDeep));
+    assert_eq!(rt; fault(Node::Seq(list(alloc, 254)?)), None);
+    assert_eq!(rt;
+        fault(Node::Seq(list(alloc, 255)?)),
+        Some(TreeFault::TooManyNodes)
+    );
+    Ok(())
+}
+
+#[test]
+fn each_limit_is_kept_at_its_ends(rt: HostRuntime) -> Result<(), Fail> {
+    let alloc = rt.alloc();
+    for (threshold, want) in [
+        (0, Some(TreeFault::Threshold)),
+        (1, None),
+        (2, None),
+        (3, Some(TreeFault::Threshold)),
+    ] {
+        let par = Node::Par(threshold, list(alloc, 2)?);
+        assert_eq!(rt; fault(par), want, "a threshold of {threshold}");
+    }
+    for (ticks, want) in [
+        (0, Some(TreeFault::Count)),
+        (1, None),
+        (1000, None),
+        (1001, Some(TreeFault::Count)),
+        (u64::MAX, Some(TreeFault::Count)),
+    ] {
+        assert_eq!(rt; fault(Node::Wait(ticks)), want, "wait {ticks}");
+        let tries = Node::Tries(ticks, Box::new(alloc, Node::Take)?);
+        assert_eq!(rt; fault(tries), want, "tries {ticks}");
+        let within = Node::Ticks(ticks, Box::new(alloc, Node::Drop)?);
+        assert_eq!(rt; fault(within), want, "ticks {ticks}");
+    }
+    for (distance, want) in [
+        (0, Some(TreeFault::Count)),
+        (1, None),
+        (16, None),
+        (17, Some(TreeFault::Count)),
+    ] {
+        assert_eq!(rt; fault(Node::Near(distance)), want, "near {distance}");
+    }
+    Ok(())
+}
+
+#[test]
+fn each_list_needs_a_child(rt: HostRuntime) -> Result<(), Fail> {
+    let alloc = rt.alloc();
+    assert_eq!(rt; fault(Node::Seq(list(alloc, 0)?)), Some(TreeFault::NoChild));
+    assert_eq!(rt;
+        fault(Node::Fallback(list(alloc, 0)?)),
+        Some(TreeFault::NoChild)
+    );
+    assert_eq!(rt;
+        fault(Node::SeqStar(list(alloc, 0)?)),
+        Some(TreeFault::NoChild)
+    );
+    assert_eq!(rt;
+        fault(Node::FallbackStar(list(alloc, 0)?)),
+        Some(TreeFault::NoChild)
+    );
+    assert_eq!(rt;
+        fault(Node::Par(1, list(alloc, 0)?)),
+        Some(TreeFault::NoChild)
+    );
+    Ok(())
+}
+
+// Of two faults the lower one is answered, though it stands later in the tree.
+#[test]
+fn faults_come_in_their_order(rt: HostRuntime) -> Result<(), Fail> {
+    let alloc = rt.alloc();
+    let many = pair(alloc, nested(alloc, 32)?, Node::Seq(list(alloc, 255)?))?;
+    assert_eq!(rt; fault(many), Some(TreeFault::TooManyNodes));
+    let deep = pair(alloc, Node::Seq(list(alloc, 0)?), nested(alloc, 31)?)?;
+    assert_eq!(rt; fault(deep), Some(TreeFault::TooDeep));
+    let childless = pair(
+        alloc,
+        Node::Par(3, list(alloc, 2)?),
+        Node::Seq(list(alloc, 0)?),
+    )?;
+    assert_eq!(rt; fault(childless), Some(TreeFault::NoChild));
+    let threshold = pair(alloc, Node::Wait(0), Node::Par(3, list(alloc, 2)?))?;
+    assert_eq!(rt; fault(threshold), Some(TreeFault::Threshold));
+    Ok(())
+}
+
+#[test]
+fn a_copy_has_every_kind_of_node(rt: HostRuntime) -> Result<(), Fail> {
+    let alloc = rt.alloc();
+    let (Some(place), Some(signal)) = (Place::new(4), Signal::new(25)) else {
+        return Err("no such place or signal".into());
+    };
+    let mut leaves = Vec::new(alloc);
+    leaves.push(Node::Wait(7))?;
+    leaves.push(Node::Move(place))?;
+    leaves.push(Node::Take)?;
+    leaves.push(Node::Drop)?;
+    leaves.push(Node::At(place))?;
+    leaves.push(Node::Carrying)?;
+    leaves.push(Node::Item)?;
+    leaves.push(Node::Signal(signal))?;
+    leaves.push(Node::Near(16))?;
+    let tries = Node::Tries(2, Box::new(alloc, Node::SeqStar(leaves))?);
+    let ticks = Node::Ticks(3, Box::new(alloc, Node::FallbackStar(list(alloc, 1)?))?);
+    let par = Node::Par(1, list(alloc, 2)?);
+    let both = pair(alloc, tries, pair(alloc, ticks, par)?)?;
+    let mut last = Vec::new(alloc);
+    last.push(Node::Not(Box::new(alloc, both)?))?;
+    let Ok(tree) = Tree::new(Node::Fallback(last)) else {
+        return Err("refused".into());
+    };
+    let copy = tree.copy_in(alloc)?;
+    assert_eq!(rt; copy.size(), 21);
+    assert_eq!(rt; copy.depth(), 7);
+    let text =
+        "Fallback([Not(Seq([Tries(2, SeqStar([Wait(7), Move(Place { digit: 4 }), Take, Drop, \
+        At(Place { digit: 4 }), Carrying, Item, Signal(Signal { letter: 25 }), Near(16)])), \
+        Seq([Ticks(3, FallbackStar([Carrying])), Par(1, [Carrying, Carrying])])]))])";
+    assert_eq!(rt; format!(in alloc; "{:?}", copy.root())?.as_str(), text);
+    Ok(())
+}
+
+#[test]
+fn sizes_and_depths_of_nodes(rt: HostRuntime) -> Result<(), Fail> {
+    let alloc = rt.alloc();
+    let nodes = [Node::Seq(list(alloc, 3)?), nested(alloc, 4)?];
+    assert_eq!(rt; nodes[0].size(), 4);
+    assert_eq!(rt; nodes[0].depth(), 2);
+    assert_eq!(rt; nodes[1].size(), 5);
+    assert_eq!(rt; nodes[1].depth(), 5);
+    assert_eq!(rt; Node::sizes(&nodes), 9);
+    let copy = nodes[0].copy_in(&alloc)?;
+    assert_eq!(rt;
+        format!(in alloc; "{copy:?}")?.as_str(),
+        "Seq([Carrying, Carrying, Carrying])"
+    );
+    Ok(())
+}

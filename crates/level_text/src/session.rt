@@ -1,0 +1,72 @@
+ghost use Rattle.std.specs.Prelude.{◌≡◌, ◌<◌, IsTrue, length, slice_index_or};
+ghost use Rattle.std.specs.List.{list_all};
+ghost use Rattle.bt_nodes.specs.Plain.{Does, Carries};
+ghost use Rattle.bt_nodes.specs.Trees.{plain_of};
+ghost use Rattle.level_text.specs.Places.{places, has_place};
+ghost use Rattle.level_text.specs.Levels.{value_of};
+ghost use Rattle.level_text.specs.Sessions.{game_of};
+
+use crate::level::Level;
+use crate::script::Script;
+use bt_nodes::Tree;
+use grid_world::World;
+use std::alloc::Global;
+use std::marker::Model;
+
+/// What is played: a level, and the script that changes its signals. It is seen as its game.
+#[derive(Drop)]
+pub struct Session {
+    level: Level,
+    script: Script,
+}
+
+impl Model for Session {
+    ghost use Rattle.game_rules.specs.Game.{Game};
+    ghost use Rattle.level_text.specs.GameCode.{game_code};
+
+    ghost Value = { Game };
+
+    ghost coded = { game_code };
+
+    ghost use Rattle.level_text.specs.Levels.{value_of};
+    ghost use Rattle.level_text.specs.Sessions.{game_of};
+
+    ghost view = { λ s. game_of (value_of s.level) s.script };
+}
+
+impl Session {
+    pub fn new(level: Level, script: Script) -> Session
+        ensures { result ≡ game_of (value_of level) script }
+    {
+        Session { level, script }
+    }
+
+    /// The world before the first frame.
+    pub fn world(&self) -> &World
+        ensures value { result.now ≡ self.now.world }
+        ensures agents { length result.now.agents ≡ length self.now.trees }
+    {
+        self.level.world()
+    }
+
+    /// The tree of an agent, in constant time. The places that it names are on the map.
+    pub fn tree_of(&self, agent: u32) -> &Tree<Global>
+        requires { agent < length self.now.trees }
+        ensures value { slice_index_or self.now.trees agent (Does Carries) ≡ plain_of result.now }
+        ensures placed { IsTrue (list_all (has_place self.now.world) (places (plain_of result.now))) }
+    {
+        self.level.tree_of(agent)
+    }
+
+    pub fn level(&self) -> &Level
+        ensures { game_of (value_of result.now) self.now.changes ≡ self.now }
+    {
+        &self.level
+    }
+
+    pub fn script(&self) -> &Script
+        ensures { result.now ≡ self.now.changes }
+    {
+        &self.script
+    }
+}
