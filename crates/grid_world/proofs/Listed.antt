@@ -30,7 +30,7 @@ is_among-found xs x i within at =
     list_any-from_Any (λ j. j == x) xs (i, x, within, get_or_default xs i x 0 within ∙ at, eq-eqb x x refl)
 
 -- no element of a list is x
-is_among-none : (xs : List ℕ) (x : ℕ) → ((k : ℕ) → k < length xs → get_or xs k 0 ≢ x) → is_among xs x ≡ false
+pub is_among-none : (xs : List ℕ) (x : ℕ) → ((k : ℕ) → k < length xs → get_or xs k 0 ≢ x) → is_among xs x ≡ false
 is_among-none xs x other = list_any_none (λ j. j == x) xs (λ k d l. ne_eqb _ _ (λ e. other k l (sym (get_or_default xs k d 0 l) ∙ e)))
 
 pub is_among-gap : (xs : List ℕ) (x i : ℕ) → IsGap xs x i → is_among xs x ≡ false

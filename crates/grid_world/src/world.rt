@@ -19,6 +19,9 @@ use std::marker::Model;
 use std::sync::Arc;
 
 mod changes;
+mod draw;
+#[cfg(test)]
+mod tests;
 
 pub use changes::resolve;
 
@@ -231,22 +234,5 @@ impl World {
             )),
             None => None,
         }
-    }
-
-    /// Appends the glyphs of a row, from the left. Takes no memory where the text has room for `width` more bytes.
-    pub fn draw_row(&self, signals: Signals, y: u32, text: &mut Vec<u8>) -> Result<(), AllocError>
-        requires { y < self.now.height }
-        ensures ok { OnOk result (text.new.items ≡ text.old.items ++ row_glyphs self.now signals y) }
-        ensures err { OnErr result (text.new.items ≡ text.old.items) }
-        ensures full { OnErr result (vec_capacity text.old < vec_len text.old + self.now.width) }
-    {
-        let mut row = [0; 128];
-        let width = self.width();
-        'cells: for x in 0..width {
-            if let Some(glyph) = self.glyph_at(signals, x, y) {
-                row[x as usize] = glyph;
-            }
-        }
-        text.extend_from_slice(&row[..width as usize])
     }
 }
