@@ -5,6 +5,8 @@ mod draft;
 mod leaves;
 mod level;
 mod level_fault;
+#[cfg(test)]
+mod level_tests;
 mod named_tree;
 mod nodes;
 mod parts;
