@@ -84,12 +84,21 @@ fn refused_memory(rt: HostRuntime) -> Result<(), Fail> {
     let row = world_of(alloc, &["A.0"])?;
     for bytes in [16, 48] {
         let small = LocalHeap::new(alloc, bytes)?;
-        assert_eq!(rt; ask(&small, &row, off, (0, 0), place(0)?), Err(PathFault::OutOfMemory));
+        assert_eq!(rt;
+            ask(&small, &row, off, (0, 0), place(0)?),
+            Err(PathFault::OutOfMemory)
+        );
         assert_eq!(rt; ask(&small, &row, off, (2, 0), place(0)?), Ok(Answer::Here));
-        assert_eq!(rt; ask(&small, &row, off, (3, 0), place(0)?), Err(PathFault::OffMap));
+        assert_eq!(rt;
+            ask(&small, &row, off, (3, 0), place(0)?),
+            Err(PathFault::OffMap)
+        );
     }
     let large = LocalHeap::new(alloc, 4096)?;
-    assert_eq!(rt; ask(&large, &row, off, (0, 0), place(0)?), Ok(Answer::Step(Dir::East, 2)));
+    assert_eq!(rt;
+        ask(&large, &row, off, (0, 0), place(0)?),
+        Ok(Answer::Step(Dir::East, 2))
+    );
     Ok(())
 }
 
