@@ -16,25 +16,31 @@ use Rattle.grid_world.proofs.Rows.{and_parts}
 
 -- the glyph of a cell that is on the map
 pub glyph-on_map : (g : Grid) (signals : List Bool) (p : Point) (cell : Cell) (agent : Option ℕ) (item : Bool)
-    → Some cell ≡ (if is_on_map g p then Some (cell_at g p) else None) → agent ≡ agent_on g p → item ≡ (is_on_map g p && has_item g p)
-    → Some (glyph_of cell (content_glyph agent item (base_glyph signals cell))) ≡ (if is_on_map g p then Some (glyph g signals p) else None)
+    → Some cell ≡ (if is_on_map g p then Some (cell_at g p) else None) → agent ≡ agent_on g p
+    → item ≡ (is_on_map g p && has_item g p)
+    → Some (glyph_of cell (content_glyph agent item (base_glyph signals cell)))
+    ≡ (if is_on_map g p then Some (glyph g signals p) else None)
 glyph-on_map g signals p cell agent item found stands lies = at_test (is_on_map g p) found lies
   where
     at_test : (b : Bool) → Some cell ≡ (if b then Some (cell_at g p) else None) → item ≡ (b && has_item g p)
-        → Some (glyph_of cell (content_glyph agent item (base_glyph signals cell))) ≡ (if b then Some (glyph g signals p) else None)
+        → Some (glyph_of cell (content_glyph agent item (base_glyph signals cell)))
+        ≡ (if b then Some (glyph g signals p) else None)
     at_test true e lies = let same : cell ≡ cell_at g p = cc in rw (same, stands, lies)
     at_test false e lies = absurd (cc)
 
 -- a row of which each glyph is right
 pub row_glyphs-from_each : (g : Grid) (signals : List Bool) (y : ℕ) (row : List ℕ) → g.width ≤ length row
-    → ((k : ℕ) → k < g.width → get_or row k 0 ≡ glyph g signals (point k y)) → take g.width row ≡ row_glyphs g signals y
+    → ((k : ℕ) → k < g.width → get_or row k 0 ≡ glyph g signals (point k y))
+    → take g.width row ≡ row_glyphs g signals y
 row_glyphs-from_each g signals y row long each =
     let f : ℕ → ℕ = λ x. glyph g signals (point x y) in
     let taken = length-take g.width row in
-    same_number_lists (take g.width row) (map f (count_up 0 g.width)) (omega (arith, taken, length-map-count_up f 0 g.width))
+    same_number_lists (take g.width row) (map f (count_up 0 g.width))
+    (omega (arith, taken, length-map-count_up f 0 g.width))
     (λ k within. let below : k < g.width = omega (arith, taken) in
     let zero_more : 0 + k ≡ k = omega arith in
-    get_or-take g.width row k 0 below ∙ each k below ∙ sym (get_or-map-count_up f 0 g.width k 0 below ∙ ap f zero_more))
+    get_or-take g.width row k 0 below ∙ each k below
+    ∙ sym (get_or-map-count_up f 0 g.width k 0 below ∙ ap f zero_more))
 
 -- an agent stands on no wall
 agent_on-Wall : (g : Grid) → IsWorld g → (p : Point) → cell_at g p ≡ Wall → agent_on g p ≡ None
@@ -56,40 +62,51 @@ has_item-Wall g world p wall = go (has_item g p) refl
     go false e = refl
     go true e = absurd (world.items_off_walls p e wall)
 
-over : (agent : Option ℕ) (item : Bool) (base : ℕ) → content_glyph agent false (if item then 42 else base) ≡ content_glyph agent item base
+over : (agent : Option ℕ) (item : Bool) (base : ℕ)
+    → content_glyph agent false (if item then 42 else base) ≡ content_glyph agent item base
 over (Some a) item base = refl
 over None true base = refl
 over None false base = refl
 
 -- a cell drawn over by its item, and then by its agent
-glyph-drawn_over : (signals : List Bool) (cell : Cell) (agent : Option ℕ) (item : Bool) → (cell ≡ Wall → agent ≡ None) → (cell ≡ Wall → item ≡ false)
-    → content_glyph agent false (if item then 42 else base_glyph signals cell) ≡ glyph_of cell (content_glyph agent item (base_glyph signals cell))
+glyph-drawn_over : (signals : List Bool) (cell : Cell) (agent : Option ℕ) (item : Bool)
+    → (cell ≡ Wall → agent ≡ None) → (cell ≡ Wall → item ≡ false)
+    → content_glyph agent false (if item then 42 else base_glyph signals cell)
+    ≡ glyph_of cell (content_glyph agent item (base_glyph signals cell))
 glyph-drawn_over signals Wall agent item no_agent no_item = rw (no_agent refl, no_item refl) refl
 glyph-drawn_over signals Floor agent item _ _ = over agent item (base_glyph signals Floor)
 glyph-drawn_over signals (Door a) agent item _ _ = over agent item (base_glyph signals (Door a))
 glyph-drawn_over signals (Spot p) agent item _ _ = over agent item (base_glyph signals (Spot p))
 
 -- a row drawn cell by cell, then item by item, then agent by agent
-pub row_glyphs-drawn_over : (g : Grid) → IsWorld g → (signals : List Bool) (y : ℕ) (listed : List ℕ) → g.items ≡ marked (length g.cells) listed → y < g.height
+pub row_glyphs-drawn_over : (g : Grid) → IsWorld g → (signals : List Bool) (y : ℕ) (listed : List ℕ)
+    → g.items ≡ marked (length g.cells) listed → y < g.height
     → (cells items agents : List ℕ) → g.width ≤ length agents
     → ((x : ℕ) → x < g.width → get_or cells x 0 ≡ base_glyph signals (get_or g.cells (y * g.width + x) Wall))
-    → ((x : ℕ) → x < g.width → get_or items x 0 ≡ (if is_among listed (y * g.width + x) then 42 else get_or cells x 0))
-    → ((x : ℕ) → x < g.width → get_or agents x 0 ≡ content_glyph (agent_on g (point x y)) false (get_or items x 0))
+    → ((x : ℕ) → x < g.width
+    → get_or items x 0 ≡ (if is_among listed (y * g.width + x) then 42 else get_or cells x 0))
+    → ((x : ℕ) → x < g.width
+    → get_or agents x 0 ≡ content_glyph (agent_on g (point x y)) false (get_or items x 0))
     → take g.width agents ≡ row_glyphs g signals y
 row_glyphs-drawn_over g world signals y listed marks row cells items agents long first second third =
     row_glyphs-from_each g signals y agents long (λ x column.
-    let small : y * g.width + x < length g.cells = omega (arith, world.sized.all_cells, index_below x column) in
+    let small : y * g.width + x < length g.cells = omega
+    (arith, world.sized.all_cells, index_below x column) in
     let lies : has_item g (point x y) ≡ is_among listed (y * g.width + x) =
-    ap (λ ms. get_or ms (y * g.width + x) false) marks ∙ get_or-marked (length g.cells) listed (y * g.width + x) small in
+    ap (λ ms. get_or ms (y * g.width + x) false) marks
+    ∙ get_or-marked (length g.cells) listed (y * g.width + x) small in
     third x column ∙ ap (content_glyph (agent_on g (point x y)) false) (second x column
-    ∙ ap (λ b. if b then 42 else get_or cells x 0) (sym lies) ∙ ap (λ n. if has_item g (point x y) then 42 else n) (first x column))
-    ∙ glyph-drawn_over signals (cell_at g (point x y)) (agent_on g (point x y)) (has_item g (point x y)) (agent_on-Wall g world (point x y)) (has_item-Wall g world (point x y)))
+    ∙ ap (λ b. if b then 42 else get_or cells x 0) (sym lies)
+    ∙ ap (λ n. if has_item g (point x y) then 42 else n) (first x column))
+    ∙ glyph-drawn_over signals (cell_at g (point x y)) (agent_on g (point x y)) (has_item g (point x y))
+    (agent_on-Wall g world (point x y)) (has_item-Wall g world (point x y)))
   where
     index_below : (x : ℕ) → x < g.width → y * g.width + x < g.width * g.height
     index_below x column = grind arith
 
 -- what was appended, where it could be
-pub appended : {X E : Type 0} (r : Result X E) (old new more : List ℕ) → new ≡ (if is_ok r then old ++ more else old) → (part : List ℕ) → more ≡ part
+pub appended : {X E : Type 0} (r : Result X E) (old new more : List ℕ)
+    → new ≡ (if is_ok r then old ++ more else old) → (part : List ℕ) → more ≡ part
     → OnOk r (new ≡ old ++ part)
 appended (Ok x) old new more e part same = e ∙ ap (λ xs. old ++ xs) same
 appended (Err f) old new more e part same = tt

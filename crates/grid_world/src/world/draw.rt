@@ -36,7 +36,8 @@ fn draw_cells(cells: &[Cell], start: u32, width: u32, signals: &Signals, row: &m
     requires cells { start + width ≤ length cells.now }
     requires fits { start + width < 2 ^ 32 }
     requires room { width ≤ length row.old }
-    ensures { (x : ℕ) → x < width → slice_index row.new x ≡ base_glyph signals.now (slice_index_or cells.now (start + x) Wall) }
+    ensures { (x : ℕ) → x < width →
+        slice_index row.new x ≡ base_glyph signals.now (slice_index_or cells.now (start + x) Wall) }
 {
     'cells: for x in 0..width {
         row[x as usize] = base_glyph(cells[(start + x) as usize], signals);
@@ -77,7 +78,8 @@ fn draw_agents(agents: &[Agent], y: u32, width: u32, row: &mut [u8])
     requires columns { All (λ agent. agent.x < width) agents.now }
     requires room { width ≤ length row.old }
     ensures { (x : ℕ) → x < width →
-        slice_index row.new x ≡ content_glyph (position (λ a. same_point (point_of a) (point x y)) agents.now) false (slice_index row.old x) }
+        slice_index row.new x ≡ content_glyph
+        (position (λ a. same_point (point_of a) (point x y)) agents.now) false (slice_index row.old x) }
 {
     'agents: for (number, agent) in agents.iter().enumerate() {
         if agent.y == y {
