@@ -8,3 +8,4 @@ pub mod Numbers
 pub mod Opening
 pub mod Outcomes
 pub mod Zero
+pub mod Fitting

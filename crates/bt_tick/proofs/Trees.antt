@@ -57,7 +57,7 @@ child_above cs zero at = omega arith
 child_above none (suc k) at = omega arith
 child_above (tree c cs) (suc k) at = omega (arith, child_above cs k (at + size c))
 
-append_nil : (xs : List ℕ) → xs ++ [] ≡ xs
+pub append_nil : (xs : List ℕ) → xs ++ [] ≡ xs
 append_nil [] = refl
 append_nil (x ∷ xs) = ap (λ l. x ∷ l) (append_nil xs)
 

@@ -6,3 +6,4 @@ pub mod Props
 pub mod Views
 pub mod Machine
 pub mod Outcome
+pub mod Fitting

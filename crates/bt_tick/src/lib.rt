@@ -4,6 +4,7 @@
 mod ascend;
 mod descend;
 mod fault;
+mod fits;
 mod frames;
 mod machine;
 mod memory;

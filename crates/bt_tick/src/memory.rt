@@ -10,7 +10,7 @@ use std::marker::Model;
 /// An agent's memory of its tree: a number for each node, in preorder from 0.
 #[derive(Drop)]
 pub struct Memory {
-    numbers: Vec<u64>,
+    pub(crate) numbers: Vec<u64>,
 }
 
 impl Model for Memory {
