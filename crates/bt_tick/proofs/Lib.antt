@@ -1,0 +1,11 @@
+pub mod Trees
+pub mod Steps
+pub mod Asked
+pub mod Forests
+pub mod Nests
+pub mod Leaving
+pub mod Numbers
+pub mod Opening
+pub mod Outcomes
+pub mod Zero
+pub mod Fitting

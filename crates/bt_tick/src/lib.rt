@@ -1,2 +1,21 @@
 // Ticks of behaviour trees that can be cut at any path question.
 #![tactic(auto)]
+
+mod ascend;
+mod descend;
+mod fault;
+mod fits;
+mod frames;
+mod machine;
+mod memory;
+mod open;
+mod pending;
+mod run;
+mod tick;
+mod view;
+
+pub use fault::TickFault;
+pub use memory::Memory;
+pub use run::{begin, resume};
+pub use tick::{Outcome, Pending};
+pub use view::View;

@@ -6,4 +6,4 @@ pub mod Numbered
 pub mod Answered
 pub mod Places
 pub mod Asked
-pub mod Pushed
+pub mod Doors

@@ -2,7 +2,7 @@
 ghost use Rattle.grid_path.specs.Bordered.{IsNext};
 ghost use Rattle.grid_path.specs.Levels.{at, IsBeside, Meets, IsFound};
 ghost use Rattle.grid_world.specs.declared.cell.Dir.{Dir};
-ghost use Rattle.std.specs.Prelude.{◌≡◌, ◌≢◌, ◌+◌, ◌<◌, ◌≤◌, ◌^◌, ℕ, true, length, count_by, slice_index};
+ghost use Rattle.std.specs.Prelude.{◌≡◌, ◌+◌, ◌<◌, ◌≤◌, ◌^◌, ℕ, true, length, count_by, slice_index};
 
 use crate::around::Around;
 use grid_world::Answer;
@@ -15,7 +15,8 @@ fn meet(unmet: &mut [bool], queue: &mut [u32], met: usize, cell: usize) -> usize
     requires cell { cell < length unmet.old }
     requires number { cell < 2 ^ 32 }
     requires room { met < length queue.old }
-    ensures meets { Meets (λ i. i ≡ cell) (at unmet.old) (at unmet.new) (slice_index queue.old) (slice_index queue.new) met result }
+    ensures meets { Meets (λ i. i ≡ cell) (at unmet.old) (at unmet.new)
+        (slice_index queue.old) (slice_index queue.new) met result }
     ensures counted { count_by (λ c. c) unmet.new + result ≡ count_by (λ c. c) unmet.old + met }
 {
     let is_new = unmet[cell];

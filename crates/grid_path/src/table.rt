@@ -1,5 +1,6 @@
 //! The table that a search begins with.
 ghost use Rattle.grid_path.specs.Bordered.{IsTable, open_row};
+ghost use Rattle.grid_world.specs.Ground.{no_signals};
 ghost use Rattle.std.specs.Prelude.{◌≡◌, ◌++◌, ◌<◌, false, IfOk, OnOk, replicate};
 
 use grid_world::{Signals, World};
@@ -15,19 +16,29 @@ fn push_border<A: Allocator>(table: &mut Vec<bool, A>, count: usize) -> Result<(
     Ok(())
 }
 
-// Appends the cells of a row of the map.
-fn push_row<A: Allocator>(
-    table: &mut Vec<bool, A>,
-    world: &World,
-    signals: Signals,
-    y: u32,
-) -> Result<(), AllocError>
-    ensures { OnOk result (table.new.items ≡ table.old.items ++ open_row world.now signals y) }
+// Appends the cells of a row of the map, with all doors shut.
+fn push_row<A: Allocator>(table: &mut Vec<bool, A>, world: &World, y: u32) -> Result<(), AllocError>
+    requires { y < world.now.height }
+    ensures { OnOk result (table.new.items ≡ table.old.items ++ open_row world.now no_signals y) }
 {
-    for x in 0..world.width() {
-        table.push(world.is_open(signals, x, y))?;
+    let width = world.width() as usize;
+    let start = y as usize * width;
+    let row = &world.floor()[start..start + width];
+    table.extend_from_slice(row)
+}
+
+// Opens the doors whose signal is on.
+fn open_doors(table: &mut [bool], world: &World, signals: Signals)
+    requires { IsTable world.now no_signals table.old }
+    ensures { IsTable world.now signals table.new }
+{
+    let width = world.width();
+    for door in world.doors() {
+        let x = *door % width;
+        let y = *door / width;
+        let number = (y as usize + 1) * (width as usize + 2) + x as usize + 1;
+        table[number] = world.is_open(signals, x, y);
     }
-    Ok(())
 }
 
 /// The open cells of a map and, around it, a border of cells that are not open: one `bool` for each cell, row after row.
@@ -43,9 +54,10 @@ pub(crate) fn open_cells<A: Allocator>(
     push_border(&mut table, stride)?;
     for y in 0..world.height() {
         table.push(false)?;
-        push_row(&mut table, world, signals, y)?;
+        push_row(&mut table, world, y)?;
         table.push(false)?;
     }
     push_border(&mut table, stride)?;
+    open_doors(&mut table, world, signals);
     Ok(table)
 }

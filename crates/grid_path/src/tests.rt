@@ -1,6 +1,7 @@
 //! Questions with known answers, and a search compared with numbers of steps that are found another way.
 use crate::{Answer, PathFault, ask};
 use grid_world::{Dir, Place, Signal, Signals, World};
+use linked_list_allocator::LocalHeap;
 use std::alloc::Global;
 use std::test::Fail;
 
@@ -70,6 +71,32 @@ fn two_equal_ways(rt: HostRuntime) -> Result<(), Fail> {
     );
     assert_eq!(rt;
         ask(alloc, &ring, Signals::off(), (1, 2), place(0)?),
+        Ok(Answer::Step(Dir::East, 2))
+    );
+    Ok(())
+}
+
+// A heap of 48 bytes has room for the table of 15 cells, and none for the queue.
+#[test]
+fn refused_memory(rt: HostRuntime) -> Result<(), Fail> {
+    let alloc = rt.alloc();
+    let off = Signals::off();
+    let row = world_of(alloc, &["A.0"])?;
+    for bytes in [16, 48] {
+        let small = LocalHeap::new(alloc, bytes)?;
+        assert_eq!(rt;
+            ask(&small, &row, off, (0, 0), place(0)?),
+            Err(PathFault::OutOfMemory)
+        );
+        assert_eq!(rt; ask(&small, &row, off, (2, 0), place(0)?), Ok(Answer::Here));
+        assert_eq!(rt;
+            ask(&small, &row, off, (3, 0), place(0)?),
+            Err(PathFault::OffMap)
+        );
+    }
+    let large = LocalHeap::new(alloc, 4096)?;
+    assert_eq!(rt;
+        ask(&large, &row, off, (0, 0), place(0)?),
         Ok(Answer::Step(Dir::East, 2))
     );
     Ok(())

@@ -8,26 +8,33 @@ use Rattle.grid_world.specs.Intents.{apply, apply_all, handed, moved, with_agent
 use Rattle.grid_world.specs.Open.{is_open}
 use Rattle.grid_world.specs.Walks.{next}
 
-length-if : (b : Bool) (g h : Grid) → length g.agents ≡ length h.agents → length (if b then g else h).agents ≡ length h.agents
+length-if : (b : Bool) (g h : Grid) → length g.agents ≡ length h.agents
+    → length (if b then g else h).agents ≡ length h.agents
 length-if true g h same = same
 length-if false g h same = refl
 
 -- no agent comes or goes
-pub length-apply : (g : Grid) (signals : List Bool) (a : ℕ) (intent : Intent) → length (apply g signals a intent).agents ≡ length g.agents
+pub length-apply : (g : Grid) (signals : List Bool) (a : ℕ) (intent : Intent)
+    → length (apply g signals a intent).agents ≡ length g.agents
 length-apply g signals a Stay = refl
 length-apply g signals a (Move d) = go (next d (point_of (agent_of g a)))
   where
     go : (target : Option Point) → length (moved g signals a target).agents ≡ length g.agents
     go None = refl
-    go (Some p) = length-if (is_open g signals p && is_none (agent_on g p)) (with_agent g a (record (agent_of g a) { x = p.x; y = p.y })) g (length-set g.agents a _)
+    go (Some p) = length-if (is_open g signals p && is_none (agent_on g p))
+        (with_agent g a (record (agent_of g a) { x = p.x; y = p.y })) g (length-set g.agents a _)
 length-apply g signals a Take =
-    length-if (not (agent_of g a).carrying && has_item g (point_of (agent_of g a))) (handed g a true) g (length-set g.agents a _)
+    length-if (not (agent_of g a).carrying && has_item g (point_of (agent_of g a))) (handed g a true) g
+    (length-set g.agents a _)
 length-apply g signals a Drop =
-    length-if ((agent_of g a).carrying && not (has_item g (point_of (agent_of g a)))) (handed g a false) g (length-set g.agents a _)
+    length-if ((agent_of g a).carrying && not (has_item g (point_of (agent_of g a)))) (handed g a false) g
+    (length-set g.agents a _)
 
 -- one intent more
-pub apply_all-left : (g : Grid) (signals : List Bool) (a : ℕ) (intents : List Intent) (d : Intent) → a < length intents
-    → apply_all g signals a (drop a intents) ≡ apply_all (apply g signals a (get_or intents a d)) signals (a + 1) (drop (a + 1) intents)
+pub apply_all-left : (g : Grid) (signals : List Bool) (a : ℕ) (intents : List Intent) (d : Intent)
+    → a < length intents
+    → apply_all g signals a (drop a intents)
+    ≡ apply_all (apply g signals a (get_or intents a d)) signals (a + 1) (drop (a + 1) intents)
 apply_all-left g signals a intents d within =
     let next_one : suc a ≡ a + 1 = omega arith in
     ap (apply_all g signals a) (drop_more intents a d within)

@@ -4,7 +4,8 @@ use Rattle.std.specs.List.{list_all, filter_map, cons_option}
 use Rattle.std.proofs.lemmas.List.{append-nil}
 use Rattle.grid_world.specs.Map.{count_up}
 
-pub get_or-map-count_up : {X : Type 0} (f : ℕ → X) (a n i : ℕ) (d : X) → i < n → get_or (map f (count_up a n)) i d ≡ f (a + i)
+pub get_or-map-count_up : {X : Type 0} (f : ℕ → X) (a n i : ℕ) (d : X) → i < n
+    → get_or (map f (count_up a n)) i d ≡ f (a + i)
 unfolding count_up
 get_or-map-count_up f a zero i d h = absurd (omega arith)
 get_or-map-count_up f a (suc n) zero d h = let e : a ≡ a + zero = omega arith in ap f e
@@ -30,10 +31,12 @@ count_up-none_left i n h = let e : n - i ≡ 0 = omega arith in rw e refl
 
 -- a test of the numbers that are left: one is tested, one fails, none is left
 module _ (test : ℕ → Bool) (k n : ℕ) (all : Bool) where
-  one_tested : k < n → list_all test (count_up k (n - k)) ≡ (test k && list_all test (count_up (k + 1) (n - (k + 1))))
+  one_tested : k < n → list_all test (count_up k (n - k))
+      ≡ (test k && list_all test (count_up (k + 1) (n - (k + 1))))
   one_tested h = ap (list_all test) (count_up-left k n h)
 
-  pub passed_one : k < n → test k ≡ true → list_all test (count_up k (n - k)) ≡ all → list_all test (count_up (k + 1) (n - (k + 1))) ≡ all
+  pub passed_one : k < n → test k ≡ true → list_all test (count_up k (n - k)) ≡ all
+      → list_all test (count_up (k + 1) (n - (k + 1))) ≡ all
   passed_one h t e = sym (one_tested h ∙ ap (λ t. t && list_all test (count_up (k + 1) (n - (k + 1)))) t) ∙ e
 
   pub failed_one : k < n → test k ≡ false → list_all test (count_up k (n - k)) ≡ all → false ≡ all
@@ -54,4 +57,5 @@ module _ {X : Type 0} (make : ℕ → Option X) (k n : ℕ) (made all : List X) 
       joined (Some x) = append_assoc made (x ∷ []) (filter_map make (count_up (k + 1) (n - (k + 1))))
 
   pub made_all : n ≤ k → made ++ filter_map make (count_up k (n - k)) ≡ all → made ≡ all
-  made_all h e = sym (append-nil made) ∙ sym (ap (λ ks. made ++ filter_map make ks) (count_up-none_left k n h)) ∙ e
+  made_all h e = sym (append-nil made)
+      ∙ sym (ap (λ ks. made ++ filter_map make ks) (count_up-none_left k n h)) ∙ e

@@ -1,53 +1,112 @@
 -- The glyphs of a cell and of a row.
-use Rattle.std.proofs.Common.{Result, Ok, Err, is_ok, OnOk, ◌++◌, get_or-take, ◌∙◌, ap, lt-ltb, set, ◌≢◌, below_more, get_or-set_other, get_or-set_same, map, take, length, get_or, ◌+◌, ◌<◌, ◌≤◌, arith, sym, length-take, ◌≡◌, ℕ, Bool, true, false, ◌&&◌, if◌then◌else◌, List, Option, Some, None}
+use Rattle.std.proofs.Common.{◌*◌, ◌==◌, eqb-true, refl, Result, Ok, Err, is_ok, OnOk, ◌++◌, get_or-take, ◌∙◌, ap, map, take, length, get_or, ◌+◌, ◌<◌, ◌≤◌, arith, sym, length-take, ◌≡◌, ℕ, Bool, true, false, ◌&&◌, if◌then◌else◌, List, Option, Some, None}
 use Rattle.std.proofs.lemmas.Grind.{same_number_lists}
+use Rattle.std.proofs.lemmas.List.Quantifiers.{position-Some}
+use Rattle.grid_world.specs.declared.cell.Agent.{Agent}
 use Rattle.grid_world.specs.declared.cell.Cell.{Cell}
-use Rattle.grid_world.specs.Grid.{Grid, Point, agent_on, cell_at, has_item, is_on_map}
+use Rattle.grid_world.specs.declared.cell.Cell.TheVariants.{Wall, Floor, Door, Spot}
+use Rattle.grid_world.specs.Grid.{Grid, Point, agent_on, cell_at, has_item, is_on_map, point_of, same_point}
+use Rattle.grid_world.specs.Ground.{is_among, marked}
 use Rattle.grid_world.specs.Glyphs.{base_glyph, content_glyph, glyph, glyph_of}
 use Rattle.grid_world.specs.Map.{count_up}
-use Rattle.grid_world.specs.World.{point, row_glyphs}
+use Rattle.grid_world.specs.World.{point, row_glyphs, IsWorld}
 use Rattle.grid_world.proofs.CountUp.{get_or-map-count_up, length-map-count_up}
+use Rattle.grid_world.proofs.Marked.{get_or-marked}
+use Rattle.grid_world.proofs.Rows.{and_parts}
 
 -- the glyph of a cell that is on the map
 pub glyph-on_map : (g : Grid) (signals : List Bool) (p : Point) (cell : Cell) (agent : Option ℕ) (item : Bool)
-    → Some cell ≡ (if is_on_map g p then Some (cell_at g p) else None) → agent ≡ agent_on g p → item ≡ (is_on_map g p && has_item g p)
-    → Some (glyph_of cell (content_glyph agent item (base_glyph signals cell))) ≡ (if is_on_map g p then Some (glyph g signals p) else None)
+    → Some cell ≡ (if is_on_map g p then Some (cell_at g p) else None) → agent ≡ agent_on g p
+    → item ≡ (is_on_map g p && has_item g p)
+    → Some (glyph_of cell (content_glyph agent item (base_glyph signals cell)))
+    ≡ (if is_on_map g p then Some (glyph g signals p) else None)
 glyph-on_map g signals p cell agent item found stands lies = at_test (is_on_map g p) found lies
   where
     at_test : (b : Bool) → Some cell ≡ (if b then Some (cell_at g p) else None) → item ≡ (b && has_item g p)
-        → Some (glyph_of cell (content_glyph agent item (base_glyph signals cell))) ≡ (if b then Some (glyph g signals p) else None)
+        → Some (glyph_of cell (content_glyph agent item (base_glyph signals cell)))
+        ≡ (if b then Some (glyph g signals p) else None)
     at_test true e lies = let same : cell ≡ cell_at g p = cc in rw (same, stands, lies)
     at_test false e lies = absurd (cc)
 
 -- a row of which each glyph is right
 pub row_glyphs-from_each : (g : Grid) (signals : List Bool) (y : ℕ) (row : List ℕ) → g.width ≤ length row
-    → ((k : ℕ) → k < g.width → get_or row k 0 ≡ glyph g signals (point k y)) → take g.width row ≡ row_glyphs g signals y
+    → ((k : ℕ) → k < g.width → get_or row k 0 ≡ glyph g signals (point k y))
+    → take g.width row ≡ row_glyphs g signals y
 row_glyphs-from_each g signals y row long each =
     let f : ℕ → ℕ = λ x. glyph g signals (point x y) in
     let taken = length-take g.width row in
-    same_number_lists (take g.width row) (map f (count_up 0 g.width)) (omega (arith, taken, length-map-count_up f 0 g.width))
+    same_number_lists (take g.width row) (map f (count_up 0 g.width))
+    (omega (arith, taken, length-map-count_up f 0 g.width))
     (λ k within. let below : k < g.width = omega (arith, taken) in
     let zero_more : 0 + k ≡ k = omega arith in
-    get_or-take g.width row k 0 below ∙ each k below ∙ sym (get_or-map-count_up f 0 g.width k 0 below ∙ ap f zero_more))
+    get_or-take g.width row k 0 below ∙ each k below
+    ∙ sym (get_or-map-count_up f 0 g.width k 0 below ∙ ap f zero_more))
 
-pub is_on_map-true : (g : Grid) (p : Point) → p.x < g.width → p.y < g.height → is_on_map g p ≡ true
-is_on_map-true g p column row = rw (lt-ltb _ _ column, lt-ltb _ _ row)
+-- an agent stands on no wall
+agent_on-Wall : (g : Grid) → IsWorld g → (p : Point) → cell_at g p ≡ Wall → agent_on g p ≡ None
+agent_on-Wall g world p wall = go (agent_on g p) refl
+  where
+    go : (o : Option ℕ) → agent_on g p ≡ o → o ≡ None
+    go None e = refl
+    go (Some a) e =
+        let d : Agent = record { x = 0; y = 0; carrying = false } in
+        let at = position-Some (λ b. same_point (point_of b) p) g.agents a d e in
+        let both = and_parts ((get_or g.agents a d).x == p.x) ((get_or g.agents a d).y == p.y) at.1 in
+        let same : point_of (get_or g.agents a d) ≡ p = rw (eqb-true _ _ both.0, eqb-true _ _ both.1) refl in
+        absurd ((world.standing a d at.0).no_wall (ap (cell_at g) same ∙ wall))
 
--- what a reader answers on the map
-pub answered-on_map : {X : Type 0} (g : Grid) (p : Point) (found : Option X) (x : X) → p.x < g.width → p.y < g.height
-    → found ≡ (if is_on_map g p then Some x else None) → found ≡ Some x
-answered-on_map g p found x column row e = e ∙ ap (λ b. if b then Some x else None) (is_on_map-true g p column row)
+has_item-Wall : (g : Grid) → IsWorld g → (p : Point) → cell_at g p ≡ Wall → has_item g p ≡ false
+has_item-Wall g world p wall = go (has_item g p) refl
+  where
+    go : (b : Bool) → has_item g p ≡ b → b ≡ false
+    go false e = refl
+    go true e = absurd (world.items_off_walls p e wall)
 
--- one glyph more of a row
-pub each-set : (f : ℕ → ℕ) (row : List ℕ) (x glyph : ℕ) → x < length row → glyph ≡ f x → ((k : ℕ) → k < x → get_or row k 0 ≡ f k)
-    → (k : ℕ) → k < x + 1 → get_or (set row x glyph) k 0 ≡ f k
-each-set f row x glyph within right before =
-    below_more _ _
-    (λ k below. let other : k ≢ x = omega arith in rw get_or-set_other (before k below))
-    (rw get_or-set_same right)
+over : (agent : Option ℕ) (item : Bool) (base : ℕ)
+    → content_glyph agent false (if item then 42 else base) ≡ content_glyph agent item base
+over (Some a) item base = refl
+over None true base = refl
+over None false base = refl
+
+-- a cell drawn over by its item, and then by its agent
+glyph-drawn_over : (signals : List Bool) (cell : Cell) (agent : Option ℕ) (item : Bool)
+    → (cell ≡ Wall → agent ≡ None) → (cell ≡ Wall → item ≡ false)
+    → content_glyph agent false (if item then 42 else base_glyph signals cell)
+    ≡ glyph_of cell (content_glyph agent item (base_glyph signals cell))
+glyph-drawn_over signals Wall agent item no_agent no_item = rw (no_agent refl, no_item refl) refl
+glyph-drawn_over signals Floor agent item _ _ = over agent item (base_glyph signals Floor)
+glyph-drawn_over signals (Door a) agent item _ _ = over agent item (base_glyph signals (Door a))
+glyph-drawn_over signals (Spot p) agent item _ _ = over agent item (base_glyph signals (Spot p))
+
+-- a row drawn cell by cell, then item by item, then agent by agent
+pub row_glyphs-drawn_over : (g : Grid) → IsWorld g → (signals : List Bool) (y : ℕ) (listed : List ℕ)
+    → g.items ≡ marked (length g.cells) listed → y < g.height
+    → (cells items agents : List ℕ) → g.width ≤ length agents
+    → ((x : ℕ) → x < g.width → get_or cells x 0 ≡ base_glyph signals (get_or g.cells (y * g.width + x) Wall))
+    → ((x : ℕ) → x < g.width
+    → get_or items x 0 ≡ (if is_among listed (y * g.width + x) then 42 else get_or cells x 0))
+    → ((x : ℕ) → x < g.width
+    → get_or agents x 0 ≡ content_glyph (agent_on g (point x y)) false (get_or items x 0))
+    → take g.width agents ≡ row_glyphs g signals y
+row_glyphs-drawn_over g world signals y listed marks row cells items agents long first second third =
+    row_glyphs-from_each g signals y agents long (λ x column.
+    let small : y * g.width + x < length g.cells = omega
+    (arith, world.sized.all_cells, index_below x column) in
+    let lies : has_item g (point x y) ≡ is_among listed (y * g.width + x) =
+    ap (λ ms. get_or ms (y * g.width + x) false) marks
+    ∙ get_or-marked (length g.cells) listed (y * g.width + x) small in
+    third x column ∙ ap (content_glyph (agent_on g (point x y)) false) (second x column
+    ∙ ap (λ b. if b then 42 else get_or cells x 0) (sym lies)
+    ∙ ap (λ n. if has_item g (point x y) then 42 else n) (first x column))
+    ∙ glyph-drawn_over signals (cell_at g (point x y)) (agent_on g (point x y)) (has_item g (point x y))
+    (agent_on-Wall g world (point x y)) (has_item-Wall g world (point x y)))
+  where
+    index_below : (x : ℕ) → x < g.width → y * g.width + x < g.width * g.height
+    index_below x column = grind arith
 
 -- what was appended, where it could be
-pub appended : {X E : Type 0} (r : Result X E) (old new more : List ℕ) → new ≡ (if is_ok r then old ++ more else old) → (part : List ℕ) → more ≡ part
+pub appended : {X E : Type 0} (r : Result X E) (old new more : List ℕ)
+    → new ≡ (if is_ok r then old ++ more else old) → (part : List ℕ) → more ≡ part
     → OnOk r (new ≡ old ++ part)
 appended (Ok x) old new more e part same = e ∙ ap (λ xs. old ++ xs) same
 appended (Err f) old new more e part same = tt

@@ -19,32 +19,40 @@ use Rattle.grid_world.proofs.Rows.{IsRectangle, and_parts}
 
 -- an item put before others, if there is one
 module _ {X : Type 0} where
-  All-cons_option : (P : X → Type 0) (o : Option X) (xs : List X) → ((x : X) → o ≡ Some x → P x) → All P xs → All P (cons_option o xs)
+  All-cons_option : (P : X → Type 0) (o : Option X) (xs : List X) → ((x : X) → o ≡ Some x → P x) → All P xs
+      → All P (cons_option o xs)
   All-cons_option P None xs first rest = rest
   All-cons_option P (Some x) xs first rest = All-cons P x xs (first x refl) rest
 
-  AllPairs-cons_option : (R : X → X → Type 0) (o : Option X) (xs : List X) → ((x : X) → o ≡ Some x → All (R x) xs) → AllPairs R xs → AllPairs R (cons_option o xs)
+  AllPairs-cons_option : (R : X → X → Type 0) (o : Option X) (xs : List X)
+      → ((x : X) → o ≡ Some x → All (R x) xs) → AllPairs R xs → AllPairs R (cons_option o xs)
   AllPairs-cons_option R None xs first rest = rest
   AllPairs-cons_option R (Some x) xs first rest = AllPairs-cons R x xs (first x refl) rest
 
-  length-cons_option : (o : Option X) (xs : List X) (n : ℕ) → length xs ≤ n → length (cons_option o xs) ≤ suc n
+  length-cons_option : (o : Option X) (xs : List X) (n : ℕ) → length xs ≤ n
+      → length (cons_option o xs) ≤ suc n
   length-cons_option None xs n few = omega arith
   length-cons_option (Some x) xs n few = omega arith
 
 -- what holds of each item made of the numbers counted up, of each two of them, and of how many there are
 module _ {X : Type 0} (make : ℕ → Option X) where
-  All-made : (P : X → Type 0) (a n : ℕ) → ((k : ℕ) (x : X) → a ≤ k → make k ≡ Some x → P x) → All P (filter_map make (count_up a n))
+  All-made : (P : X → Type 0) (a n : ℕ) → ((k : ℕ) (x : X) → a ≤ k → make k ≡ Some x → P x)
+      → All P (filter_map make (count_up a n))
   unfolding count_up
   All-made P a zero each = λ k d l. absurd (omega arith)
   All-made P a (suc n) each =
-      All-cons_option P (make a) _ (λ x e. each a x (omega arith) e) (All-made P (suc a) n (λ k x after. each k x (omega arith)))
+      All-cons_option P (make a) _ (λ x e. each a x (omega arith) e)
+      (All-made P (suc a) n (λ k x after. each k x (omega arith)))
 
-  AllPairs-made : (R : X → X → Type 0) (a n : ℕ) → ((k l : ℕ) (x y : X) → k < l → make k ≡ Some x → make l ≡ Some y → R x y)
+  AllPairs-made : (R : X → X → Type 0) (a n : ℕ)
+      → ((k l : ℕ) (x y : X) → k < l → make k ≡ Some x → make l ≡ Some y → R x y)
       → AllPairs R (filter_map make (count_up a n))
   unfolding count_up
   AllPairs-made R a zero each = λ i j d before within. absurd (omega arith)
   AllPairs-made R a (suc n) each =
-      AllPairs-cons_option R (make a) _ (λ x e. All-made (R x) (suc a) n (λ k y after found. each a k x y (omega arith) e found)) (AllPairs-made R (suc a) n each)
+      AllPairs-cons_option R (make a) _
+      (λ x e. All-made (R x) (suc a) n (λ k y after found. each a k x y (omega arith) e found))
+      (AllPairs-made R (suc a) n each)
 
   length-made : (a n : ℕ) → length (filter_map make (count_up a n)) ≤ n
   unfolding count_up
@@ -55,7 +63,9 @@ module _ {X : Type 0} (make : ℕ → Option X) where
 cell_of-Wall : (c : ℕ) → cell_of c ≡ Wall → c ≡ 35
 cell_of-Wall c e = go (c == 35) (is_between 97 122 c) (is_between 48 57 c) refl e
   where
-    go : (wall door spot : Bool) → (c == 35) ≡ wall → (if wall then Wall else (if door then Door (c - 97) else (if spot then Spot (c - 48) else Floor))) ≡ Wall → c ≡ 35
+    go : (wall door spot : Bool) → (c == 35) ≡ wall
+        → (if wall then Wall else (if door then Door (c - 97) else (if spot then Spot (c - 48) else Floor)))
+        ≡ Wall → c ≡ 35
     go true door spot is e = eqb-true c 35 is
     go false true spot is e = absurd (cc)
     go false false true is e = absurd (cc)
@@ -68,10 +78,12 @@ record StandsAt (width : ℕ) (marks : List ℕ) (k : ℕ) (agent : Agent) : Typ
   letter : get_or marks index 35 ≡ 65 + k
   place : agent ≡ agent_at width index
 
-agent_in-Some : (width : ℕ) (marks : List ℕ) (k : ℕ) (agent : Agent) → agent_in width marks k ≡ Some agent → StandsAt width marks k agent
+agent_in-Some : (width : ℕ) (marks : List ℕ) (k : ℕ) (agent : Agent) → agent_in width marks k ≡ Some agent
+    → StandsAt width marks k agent
 agent_in-Some width marks k agent e = go (position (λ c. c == 65 + k) marks) refl e
   where
-    go : (o : Option ℕ) → position (λ c. c == 65 + k) marks ≡ o → option_map (agent_at width) o ≡ Some agent → StandsAt width marks k agent
+    go : (o : Option ℕ) → position (λ c. c == 65 + k) marks ≡ o → option_map (agent_at width) o ≡ Some agent
+        → StandsAt width marks k agent
     go None found made = absurd (cc)
     go (Some i) found made =
         let at = position-Some (λ c. c == 65 + k) marks i 35 found in
@@ -84,10 +96,12 @@ module _ (rows : List (List ℕ)) (size : IsRectangle rows) where
   index-agent_at : (i : ℕ) → index_of (grid_of rows) (point_of (agent_at (width_of rows) i)) ≡ i
   index-agent_at i = div-add-mod' i (width_of rows)
 
-  cell_at-mark : (p : Point) → cell_at (grid_of rows) p ≡ cell_of (get_or (marks_of rows) (index_of (grid_of rows) p) 35)
+  cell_at-mark : (p : Point)
+      → cell_at (grid_of rows) p ≡ cell_of (get_or (marks_of rows) (index_of (grid_of rows) p) 35)
   cell_at-mark p = get_or-map cell_of (marks_of rows) (index_of (grid_of rows) p) 35
 
-  stands : (k : ℕ) (agent : Agent) → agent_in (width_of rows) (marks_of rows) k ≡ Some agent → IsStanding (grid_of rows) agent
+  stands : (k : ℕ) (agent : Agent) → agent_in (width_of rows) (marks_of rows) k ≡ Some agent
+      → IsStanding (grid_of rows) agent
   stands k agent e =
       let at = agent_in-Some (width_of rows) (marks_of rows) k agent e in
       let within : at.index < length rows * width_of rows = omega (arith, at.within, size.all_marks) in
@@ -96,31 +110,41 @@ module _ (rows : List (List ℕ)) (size : IsRectangle rows) where
         row = (div-lt_iff_lt-mul some_columns).1 within;
         no_wall = λ wall.
             let mark = cell_of-Wall (get_or (marks_of rows) at.index 35)
-            (ap (λ i. cell_of (get_or (marks_of rows) i 35)) (sym (index-agent_at at.index)) ∙ sym (cell_at-mark _) ∙ wall) in
+            (ap (λ i. cell_of (get_or (marks_of rows) i 35)) (sym (index-agent_at at.index))
+            ∙ sym (cell_at-mark _) ∙ wall) in
             omega (arith, mark, at.letter);
       })
 
   -- two cells of different numbers are two points
-  apart : (i j : ℕ) → i ≢ j → same_point (point_of (agent_at (width_of rows) i)) (point_of (agent_at (width_of rows) j)) ≡ false
-  apart i j differ = go (same_point (point_of (agent_at (width_of rows) i)) (point_of (agent_at (width_of rows) j))) refl
+  apart : (i j : ℕ) → i ≢ j
+      → same_point (point_of (agent_at (width_of rows) i)) (point_of (agent_at (width_of rows) j)) ≡ false
+  apart i j differ = go
+      (same_point (point_of (agent_at (width_of rows) i)) (point_of (agent_at (width_of rows) j))) refl
     where
-      go : (same : Bool) → same_point (point_of (agent_at (width_of rows) i)) (point_of (agent_at (width_of rows) j)) ≡ same
+      go : (same : Bool) → same_point (point_of (agent_at (width_of rows) i))
+          (point_of (agent_at (width_of rows) j)) ≡ same
           → same_point (point_of (agent_at (width_of rows) i)) (point_of (agent_at (width_of rows) j)) ≡ false
       go false e = e
       go true e =
-          let both = and_parts (i % width_of rows == j % width_of rows) (i / width_of rows == j / width_of rows) e in
-          absurd (differ (sym (div-add-mod' i (width_of rows)) ∙ rw (eqb-true _ _ both.0, eqb-true _ _ both.1) (div-add-mod' j (width_of rows))))
+          let both = and_parts (i % width_of rows == j % width_of rows)
+          (i / width_of rows == j / width_of rows) e in
+          absurd (differ (sym (div-add-mod' i (width_of rows))
+          ∙ rw (eqb-true _ _ both.0, eqb-true _ _ both.1) (div-add-mod' j (width_of rows))))
 
-  stand_apart : (k l : ℕ) (a b : Agent) → k < l → agent_in (width_of rows) (marks_of rows) k ≡ Some a → agent_in (width_of rows) (marks_of rows) l ≡ Some b
+  stand_apart : (k l : ℕ) (a b : Agent) → k < l → agent_in (width_of rows) (marks_of rows) k ≡ Some a
+      → agent_in (width_of rows) (marks_of rows) l ≡ Some b
       → same_point (point_of a) (point_of b) ≡ false
   stand_apart k l a b before e f =
       let at = agent_in-Some (width_of rows) (marks_of rows) k a e in
       let bt = agent_in-Some (width_of rows) (marks_of rows) l b f in
-      rw (at.place, bt.place) (apart at.index bt.index (λ same. omega (arith, at.letter, bt.letter, ap (λ i. get_or (marks_of rows) i 35) same)))
+      rw (at.place, bt.place)
+      (apart at.index bt.index
+      (λ same. omega (arith, at.letter, bt.letter, ap (λ i. get_or (marks_of rows) i 35) same)))
 
   pub IsWorld-grid_of : IsWorld (grid_of rows)
   IsWorld-grid_of =
-      let full : length (marks_of rows) ≡ width_of rows * length rows = size.all_marks ∙ mul_comm (length rows) (width_of rows) in
+      let full : length (marks_of rows) ≡ width_of rows * length rows = size.all_marks
+      ∙ mul_comm (length rows) (width_of rows) in
       record {
         sized = record {
           some_columns = size.some_columns;
@@ -131,11 +155,14 @@ module _ (rows : List (List ℕ)) (size : IsRectangle rows) where
         };
         all_items = length-map (marks_of rows) (λ c. c == 42) ∙ full;
         few_agents = length-made (agent_in (width_of rows) (marks_of rows)) 0 26;
-        standing = All-made (agent_in (width_of rows) (marks_of rows)) (IsStanding (grid_of rows)) 0 26 (λ k agent _ e. stands k agent e);
-        apart = AllPairs-made (agent_in (width_of rows) (marks_of rows)) (λ a b. same_point (point_of a) (point_of b) ≡ false) 0 26 stand_apart;
+        standing = All-made (agent_in (width_of rows) (marks_of rows)) (IsStanding (grid_of rows)) 0 26
+            (λ k agent _ e. stands k agent e);
+        apart = AllPairs-made (agent_in (width_of rows) (marks_of rows))
+            (λ a b. same_point (point_of a) (point_of b) ≡ false) 0 26 stand_apart;
         items_off_walls = λ p lies wall.
             let mark = get_or (marks_of rows) (index_of (grid_of rows) p) 35 in
-            let item : mark ≡ 42 = eqb-true mark 42 (sym (get_or-map (λ c. c == 42) (marks_of rows) (index_of (grid_of rows) p) 35) ∙ lies) in
+            let item : mark ≡ 42 = eqb-true mark 42
+            (sym (get_or-map (λ c. c == 42) (marks_of rows) (index_of (grid_of rows) p) 35) ∙ lies) in
             let stone : mark ≡ 35 = cell_of-Wall mark (sym (cell_at-mark p) ∙ wall) in
             omega (arith, item, stone);
       }
@@ -146,7 +173,8 @@ pub record AreParts (rows : List (List ℕ)) (width height : ℕ) (kinds : List 
   pub high : height ≡ length rows
   pub ground : kinds ≡ map cell_of (marks_of rows)
 
-pub IsSized-parts : (rows : List (List ℕ)) → IsRectangle rows → (width height : ℕ) (kinds : List Cell) → AreParts rows width height kinds → IsSized (bare width height kinds)
+pub IsSized-parts : (rows : List (List ℕ)) → IsRectangle rows → (width height : ℕ) (kinds : List Cell)
+    → AreParts rows width height kinds → IsSized (bare width height kinds)
 IsSized-parts rows size width height kinds parts =
     let sized = (IsWorld-grid_of rows size).sized in
     rw (parts.wide, parts.high, parts.ground) (record {
@@ -157,18 +185,24 @@ IsSized-parts rows size width height kinds parts =
       all_cells = sized.all_cells;
     })
 
-pub furnished-parts : (rows : List (List ℕ)) (width height : ℕ) (kinds : List Cell) (listed : List ℕ) (agents : List Agent) → AreParts rows width height kinds
+pub furnished-parts : (rows : List (List ℕ)) (width height : ℕ) (kinds : List Cell) (listed : List ℕ)
+    (agents : List Agent) → AreParts rows width height kinds
     → marked (length (marks_of rows)) listed ≡ map (λ c. c == 42) (marks_of rows)
     → agents ≡ filter_map (agent_in (width_of rows) (marks_of rows)) (count_up 0 26)
     → furnished (bare width height kinds) listed agents ≡ grid_of rows
 furnished-parts rows width height kinds listed agents parts items stand =
     rw (parts.wide, parts.high, parts.ground, stand, length-map (marks_of rows) cell_of, items) refl
 
-pub IsKept-parts : (rows : List (List ℕ)) → IsRectangle rows → (width height : ℕ) (kinds : List Cell) (listed : List ℕ) (agents : List Agent) → AreParts rows width height kinds
-    → IsListed listed (length (marks_of rows)) → marked (length (marks_of rows)) listed ≡ map (λ c. c == 42) (marks_of rows)
+pub IsKept-parts : (rows : List (List ℕ)) → IsRectangle rows
+    → (width height : ℕ) (kinds : List Cell) (listed : List ℕ) (agents : List Agent)
+    → AreParts rows width height kinds
+    → IsListed listed (length (marks_of rows))
+    → marked (length (marks_of rows)) listed ≡ map (λ c. c == 42) (marks_of rows)
     → agents ≡ filter_map (agent_in (width_of rows) (marks_of rows)) (count_up 0 26)
     → IsKept (bare width height kinds) listed agents
 IsKept-parts rows size width height kinds listed agents parts listing items stand = record {
-  listing = subst (IsListed listed) (sym (ap length parts.ground ∙ length-map (marks_of rows) cell_of)) listing;
-  world = subst IsWorld (sym (furnished-parts rows width height kinds listed agents parts items stand)) (IsWorld-grid_of rows size);
+  listing = subst (IsListed listed)
+      (sym (ap length parts.ground ∙ length-map (marks_of rows) cell_of)) listing;
+  world = subst IsWorld (sym (furnished-parts rows width height kinds listed agents parts items stand))
+      (IsWorld-grid_of rows size);
 }

@@ -12,7 +12,8 @@ pub rows_of-left : (texts : List (String Global)) (i : ℕ) (d : String Global) 
     → rows_of (drop i texts) ≡ chars (string_bytes (get_or texts i d)) ∷ rows_of (drop (i + 1) texts)
 rows_of-left texts i d h = ap rows_of (drop_more texts i d h)
 
-pub rows_of-none_left : (texts : List (String Global)) (i : ℕ) → length texts ≤ i → rows_of (drop i texts) ≡ []
+pub rows_of-none_left : (texts : List (String Global)) (i : ℕ) → length texts ≤ i
+    → rows_of (drop i texts) ≡ []
 rows_of-none_left [] zero h = refl
 rows_of-none_left [] (suc i) h = refl
 rows_of-none_left (text ∷ texts) zero h = absurd (omega arith)
@@ -22,11 +23,18 @@ pub and_parts : (a b : Bool) → (a && b) ≡ true → (a ≡ true) × (b ≡ tr
 and_parts true b h = (refl, h)
 and_parts false b h = absurd (cc)
 
-pub length-marks_of : (width : ℕ) (rows : List (List ℕ)) → list_all (λ row. length row == width) rows ≡ true → length (marks_of rows) ≡ length rows * width
+pub length-marks_of : (width : ℕ) (rows : List (List ℕ)) → list_all (λ row. length row == width) rows ≡ true
+    → length (marks_of rows) ≡ length rows * width
 length-marks_of width [] h = grind arith
 length-marks_of width (row ∷ rows) h =
     let parts = and_parts (length row == width) (list_all (λ row. length row == width) rows) h in
-    length-append row (marks_of rows) ∙ rw (eqb-true (length row) width parts.0, length-marks_of width rows parts.1, suc-mul (length rows) width) (omega arith)
+    length-append row (marks_of rows)
+    ∙ rw (
+      eqb-true (length row) width parts.0,
+      length-marks_of width rows parts.1,
+      suc-mul
+          (length rows) width,
+    ) (omega arith)
 
 -- rows that have the size of a map
 pub record IsRectangle (rows : List (List ℕ)) : Type 0 where
@@ -52,4 +60,5 @@ IsRectangle-from_size rows h =
 
 pub few_marks : (rows : List (List ℕ)) → IsRectangle rows → length (marks_of rows) ≤ 16384
 few_marks rows size =
-    let most : length rows * width_of rows ≤ 128 * 128 = mul-le-mul size.most_rows size.most_columns in omega (arith, size.all_marks, most)
+    let most : length rows * width_of rows ≤ 128 * 128 = mul-le-mul size.most_rows size.most_columns in omega
+    (arith, size.all_marks, most)

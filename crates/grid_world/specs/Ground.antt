@@ -55,6 +55,12 @@ pub record IsListed (listed : List ℕ) (n : ℕ) : Type 0 where
   pub rising : AllPairs (λ i j. i < j) listed
   pub on_map : All (λ i. i < n) listed
 
+-- the numbers below a bound stand before place i, the others from there on
+pub record IsCut (listed : List ℕ) (bound i : ℕ) : Type 0 where
+  pub within : i ≤ length listed
+  pub below : (k : ℕ) → k < i → slice_index_or listed k 0 < bound
+  pub above : (k : ℕ) → i ≤ k → k < length listed → bound ≤ slice_index_or listed k 0
+
 -- where a number that is not listed would stand
 pub record IsGap (listed : List ℕ) (number i : ℕ) : Type 0 where
   pub within : i ≤ length listed

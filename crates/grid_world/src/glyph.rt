@@ -1,5 +1,5 @@
 // The characters that cells are drawn as.
-ghost use Rattle.std.specs.Prelude.{◌≡◌, ◌<◌, ◌≤◌};
+ghost use Rattle.std.specs.Prelude.{◌≡◌, ◌<◌};
 ghost use Rattle.std.specs.Option.{ForSome};
 ghost use Rattle.grid_world.specs.Glyphs.{base_glyph, content_glyph, glyph_of};
 

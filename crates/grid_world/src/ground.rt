@@ -22,7 +22,6 @@ pub struct Ground {
 }
 
 impl Model for Ground {
-    ghost use Rattle.std.specs.Prelude.{[]};
     ghost use Rattle.grid_world.specs.Grid.{Grid};
     ghost use Rattle.grid_world.specs.Ground.{bare, IsGround};
 
@@ -97,7 +96,8 @@ impl Ground {
 
     /// The number of a cell of the map, counted row after row.
     pub fn index_of(&self, x: u32, y: u32) -> Option<u32>
-        ensures value { result ≡ (if is_on_map self.now (point x y) then Some (index_of self.now (point x y)) else None) }
+        ensures value { result ≡ (if is_on_map self.now (point x y)
+            then Some (index_of self.now (point x y)) else None) }
         ensures within { IfSome result (λ i. i < self.now.width * self.now.height) }
         ensures sized { IsSized self.now }
     {

@@ -1,5 +1,5 @@
 // Reading the rows of a map: one function for each part, with its part of the definition as contract.
-ghost use Rattle.std.specs.Prelude.{◌≡◌, ◌≤◌, ◌<◌, ◌+◌, ◌*◌, ◌++◌, ◌==◌, [], not, map, length, count_by, position, string_bytes, IfOk, IfSome, OnOk, All, AllPairs};
+ghost use Rattle.std.specs.Prelude.{◌≡◌, ◌≤◌, ◌<◌, ◌+◌, ◌*◌, ◌++◌, ◌==◌, [], not, map, length, count_by, position, string_bytes, IfOk, IfSome, OnOk, All};
 ghost use Rattle.std.specs.List.{cons_option, filter_map};
 ghost use Rattle.std.specs.Str.{chars};
 ghost use Rattle.grid_world.specs.Map.{agent_in, cell_of, count_up, marks_of, width_of};

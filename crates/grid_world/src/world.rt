@@ -1,8 +1,8 @@
-ghost use Rattle.std.specs.Prelude.{MatchResult, slice_index, IfOk, IfErr, ◌⊎◌, ◌≡◌, AllPairs, ◌<◌, ◌≤◌, ◌++◌, ◌+◌, ◌&&◌, OnOk, OnErr, IfSome, position, Some, None, length, map, option_map, if◌then◌else◌, vec_len, vec_capacity};
+ghost use Rattle.std.specs.Prelude.{MatchResult, slice_index, IfOk, IfErr, ◌⊎◌, ◌≡◌, AllPairs, ◌<◌, ◌&&◌, IfSome, position, Some, None, length, map, option_map, if◌then◌else◌};
 ghost use Rattle.grid_world.specs.Grid.{is_on_map, cell_at, place_of, point_of, same_point};
 ghost use Rattle.grid_world.specs.Open.{is_open, is_passable};
 ghost use Rattle.grid_world.specs.Glyphs.{glyph};
-ghost use Rattle.grid_world.specs.World.{IsWorld, point, row_glyphs};
+ghost use Rattle.grid_world.specs.World.{IsWorld, point};
 ghost use Rattle.grid_world.specs.Ground.{is_among, IsGap, ListsDoors, no_signals};
 
 use crate::cell::{Agent, Cell};
@@ -19,6 +19,9 @@ use std::marker::Model;
 use std::sync::Arc;
 
 mod changes;
+mod draw;
+#[cfg(test)]
+mod tests;
 
 pub use changes::resolve;
 
@@ -36,7 +39,9 @@ pub struct World {
 // The place of a number in a rising list, or where it would stand.
 fn find(listed: &[u32], number: u32) -> Result<usize, usize>
     requires { AllPairs (λ i j. i < j) listed.now }
-    ensures { MatchResult result (λ i. (i < length listed.now) × (slice_index listed.now i ≡ number)) (λ i. IsGap listed.now number i) }
+    ensures { MatchResult result
+        (λ i. (i < length listed.now) × (slice_index listed.now i ≡ number))
+        (λ i. IsGap listed.now number i) }
 {
     listed.binary_search(&number)
 }
@@ -76,8 +81,9 @@ impl World {
 
     /// The world of the rows of a map, from the top, or their first fault.
     ///
-    /// `#` is a wall, `.` floor, `*` floor with an item, `a` to `z` a door of that signal, `0` to `9` a place, `A` to
-    /// `Z` an agent on floor, with empty hands. The characters of a row are Unicode scalar values. Takes time linear in
+    /// `#` is a wall, `.` floor, `*` floor with an item, `a` to `z` a door of that signal, `0` to `9` a
+    /// place, `A` to `Z` an agent on floor, with empty hands. The characters of a row are Unicode scalar
+    /// values. Takes time linear in
     /// the number of cells.
     pub fn from_rows(alloc: Global, rows: &[String]) -> Result<World, MapFault>
         ensures ok { IfOk result (λ w. (map_fault (rows_of rows.now) ≡ None) × (w ≡ grid_of (rows_of rows.now))) }
@@ -168,7 +174,8 @@ impl World {
 
     /// The ground of a cell; `None` off the map.
     pub fn cell(&self, x: u32, y: u32) -> Option<Cell>
-        ensures { result ≡ (if is_on_map self.now (point x y) then Some (cell_at self.now (point x y)) else None) }
+        ensures { result ≡ (if is_on_map self.now (point x y)
+            then Some (cell_at self.now (point x y)) else None) }
     {
         self.ground.cell(x, y)
     }
@@ -220,7 +227,8 @@ impl World {
 
     /// The character that a cell is drawn as; `None` off the map.
     pub fn glyph_at(&self, signals: Signals, x: u32, y: u32) -> Option<u8>
-        ensures { result ≡ (if is_on_map self.now (point x y) then Some (glyph self.now signals (point x y)) else None) }
+        ensures { result ≡ (if is_on_map self.now (point x y)
+            then Some (glyph self.now signals (point x y)) else None) }
     {
         match self.cell(x, y) {
             Some(cell) => Some(glyph_of(
@@ -231,22 +239,5 @@ impl World {
             )),
             None => None,
         }
-    }
-
-    /// Appends the glyphs of a row, from the left. Takes no memory where the text has room for `width` more bytes.
-    pub fn draw_row(&self, signals: Signals, y: u32, text: &mut Vec<u8>) -> Result<(), AllocError>
-        requires { y < self.now.height }
-        ensures ok { OnOk result (text.new.items ≡ text.old.items ++ row_glyphs self.now signals y) }
-        ensures err { OnErr result (text.new.items ≡ text.old.items) }
-        ensures full { OnErr result (vec_capacity text.old < vec_len text.old + self.now.width) }
-    {
-        let mut row = [0; 128];
-        let width = self.width();
-        'cells: for x in 0..width {
-            if let Some(glyph) = self.glyph_at(signals, x, y) {
-                row[x as usize] = glyph;
-            }
-        }
-        text.extend_from_slice(&row[..width as usize])
     }
 }

@@ -15,3 +15,8 @@ pub mod RowFaults
 pub mod Picks
 pub mod JsonBytes
 pub mod Drafted
+pub mod ItemsBefore
+pub mod WrittenSteps
+pub mod NodesSpelled
+pub mod LevelsSpelled
+pub mod TreesWritten

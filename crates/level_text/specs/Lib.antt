@@ -10,4 +10,6 @@ pub mod Places
 pub mod Faults
 pub mod Kept
 pub mod Levels
+pub mod Written
+pub mod Marks
 pub mod Sessions

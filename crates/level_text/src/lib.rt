@@ -5,6 +5,8 @@ mod draft;
 mod leaves;
 mod level;
 mod level_fault;
+#[cfg(test)]
+mod level_tests;
 mod named_tree;
 mod nodes;
 mod parts;
@@ -15,6 +17,8 @@ mod script_file;
 #[cfg(test)]
 mod script_tests;
 mod session;
+mod write;
+mod write_nodes;
 
 pub use level::Level;
 pub use level_fault::LevelFault;
@@ -22,3 +26,4 @@ pub use read::{level_of, read_level};
 pub use script::Script;
 pub use script_file::{ScriptFault, read_script};
 pub use session::Session;
+pub use write::write_level;

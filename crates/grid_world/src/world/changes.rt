@@ -15,8 +15,9 @@ use std::alloc::{AllocError, Global};
 
 /// The world after a frame's intents, one for each agent by number, each applied to the world as changed so far.
 ///
-/// A move leads to an open cell on which no agent stands at that point; an agent takes an item of its cell with empty
-/// hands, and drops its item where none lies. What can't be done changes nothing. Takes time linear in the numbers of
+/// A move leads to an open cell on which no agent stands at that point; an agent takes an item of its
+/// cell with empty hands, and drops its item where none lies. What can't be done changes nothing.
+/// Takes time linear in the number of items for each agent that takes or drops, else in the numbers of
 /// agents and items: the ground is shared with `world`.
 pub fn resolve(
     alloc: Global,
@@ -24,7 +25,8 @@ pub fn resolve(
     signals: Signals,
     intents: &[Intent],
 ) -> Result<World, ResolveFault>
-    ensures ok { IfOk result (λ after. (length intents.now ≡ length world.now.agents) × (after ≡ apply_all world.now signals 0 intents.now)) }
+    ensures ok { IfOk result (λ after. (length intents.now ≡ length world.now.agents)
+        × (after ≡ apply_all world.now signals 0 intents.now)) }
     ensures count { result ≡ Err Count ↔ (length intents.now ≢ length world.now.agents) }
 {
     if intents.len() != world.agents().len() {

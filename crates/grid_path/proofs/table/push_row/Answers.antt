@@ -1,21 +1,9 @@
-use Rattle.std.proofs.Common.{ℕ, arith}
-use Rattle.grid_world.specs.Open.{is_open}
-use Rattle.grid_world.specs.World.{point}
-use Rattle.grid_path.proofs.Pushed.{left_all, left_more, left_none}
+use Rattle.grid_world.specs.Ground.{no_signals}
+use Rattle.grid_path.specs.Bordered.{open_row}
+use Rattle.grid_path.proofs.Doors.{appended, floor_part}
 use Rattle.grid_path.proofs.table.push_row.Goals as goal
-
-pub loop-x-init : goal.loop-x-init
-loop-x-init g c =
-    left_all (λ (x : ℕ). is_open c.args.world.now c.args.signals (point x c.args.y)) c.args.table.now.items c.args.world.now.width
-
-pub loop-x-preserved : goal.loop-x-preserved
-loop-x-preserved g c =
-    let wide = c.width-x-end.ensures.value in
-    left_more (λ (x : ℕ). is_open c.args.world.now c.args.signals (point x c.args.y)) _ c.loop-x.table.items c.loop-x.x c.args.world.now.width
-    c.is_open.result c.push.new.self.items (omega (arith, wide)) c.loop-x.invariant c.is_open.ensures c.in_ok-push.ensures.items
 
 pub returns : goal.returns
 returns g c =
-    let wide = c.width-x-end.ensures.value in
-    left_none (λ (x : ℕ). is_open c.args.world.now c.args.signals (point x c.args.y)) _ c.loop-x.table.items c.loop-x.x c.args.world.now.width
-    (omega (arith, wide)) c.loop-x.invariant
+    appended c.extend_from_slice.result c.args.table.now.items _ _ (open_row c.args.world.now no_signals c.args.y) c.extend_from_slice.ensures.items
+    (floor_part c.args.world.now c.args.y c.width-width.result c.floor.result.now c.width-width.ensures.world.sized c.requires c.width-width.ensures.value c.floor.ensures)

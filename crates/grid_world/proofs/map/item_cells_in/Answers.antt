@@ -9,7 +9,8 @@ pub marks-preserved : goal.marks-preserved
 marks-preserved c =
     let l = c.marks in
     let test : ℕ → Bool = λ k. get_or c.args.marks.now k 0 == 42 in
-    let same : c.index-marks-i.result ≡ get_or c.args.marks.now l.i 0 = c.index-marks-i.is ∙ get_or_default_zero c.args.marks.now l.i c.index-marks-i.result c.marks-test.true in
+    let same : c.index-marks-i.result ≡ get_or c.args.marks.now l.i 0 = c.index-marks-i.is
+    ∙ get_or_default_zero c.args.marks.now l.i c.index-marks-i.result c.marks-test.true in
     elim c.if-mark-eq42.branch [
       | then-mark-eq42+in_ok-push w ↦ (
           let lies : get_or c.args.marks.now l.i 0 ≡ 42 = sym same ∙ w.if-mark-eq42.true in
@@ -22,4 +23,5 @@ marks-preserved c =
     ]
 
 pub returns-clause-marked : goal.returns-clause-marked
-returns-clause-marked c = marked-from_each (λ mark. mark == 42) c.args.marks.now 0 c.marks.cells.items (λ k below. c.marks.invariant.1 k (omega arith))
+returns-clause-marked c = marked-from_each (λ mark. mark == 42) c.args.marks.now 0 c.marks.cells.items
+    (λ k below. c.marks.invariant.1 k (omega arith))

@@ -9,5 +9,9 @@ pub rows-preserved : goal.rows-preserved
 rows-preserved c =
     let l = c.rows in
     let left = marks_of (rows_of (drop (l.row-index + 1) c.args.rows.now)) in
-    ap (λ ms. ms ++ left) (c.in_ok-append.ensures.items ∙ ap (λ ms. l.marks.items ++ ms) c.in_ok-more.ensures) ∙ append_assoc l.marks.items (chars (string_bytes c.row-item.result)) left
-    ∙ sym (ap (λ rs. l.marks.items ++ marks_of rs) (rows_of-left c.args.rows.now l.row-index c.row-item.result c.rows-test.true ∙ ap (λ t. chars (string_bytes t) ∷ rows_of (drop (l.row-index + 1) c.args.rows.now)) (sym c.row-item.is))) ∙ l.invariant
+    ap (λ ms. ms ++ left) (c.in_ok-append.ensures.items ∙ ap (λ ms. l.marks.items ++ ms) c.in_ok-more.ensures)
+    ∙ append_assoc l.marks.items (chars (string_bytes c.row-item.result)) left
+    ∙ sym (ap (λ rs. l.marks.items ++ marks_of rs)
+    (rows_of-left c.args.rows.now l.row-index c.row-item.result c.rows-test.true
+    ∙ ap (λ t. chars (string_bytes t) ∷ rows_of (drop (l.row-index + 1) c.args.rows.now))
+    (sym c.row-item.is))) ∙ l.invariant

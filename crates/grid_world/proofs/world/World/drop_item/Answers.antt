@@ -10,10 +10,14 @@ invariant_of-self-in-Err c =
     let agent = c.index-agent.result.now in
     let within : c.args.number < length inside.crew.items = rw (← c.self.view_is) at c.requires in
     let ground = inside.ground.value in
-    let numbered : c.in-Some.cell ≡ index_of ground (point_of agent) = index_of-Some ground (point_of agent) c.in-Some.cell (rw (← c.deref.ensures) c.in-Some.ensures.value) in
-    let small : c.in-Some.cell < length ground.cells = rw (c.self.invariant.world.sized.all_cells, ← c.deref.ensures) c.in-Some.ensures.within in
+    let numbered : c.in-Some.cell
+    ≡ index_of ground (point_of agent) = index_of-Some ground (point_of agent) c.in-Some.cell
+    (rw (← c.deref.ensures) c.in-Some.ensures.value) in
+    let small : c.in-Some.cell < length ground.cells = rw
+    (c.self.invariant.world.sized.all_cells, ← c.deref.ensures) c.in-Some.ensures.within in
     let gap = rw (c.deref-in-Some.ensures.value) at c.in-Err.ensures in
-    rw c.in_ok-insert.ensures.items (IsKept-dropped ground inside.item_cells.items inside.crew.items c.self.invariant c.args.number agent within c.index-agent.ensures c.in-Some.cell numbered small c.in-Err.i gap)
+    rw c.in_ok-insert.ensures.items
+    (IsKept-dropped ground inside.item_cells.items inside.crew.items c.self.invariant c.args.number agent within c.index-agent.ensures c.in-Some.cell numbered small c.in-Err.i gap)
 
 pub returns-in_ok-insert : goal.returns-in_ok-insert
 returns-in_ok-insert c =
@@ -21,10 +25,14 @@ returns-in_ok-insert c =
     let agent = c.index-agent.result.now in
     let within : c.args.number < length inside.crew.items = rw (← c.self.view_is) at c.requires in
     let ground = inside.ground.value in
-    let numbered : c.in-Some.cell ≡ index_of ground (point_of agent) = index_of-Some ground (point_of agent) c.in-Some.cell (rw (← c.deref.ensures) c.in-Some.ensures.value) in
-    let small : c.in-Some.cell < length ground.cells = rw (c.self.invariant.world.sized.all_cells, ← c.deref.ensures) c.in-Some.ensures.within in
+    let numbered : c.in-Some.cell
+    ≡ index_of ground (point_of agent) = index_of-Some ground (point_of agent) c.in-Some.cell
+    (rw (← c.deref.ensures) c.in-Some.ensures.value) in
+    let small : c.in-Some.cell < length ground.cells = rw
+    (c.self.invariant.world.sized.all_cells, ← c.deref.ensures) c.in-Some.ensures.within in
     let gap = rw (c.deref-in-Some.ensures.value) at c.in-Err.ensures in
-    rw (c.in_ok-insert.ensures.items, ← c.self.view_is) (dropped ground inside.item_cells.items inside.crew.items c.self.invariant c.args.number agent within c.index-agent.ensures c.in-Some.cell numbered small c.in-Err.i gap (not-false _ c.if-not-agent.false))
+    rw (c.in_ok-insert.ensures.items, ← c.self.view_is)
+    (dropped ground inside.item_cells.items inside.crew.items c.self.invariant c.args.number agent within c.index-agent.ensures c.in-Some.cell numbered small c.in-Err.i gap (not-false _ c.if-not-agent.false))
 
 pub returns-in_default-find : goal.returns-in_default-find
 returns-in_default-find c =
@@ -32,7 +40,11 @@ returns-in_default-find c =
     let agent = c.index-agent.result.now in
     let within : c.args.number < length inside.crew.items = rw (← c.self.view_is) at c.requires in
     let ground = inside.ground.value in
-    let numbered : c.in-Some.cell ≡ index_of ground (point_of agent) = index_of-Some ground (point_of agent) c.in-Some.cell (rw (← c.deref.ensures) c.in-Some.ensures.value) in
-    let small : c.in-Some.cell < length ground.cells = rw (c.self.invariant.world.sized.all_cells, ← c.deref.ensures) c.in-Some.ensures.within in
+    let numbered : c.in-Some.cell
+    ≡ index_of ground (point_of agent) = index_of-Some ground (point_of agent) c.in-Some.cell
+    (rw (← c.deref.ensures) c.in-Some.ensures.value) in
+    let small : c.in-Some.cell < length ground.cells = rw
+    (c.self.invariant.world.sized.all_cells, ← c.deref.ensures) c.in-Some.ensures.within in
     let found = rw (c.deref-in-Some.ensures.value) at c.in_default-find.ensures in
-    rw (← c.self.view_is) (not-dropped ground inside.item_cells.items inside.crew.items c.self.invariant c.args.number agent within c.index-agent.ensures c.in-Some.cell numbered small c.in_default-find.field-0 found.0 found.1 (not-false _ c.if-not-agent.false))
+    rw (← c.self.view_is)
+    (not-dropped ground inside.item_cells.items inside.crew.items c.self.invariant c.args.number agent within c.index-agent.ensures c.in-Some.cell numbered small c.in_default-find.field-0 found.0 found.1 (not-false _ c.if-not-agent.false))

@@ -11,23 +11,28 @@ use Rattle.grid_world.proofs.world.World.from_rows.Goals as goal
 
 pub overflow_cast-at : goal.overflow_cast-at
 overflow_cast-at c =
-    let size = IsRectangle-from_size (rows_of c.args.rows.now) (sym c.has_size.ensures ∙ c.if-not-has_size.false) in
-    let few : length c.deref.result.now ≤ 16384 = rw (c.deref.ensures.value, c.in_ok-marks.ensures) (few_marks _ size) in
+    let size = IsRectangle-from_size (rows_of c.args.rows.now)
+    (sym c.has_size.ensures ∙ c.if-not-has_size.false) in
+    let few : length c.deref.result.now ≤ 16384 = rw (c.deref.ensures.value, c.in_ok-marks.ensures)
+    (few_marks _ size) in
     grind (arith, few, c.in-Some.ensures)
 
 pub item_cells_in-requires : goal.item_cells_in-requires
 item_cells_in-requires c =
-    let size = IsRectangle-from_size (rows_of c.args.rows.now) (sym c.has_size.ensures ∙ c.if-not-has_size.false) in
+    let size = IsRectangle-from_size (rows_of c.args.rows.now)
+    (sym c.has_size.ensures ∙ c.if-not-has_size.false) in
     rw (c.deref-4.ensures.value, c.in_ok-marks.ensures) (few_marks _ size)
 
 pub agents_in-requires-clause-few : goal.agents_in-requires-clause-few
 agents_in-requires-clause-few c =
-    let size = IsRectangle-from_size (rows_of c.args.rows.now) (sym c.has_size.ensures ∙ c.if-not-has_size.false) in
+    let size = IsRectangle-from_size (rows_of c.args.rows.now)
+    (sym c.has_size.ensures ∙ c.if-not-has_size.false) in
     rw (c.deref-5.ensures.value, c.in_ok-marks.ensures) (few_marks _ size)
 
 pub doors_in-requires : goal.doors_in-requires
 doors_in-requires c =
-    let size = IsRectangle-from_size (rows_of c.args.rows.now) (sym c.has_size.ensures ∙ c.if-not-has_size.false) in
+    let size = IsRectangle-from_size (rows_of c.args.rows.now)
+    (sym c.has_size.ensures ∙ c.if-not-has_size.false) in
     rw (c.deref-7.ensures.value, c.in_ok-kinds.ensures, c.deref-3.ensures.value, c.in_ok-marks.ensures, length-map) (few_marks _ size)
 
 pub new-ground-requires-clause-sized : goal.new-ground-requires-clause-sized
@@ -44,7 +49,8 @@ pub invariant_of-result : goal.invariant_of-result
 invariant_of-result c =
     let rows = rows_of c.args.rows.now in
     let size = IsRectangle-from_size rows (sym c.has_size.ensures ∙ c.if-not-has_size.false) in
-    let parts : AreParts rows c.first_width-columns.result (length c.args.rows.now) c.in_ok-kinds.kinds.items = record {
+    let parts : AreParts rows c.first_width-columns.result
+    (length c.args.rows.now) c.in_ok-kinds.kinds.items = record {
       wide = c.first_width-columns.ensures;
       high = sym (length-map c.args.rows.now (λ text. chars (string_bytes text)));
       ground = c.in_ok-kinds.ensures ∙ ap (map cell_of) (c.deref-3.ensures.value ∙ c.in_ok-marks.ensures);
@@ -52,6 +58,9 @@ invariant_of-result c =
     let items_read = c.deref-4.ensures.value ∙ c.in_ok-marks.ensures in
     rw (c.in-Ok.ensures.ok, c.new-ground.ensures)
     (IsKept-parts rows size _ _ _ _ _ parts
-    (subst (λ marks. IsListed c.in_ok-item_cells.item_cells.items (length marks)) items_read c.in_ok-item_cells.ensures.listed)
-    (subst (λ marks. marked (length marks) c.in_ok-item_cells.item_cells.items ≡ map (λ c. c == 42) marks) items_read c.in_ok-item_cells.ensures.marked)
-    (c.in_ok-crew.ensures ∙ rw (c.first_width-columns.ensures, c.deref-5.ensures.value, c.in_ok-marks.ensures) refl))
+    (subst (λ marks. IsListed c.in_ok-item_cells.item_cells.items
+    (length marks)) items_read c.in_ok-item_cells.ensures.listed)
+    (subst (λ marks. marked (length marks) c.in_ok-item_cells.item_cells.items
+    ≡ map (λ c. c == 42) marks) items_read c.in_ok-item_cells.ensures.marked)
+    (c.in_ok-crew.ensures
+    ∙ rw (c.first_width-columns.ensures, c.deref-5.ensures.value, c.in_ok-marks.ensures) refl))

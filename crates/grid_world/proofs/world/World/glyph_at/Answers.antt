@@ -10,4 +10,5 @@ returns-in-Some c =
     let p = point c.args.x c.args.y in
     ap Some c.glyph_of.ensures
     ∙ glyph-on_map c.args.self.now c.args.signals p c.in-Some.cell _ _ c.in-Some.ensures
-    (c.agent_on.ensures.value ∙ ap (position (λ a. same_point (point_of a) p)) c.agents.ensures.value) c.has_item.ensures
+    (c.agent_on.ensures.value
+    ∙ ap (position (λ a. same_point (point_of a) p)) c.agents.ensures.value) c.has_item.ensures

@@ -11,5 +11,6 @@ returns-in-Some c =
     let p = point c.args.x c.args.y in
     rw (← c.self.view_is)
     (c.is_listed.ensures ∙ ap (λ cells. is_among cells c.in-Some.i) c.deref-in-Some.ensures.value
-    ∙ is_among-has_item ground listed c.self.inside.crew.items p _ (rw (← c.deref.ensures) c.in-Some.ensures.sized.all_cells)
+    ∙ is_among-has_item ground listed c.self.inside.crew.items p _
+    (rw (← c.deref.ensures) c.in-Some.ensures.sized.all_cells)
     (rw (← c.deref.ensures) c.in-Some.ensures.value) (rw (← c.deref.ensures) c.in-Some.ensures.within))

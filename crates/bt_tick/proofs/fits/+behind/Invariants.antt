@@ -1,0 +1,9 @@
+use Rattle.std.proofs.Common.{◌≡◌, drop}
+use Rattle.bt_nodes.specs.Plain.{plains}
+use Rattle.bt_nodes.specs.Bounds.{bounds_all}
+use Rattle.bt_tick.specs.Fitting.{behind}
+use Rattle.bt_tick.proofs.fits.+behind.Given as goal
+
+abbrev pub invariant-behind_all-nodes : goal.invariant-behind_all-nodes
+invariant-behind_all-nodes g l =
+    behind (bounds_all (plains (drop l.node-index l.nodes))) l.left ≡ behind (bounds_all (plains l.nodes)) l.numbers

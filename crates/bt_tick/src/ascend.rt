@@ -1,0 +1,141 @@
+// What an open node does by the status of its child.
+
+ghost use Rattle.std.specs.Prelude.{◌≡◌, ◌<◌, ◌≤◌, ◌+◌, ◌-◌, ◌*◌, ◌^◌, ◌∷◌, length, drop};
+ghost use Rattle.bt_nodes.specs.Plain.{plain, plains};
+ghost use Rattle.bt_nodes.specs.Sizes.{size};
+ghost use Rattle.game_rules.specs.View.{View};
+ghost use Rattle.game_rules.specs.Tick.{gives};
+ghost use Rattle.bt_tick.specs.Children.{children_of};
+ghost use Rattle.bt_tick.specs.Suspended.{close};
+ghost use Rattle.bt_tick.specs.Places.{Standing, Nested, weight_of, weight_all};
+ghost use Rattle.bt_tick.specs.Machine.{opened, opens, Keeps, bounds_of, Placed, weight};
+
+use crate::machine::{Machine, Mode};
+use bt_nodes::{Node, Status};
+use fiber_stack::Frame;
+use std::alloc::Allocator;
+
+impl<'t, T: Allocator, A: Allocator> Machine<'t, T, A> {
+    // Leaves the innermost open node before its children from the next one on are ticked. Only these are walked over,
+    // for the number of the node that follows.
+    fn stop(
+        &mut self,
+        frame: Frame<'t, T>,
+        children: &'t [Node<T>],
+        status: Status,
+        at: u64,
+    ) -> Mode<'t, T>
+        requires stands { Standing (bounds_of self.old)
+            frame.next at (length (opens (drop 1 self.old.stack))) (opened frame) }
+        requires children { children_of (plain frame.node.now) ≡ plains children.now }
+        ensures mode { result ≡ Mode.Up status (frame.entry.number + size (plain frame.entry.node.now)) }
+        ensures stack { self.new.stack ≡ drop 1 self.old.stack }
+        ensures memory { self.new.memory ≡ self.old.memory }
+        ensures wants { self.new.wants ≡ self.old.wants }
+        ensures tree { self.new.tree ≡ self.old.tree }
+    {
+        let passed = Node::sizes(&children[frame.next as usize..]);
+        self.leave(status, at + passed)
+    }
+
+    // Hands a status to the innermost open node, whose next child has the number `at`.
+    pub(crate) fn ascend(&mut self, frame: Frame<'t, T>, status: Status, at: u64) -> Mode<'t, T>
+        requires some { 0 < length self.old.stack }
+        requires stands { Standing (bounds_of self.old)
+            frame.next at (length (opens (drop 1 self.old.stack))) (opened frame) }
+        requires nested { Nested (bounds_of self.old)
+            (frame.number + size (plain frame.node.now)) (opens (drop 1 self.old.stack)) }
+        ensures keeps { (v : View) →
+            Keeps v self.new result self.old (drop 1 self.old.stack)
+            (λ s. close v (opened frame.entry) (gives status s)) }
+        ensures placed { Placed self.new result }
+        ensures falls { weight self.new result
+            ≤ weight_of (opened frame.entry) + weight_all (opens (drop 1 self.old.stack)) }
+        ensures tree { self.new.tree ≡ self.old.tree }
+    {
+        match frame.node {
+            Node::Seq(children) => match status {
+                Status::Success => self.advance(frame, at),
+                Status::Failure => self.stop(frame, children, Status::Failure, at),
+                Status::Running => self.stop(frame, children, Status::Running, at),
+            },
+            Node::Fallback(children) => match status {
+                Status::Failure => self.advance(frame, at),
+                Status::Success => self.stop(frame, children, Status::Success, at),
+                Status::Running => self.stop(frame, children, Status::Running, at),
+            },
+            Node::Par(_, _) => match status {
+                Status::Success => self.advance(
+                    Frame {
+                        successes: frame.successes + 1,
+                        ..frame
+                    },
+                    at,
+                ),
+                Status::Failure => self.advance(
+                    Frame {
+                        failures: frame.failures + 1,
+                        ..frame
+                    },
+                    at,
+                ),
+                Status::Running => self.advance(frame, at),
+            },
+            Node::SeqStar(children) => match status {
+                Status::Success => {
+                    if frame.next < children.len() as u64 {
+                        self.memory.set(frame.number, frame.next);
+                        return self.advance(frame, at);
+                    }
+                    self.memory.set(frame.number, 0);
+                    self.leave(Status::Success, at)
+                }
+                Status::Failure => {
+                    self.memory.set(frame.number, 0);
+                    self.stop(frame, children, Status::Failure, at)
+                }
+                Status::Running => self.stop(frame, children, Status::Running, at),
+            },
+            Node::FallbackStar(children) => match status {
+                Status::Failure => {
+                    if frame.next < children.len() as u64 {
+                        self.memory.set(frame.number, frame.next);
+                        return self.advance(frame, at);
+                    }
+                    self.memory.set(frame.number, 0);
+                    self.leave(Status::Failure, at)
+                }
+                Status::Success => {
+                    self.memory.set(frame.number, 0);
+                    self.stop(frame, children, Status::Success, at)
+                }
+                Status::Running => self.stop(frame, children, Status::Running, at),
+            },
+            Node::Not(_) => match status {
+                Status::Success => self.leave(Status::Failure, at),
+                Status::Failure => self.leave(Status::Success, at),
+                Status::Running => self.leave(Status::Running, at),
+            },
+            Node::Tries(most, _) => match status {
+                Status::Failure => {
+                    let _most = *most;
+                    self.memory.set(frame.number, frame.failures + 1);
+                    self.leave(Status::Failure, at)
+                }
+                Status::Success | Status::Running => self.leave(status, at),
+            },
+            Node::Ticks(limit, _) => match status {
+                Status::Running => {
+                    let _limit = *limit;
+                    self.memory.set(frame.number, frame.failures + 1);
+                    self.leave(Status::Running, at)
+                }
+                Status::Success | Status::Failure => {
+                    self.memory.set(frame.number, 0);
+                    self.leave(status, at)
+                }
+            },
+            _ => unreachable!(),
+        }
+    }
+}

@@ -1,0 +1,143 @@
+// What a node does when it is ticked.
+
+ghost use Rattle.std.specs.Prelude.{◌≡◌, ◌<◌, ◌≤◌, ◌+◌, ◌*◌, ◌++◌, ◌∷◌, [], false, length, IfOk, if◌then◌else◌};
+ghost use Rattle.bt_nodes.specs.Plain.{plain};
+ghost use Rattle.bt_nodes.specs.Sizes.{size};
+ghost use Rattle.bt_nodes.specs.Bounds.{bounds};
+ghost use Rattle.game_rules.specs.Tick.{tick};
+ghost use Rattle.bt_tick.specs.Kinds.{is_move};
+ghost use Rattle.bt_tick.specs.Places.{Sits, Nested, weight_all};
+ghost use Rattle.bt_tick.specs.Machine.{opens, Keeps, bounds_of, Placed, weight};
+ghost use Rattle.bt_tick.specs.Views.{view_of, IsInWorld};
+
+use crate::machine::{Machine, Mode};
+use crate::view::View;
+use bt_nodes::{Node, Status};
+use fiber_stack::Frame;
+use grid_world::Intent;
+use std::alloc::{AllocError, Allocator};
+
+// The status of a condition.
+fn status_of(holds: bool) -> Status
+    ensures { result ≡ (if holds then Status.Success else Status.Failure) }
+{
+    if holds {
+        Status::Success
+    } else {
+        Status::Failure
+    }
+}
+
+impl<'t, T: Allocator, A: Allocator + Clone> Machine<'t, T, A> {
+    // Adds a want to those of the tick.
+    pub(crate) fn want(&mut self, intent: Intent) -> Result<(), AllocError>
+        ensures wants { IfOk result (λ _. self.new.wants.items ≡ self.old.wants.items ++ intent ∷ []) }
+        ensures stack { self.new.stack ≡ self.old.stack }
+        ensures memory { self.new.memory ≡ self.old.memory }
+        ensures tree { self.new.tree ≡ self.old.tree }
+    {
+        self.wants.push(intent)?;
+        Ok(())
+    }
+
+    // Ticks a node other than a `Move`: opens it and begins a child, or takes its status at once.
+    pub(crate) fn descend(
+        &mut self,
+        view: &View,
+        node: &'t Node<T>,
+        number: u64,
+    ) -> Result<Mode<'t, T>, AllocError>
+        requires view { IsInWorld view.now }
+        requires no_move { is_move (plain node.now) ≡ false }
+        requires sits { Sits (bounds_of self.old) number (bounds (plain node.now)) }
+        requires deep { length self.old.stack ≤ number }
+        requires nested { Nested (bounds_of self.old) (number + size (plain node.now)) (opens self.old.stack) }
+        ensures keeps { IfOk result (λ m.
+            Keeps (view_of view.now) self.new m self.old self.old.stack (tick (view_of view.now) (plain node.now) number)) }
+        ensures placed { IfOk result (λ m. Placed self.new m) }
+        ensures falls { IfOk result (λ m.
+            weight self.new m < 2 * size (plain node.now) + weight_all (opens self.old.stack)) }
+        ensures tree { self.new.tree ≡ self.old.tree }
+    {
+        let frame = Frame {
+            node,
+            number,
+            next: 0,
+            successes: 0,
+            failures: 0,
+        };
+        let after = number + 1;
+        match node {
+            Node::Seq(_) => self.open_list(frame, after),
+            Node::Fallback(_) => self.open_list(frame, after),
+            Node::Par(_, _) => self.open_list(frame, after),
+            Node::SeqStar(children) => self.open_star(node, children, number),
+            Node::FallbackStar(children) => self.open_star(node, children, number),
+            Node::Not(child) => self.open_only(Frame { next: 1, ..frame }, child),
+            Node::Tries(most, child) => {
+                let failures = self.memory.number(number);
+                if failures >= *most {
+                    return Ok(Mode::Up(Status::Failure, after + child.size()));
+                }
+                self.open_only(
+                    Frame {
+                        next: 1,
+                        failures,
+                        ..frame
+                    },
+                    child,
+                )
+            }
+            Node::Ticks(most, child) => {
+                let past = self.memory.number(number);
+                if past >= *most {
+                    self.memory.set(number, 0);
+                    return Ok(Mode::Up(Status::Failure, after + child.size()));
+                }
+                self.open_only(
+                    Frame {
+                        next: 1,
+                        failures: past,
+                        ..frame
+                    },
+                    child,
+                )
+            }
+            Node::Wait(most) => {
+                let past = self.memory.number(number);
+                if past < *most {
+                    self.memory.set(number, past + 1);
+                    return Ok(Mode::Up(Status::Running, after));
+                }
+                self.memory.set(number, 0);
+                Ok(Mode::Up(Status::Success, after))
+            }
+            Node::Take => {
+                if view.carries() {
+                    return Ok(Mode::Up(Status::Success, after));
+                }
+                if !view.is_on_item() {
+                    return Ok(Mode::Up(Status::Failure, after));
+                }
+                self.want(Intent::Take)?;
+                Ok(Mode::Up(Status::Running, after))
+            }
+            Node::Drop => {
+                if !view.carries() {
+                    return Ok(Mode::Up(Status::Failure, after));
+                }
+                if view.is_on_item() {
+                    return Ok(Mode::Up(Status::Failure, after));
+                }
+                self.want(Intent::Drop)?;
+                Ok(Mode::Up(Status::Running, after))
+            }
+            Node::At(place) => Ok(Mode::Up(status_of(view.stands_on(*place)), after)),
+            Node::Carrying => Ok(Mode::Up(status_of(view.carries()), after)),
+            Node::Item => Ok(Mode::Up(status_of(view.is_on_item()), after)),
+            Node::Signal(signal) => Ok(Mode::Up(status_of(view.has_signal(*signal)), after)),
+            Node::Near(within) => Ok(Mode::Up(status_of(view.is_near(*within)), after)),
+            Node::Move(_) => unreachable!(),
+        }
+    }
+}

@@ -1,0 +1,97 @@
+// Whether a memory fits a tree.
+
+ghost use Rattle.std.specs.Prelude.{◌≡◌, ◌↔◌, nat_lt, None, Some, MatchOption, IsTrue};
+ghost use Rattle.bt_nodes.specs.Plain.{plain, plains};
+ghost use Rattle.bt_nodes.specs.Bounds.{bounds, bounds_all, Fits};
+ghost use Rattle.bt_nodes.specs.Trees.{plain_of};
+ghost use Rattle.bt_tick.specs.Fitting.{behind, root_bound};
+
+use crate::memory::Memory;
+use bt_nodes::{Node, Tree};
+use std::alloc::Allocator;
+
+// Whether a number is below the bound of a node's own.
+fn is_below<T: Allocator>(node: &Node<T>, number: u64) -> bool
+    ensures { result ≡ nat_lt number (root_bound (plain node.now)) }
+{
+    match node {
+        Node::SeqStar(children) => number < children.len() as u64,
+        Node::FallbackStar(children) => number < children.len() as u64,
+        Node::Tries(most, _) => number <= *most,
+        Node::Ticks(most, _) => number <= *most,
+        Node::Wait(most) => number <= *most,
+        Node::Seq(_) => number < 1,
+        Node::Fallback(_) => number < 1,
+        Node::Par(_, _) => number < 1,
+        Node::Not(_) => number < 1,
+        Node::Move(_) => number < 1,
+        Node::Take => number < 1,
+        Node::Drop => number < 1,
+        Node::At(_) => number < 1,
+        Node::Carrying => number < 1,
+        Node::Item => number < 1,
+        Node::Signal(_) => number < 1,
+        Node::Near(_) => number < 1,
+    }
+}
+
+// The numbers that are left behind those of a node and of the nodes below it, if each of these is below its bound.
+#[cycle(behind)]
+fn behind<'m, T: Allocator>(node: &Node<T>, numbers: &'m [u64]) -> Option<&'m [u64]>
+    ensures { MatchOption result (behind (bounds (plain node.now)) numbers.now ≡ None)
+        (λ rest. behind (bounds (plain node.now)) numbers.now ≡ Some rest.now) }
+{
+    let Some((own, rest)) = numbers.split_first() else {
+        return None;
+    };
+    if !is_below(node, *own) {
+        return None;
+    }
+    match node {
+        Node::Seq(children) => behind_all(children, rest),
+        Node::Fallback(children) => behind_all(children, rest),
+        Node::Par(_, children) => behind_all(children, rest),
+        Node::SeqStar(children) => behind_all(children, rest),
+        Node::FallbackStar(children) => behind_all(children, rest),
+        Node::Not(child) => behind(child, rest),
+        Node::Tries(_, child) => behind(child, rest),
+        Node::Ticks(_, child) => behind(child, rest),
+        Node::Wait(_) => Some(rest),
+        Node::Move(_) => Some(rest),
+        Node::Take => Some(rest),
+        Node::Drop => Some(rest),
+        Node::At(_) => Some(rest),
+        Node::Carrying => Some(rest),
+        Node::Item => Some(rest),
+        Node::Signal(_) => Some(rest),
+        Node::Near(_) => Some(rest),
+    }
+}
+
+#[cycle(behind)]
+fn behind_all<'m, T: Allocator>(nodes: &[Node<T>], numbers: &'m [u64]) -> Option<&'m [u64]>
+    ensures { MatchOption result (behind (bounds_all (plains nodes.now)) numbers.now ≡ None)
+        (λ rest. behind (bounds_all (plains nodes.now)) numbers.now ≡ Some rest.now) }
+{
+    let mut left = numbers;
+    'nodes: for node in nodes {
+        match behind(node, left) {
+            Some(rest) => left = rest,
+            None => return None,
+        }
+    }
+    Some(left)
+}
+
+impl Memory {
+    /// Whether it fits a tree: it has a number for each node, below the number of children for `SeqStar` and
+    /// `FallbackStar`, at most the node's own number for `Tries`, `Ticks` and `Wait`, and 0 for any other node.
+    pub fn fits<T: Allocator>(&self, tree: &Tree<T>) -> bool
+        ensures { IsTrue result ↔ Fits (plain_of tree.now) self.now }
+    {
+        match behind(tree.root(), &self.numbers) {
+            Some(rest) => rest.is_empty(),
+            None => false,
+        }
+    }
+}

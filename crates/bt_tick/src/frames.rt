@@ -1,0 +1,132 @@
+// How a machine opens, goes on with and leaves nodes.
+
+ghost use Rattle.std.specs.Prelude.{◌≡◌, ◌<◌, ◌≤◌, ◌+◌, ◌-◌, ◌*◌, ◌^◌, ◌∷◌, List, length, drop, IfOk};
+ghost use Rattle.bt_nodes.specs.Plain.{plain, plains};
+ghost use Rattle.game_rules.specs.View.{View};
+ghost use Rattle.game_rules.specs.Tick.{verdict};
+ghost use Rattle.bt_tick.specs.Children.{children_of};
+ghost use Rattle.bt_tick.specs.Kinds.{HasList};
+ghost use Rattle.bt_tick.specs.Places.{Resting, weight_of, weight_all};
+ghost use Rattle.bt_tick.specs.Machine.{opened, opens, rest_of, Keeps, bounds_of, Placed, weight};
+
+use crate::machine::{Machine, Mode};
+use bt_nodes::{Node, Status};
+use fiber_stack::Frame;
+use std::alloc::{AllocError, Allocator};
+
+impl<'t, T: Allocator, A: Allocator + Clone> Machine<'t, T, A> {
+    // Opens a node.
+    pub(crate) fn open(&mut self, frame: Frame<'t, T>) -> Result<(), AllocError>
+        requires room { length self.old.stack < 2 ^ 32 - 1 }
+        ensures stack { IfOk result (λ _. self.new.stack ≡ frame.entry ∷ self.old.stack) }
+        ensures memory { self.new.memory ≡ self.old.memory }
+        ensures wants { self.new.wants ≡ self.old.wants }
+        ensures tree { self.new.tree ≡ self.old.tree }
+    {
+        match self.stack.push(frame) {
+            Ok(()) => Ok(()),
+            Err(_) => Err(AllocError),
+        }
+    }
+}
+
+// The status of a par of `count` children, all of which were ticked.
+fn par_status(least: u64, count: u64, successes: u64, failures: u64) -> Status
+    ensures { result ≡ verdict least count successes failures }
+{
+    if successes >= least {
+        Status::Success
+    } else if failures > count.saturating_sub(least) {
+        Status::Failure
+    } else {
+        Status::Running
+    }
+}
+
+impl<'t, T: Allocator, A: Allocator> Machine<'t, T, A> {
+    // Leaves the innermost open node, which gives this status. The number is the one after its last node.
+    pub(crate) fn leave(&mut self, status: Status, at: u64) -> Mode<'t, T>
+        ensures mode { result ≡ Mode.Up status at }
+        ensures stack { self.new.stack ≡ drop 1 self.old.stack }
+        ensures memory { self.new.memory ≡ self.old.memory }
+        ensures wants { self.new.wants ≡ self.old.wants }
+        ensures tree { self.new.tree ≡ self.old.tree }
+    {
+        self.stack.pop();
+        Mode::Up(status, at)
+    }
+
+    // Begins the next child of the innermost open node.
+    fn enter(&mut self, frame: Frame<'t, T>, children: &'t [Node<T>], at: u64) -> Mode<'t, T>
+        requires some { 0 < length self.old.stack }
+        requires rests { Resting (bounds_of self.old) at (opened frame) (opens (drop 1 self.old.stack)) }
+        requires list { HasList (plain frame.node.now) }
+        requires children { children_of (plain frame.node.now) ≡ plains children.now }
+        requires next { frame.next < length children.now }
+        ensures keeps { (v : View) →
+            Keeps v self.new result self.old (drop 1 self.old.stack) (rest_of v (opened frame.entry)) }
+        ensures placed { Placed self.new result }
+        ensures falls { weight self.new result
+            ≤ weight_of (opened frame.entry) + weight_all (opens (drop 1 self.old.stack)) }
+        ensures tree { self.new.tree ≡ self.old.tree }
+    {
+        let next = frame.next;
+        self.stack.replace_top(Frame {
+            next: next + 1,
+            ..frame
+        });
+        Mode::Down(&children[next as usize], at)
+    }
+
+    // Goes on with the innermost open node, none of whose children is being ticked: begins the child with the number
+    // `at`, or leaves the node where no child is left.
+    pub(crate) fn advance(&mut self, frame: Frame<'t, T>, at: u64) -> Mode<'t, T>
+        requires some { 0 < length self.old.stack }
+        requires rests { Resting (bounds_of self.old) at (opened frame) (opens (drop 1 self.old.stack)) }
+        requires list { HasList (plain frame.node.now) }
+        ensures keeps { (v : View) →
+            Keeps v self.new result self.old (drop 1 self.old.stack) (rest_of v (opened frame.entry)) }
+        ensures placed { Placed self.new result }
+        ensures falls { weight self.new result
+            ≤ weight_of (opened frame.entry) + weight_all (opens (drop 1 self.old.stack)) }
+        ensures tree { self.new.tree ≡ self.old.tree }
+    {
+        match frame.node {
+            Node::Seq(children) => {
+                if frame.next < children.len() as u64 {
+                    return self.enter(frame, children, at);
+                }
+                self.leave(Status::Success, at)
+            }
+            Node::Fallback(children) => {
+                if frame.next < children.len() as u64 {
+                    return self.enter(frame, children, at);
+                }
+                self.leave(Status::Failure, at)
+            }
+            Node::Par(least, children) => {
+                let count = children.len() as u64;
+                if frame.next < count {
+                    return self.enter(frame, children, at);
+                }
+                let status = par_status(*least, count, frame.successes, frame.failures);
+                self.leave(status, at)
+            }
+            Node::SeqStar(children) => {
+                if frame.next < children.len() as u64 {
+                    return self.enter(frame, children, at);
+                }
+                self.memory.set(frame.number, 0);
+                self.leave(Status::Success, at)
+            }
+            Node::FallbackStar(children) => {
+                if frame.next < children.len() as u64 {
+                    return self.enter(frame, children, at);
+                }
+                self.memory.set(frame.number, 0);
+                self.leave(Status::Failure, at)
+            }
+            _ => unreachable!(),
+        }
+    }
+}

@@ -1,0 +1,4 @@
+pub mod Numbers
+pub mod Limits
+pub mod Seats
+pub mod Opening

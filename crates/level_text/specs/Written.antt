@@ -1,0 +1,71 @@
+-- The JSON value of a level, and its text.
+use Rattle.std.specs.Prelude.{ℕ, ◌+◌, List, [], ◌∷◌, codes}
+use Rattle.serde_json.specs.Data.{Data, number, unsigned, string, array, object, Items, no_items, item, Members, no_members, member}
+use Rattle.serde_json.specs.Written.{compact_text}
+use Rattle.bt_nodes.specs.Plain.{Plain, Composite, CompositeStar, Parallel, Invert, Tries, Ticks, Wait, MoveTo, Does, Kind, Sequence, Fallback, Leaf, TakeItem, DropItem, AtPlace, Carries, OnItem, SignalOn, NearOther, Forest, none, tree}
+use Rattle.level_text.specs.Parts.{Parts, NamedPlain}
+
+-- ---- nodes
+
+abbrev pub form : List ℕ → Items → Data
+form head arguments = array (item (string head) arguments)
+
+abbrev pub counted : ℕ → Items → Items
+counted n items = item (number (unsigned n)) items
+
+-- a text of one character
+abbrev pub marked : ℕ → Items
+marked c = item (string (c ∷ [])) no_items
+
+abbrev pub leaf_data : Leaf → Data
+leaf_data TakeItem = form (codes "take") no_items
+leaf_data DropItem = form (codes "drop") no_items
+leaf_data (AtPlace p) = form (codes "at") (marked (48 + p))
+leaf_data Carries = form (codes "carrying") no_items
+leaf_data OnItem = form (codes "item") no_items
+leaf_data (SignalOn a) = form (codes "signal") (marked (97 + a))
+leaf_data (NearOther n) = form (codes "near") (counted n no_items)
+
+abbrev pub list_head : Kind → List ℕ
+list_head Sequence = codes "seq"
+list_head Fallback = codes "fallback"
+
+abbrev pub star_head : Kind → List ℕ
+star_head Sequence = codes "seq*"
+star_head Fallback = codes "fallback*"
+
+abbrev mutual
+  pub node_data : Plain → Data
+  node_data (Composite kind children) = form (list_head kind) (forest_data children)
+  node_data (CompositeStar kind children) = form (star_head kind) (forest_data children)
+  node_data (Parallel m children) = form (codes "par") (counted m (forest_data children))
+  node_data (Invert child) = form (codes "not") (item (node_data child) no_items)
+  node_data (Tries n child) = form (codes "tries") (counted n (item (node_data child) no_items))
+  node_data (Ticks n child) = form (codes "ticks") (counted n (item (node_data child) no_items))
+  node_data (Wait n) = form (codes "wait") (counted n no_items)
+  node_data (MoveTo p) = form (codes "move") (marked (48 + p))
+  node_data (Does leaf) = leaf_data leaf
+
+  pub forest_data : Forest → Items
+  forest_data none = no_items
+  forest_data (tree child children) = item (node_data child) (forest_data children)
+
+-- ---- levels
+
+abbrev pub texts_data : List (List ℕ) → Items
+texts_data [] = no_items
+texts_data (s ∷ ss) = item (string s) (texts_data ss)
+
+abbrev pub trees_data : List NamedPlain → Members
+trees_data [] = no_members
+trees_data (t ∷ ts) = member t.name (node_data t.tree) (trees_data ts)
+
+abbrev pub level_data : Parts → Data
+level_data parts =
+    object (member (codes "agents") (array (texts_data parts.names))
+    (member (codes "map") (array (texts_data parts.rows))
+    (member (codes "trees") (object (trees_data parts.trees)) no_members)))
+
+-- the compact text: no space, the keys `agents`, `map`, `trees`, and the trees in the order in which they stand
+abbrev pub level_text : Parts → List ℕ
+level_text parts = compact_text (level_data parts)
