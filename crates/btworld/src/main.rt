@@ -7,6 +7,9 @@ mod play;
 mod reading;
 mod words;
 
+#[cfg(test)]
+mod tests;
+
 use command::command;
 use fault::Fault;
 use std::alloc::Alloc;
