@@ -17,7 +17,7 @@ const WALK: &str = "{\"map\":[\"A.0\"],\"agents\":[\"t\"],\"trees\":{\"t\":[\"mo
 
 /// What the program answered and wrote.
 #[derive(Drop)]
-struct Ran {
+struct Written {
     status: u8,
     out: Vec<u8>,
     err: Vec<u8>,
@@ -31,14 +31,14 @@ fn words_of(alloc: Global, words: &[&str]) -> Result<Vec<String>, Fail> {
     Ok(given)
 }
 
-fn ran(rt: &HostRuntime, words: &[&str], input: &[u8]) -> Result<Ran, Fail> {
+fn run_words(rt: &HostRuntime, words: &[&str], input: &[u8]) -> Result<Written, Fail> {
     let alloc = rt.alloc();
     let words = words_of(alloc, words)?;
     let mut out = Vec::new(alloc);
     let mut err = Vec::new(alloc);
     let mut left = input;
     let status = command(rt, alloc, &words, &mut left, &mut out, &mut err);
-    Ok(Ran { status, out, err })
+    Ok(Written { status, out, err })
 }
 
 /// Takes so many bytes, one at a time, and then fails.
@@ -81,10 +81,10 @@ fn plays_the_worked_games(rt: HostRuntime) -> Result<(), Fail> {
 #[test]
 fn plays_standard_input(rt: HostRuntime) -> Result<(), Fail> {
     let text = "frame 1\nA0\nA R 0,0 -\nframe 2\nA0\nA F 0,0 -\nframe 3\nA0\nA R 0,0 -\n";
-    let ran = ran(&rt, &[], FIRST.as_bytes())?;
-    assert_eq!(rt; ran.status, 0);
-    assert_eq!(rt; ran.out.as_slice(), text.as_bytes());
-    assert_eq!(rt; ran.err.len(), 0);
+    let written = run_words(&rt, &[], FIRST.as_bytes())?;
+    assert_eq!(rt; written.status, 0);
+    assert_eq!(rt; written.out.as_slice(), text.as_bytes());
+    assert_eq!(rt; written.err.len(), 0);
     Ok(())
 }
 
@@ -94,12 +94,12 @@ fn plays_files(rt: HostRuntime) -> Result<(), Fail> {
     fs::write(&rt, "door.script", "2 on a\n3 off a\n")?;
     let text = "frame 1\nAa0\nA F 0,0 -\nframe 2\n.A0\nA R 1,0 -\nframe 3\n.aA\nA R 2,0 -\n";
     let words = ["play", "door.json", "--frames", "3", "--workers", "1", "--script", "door.script"];
-    let played = ran(&rt, &words, b"")?;
+    let played = run_words(&rt, &words, b"")?;
     assert_eq!(rt; played.status, 0);
     assert_eq!(rt; played.out.as_slice(), text.as_bytes());
-    let shut = ran(&rt, &["play", "door.json", "--frames", "1", "--workers", "16"], b"")?;
+    let shut = run_words(&rt, &["play", "door.json", "--frames", "1", "--workers", "16"], b"")?;
     assert_eq!(rt; shut.out.as_slice(), b"frame 1\nAa0\nA F 0,0 -\n".as_slice());
-    let none = ran(&rt, &["play", "door.json", "--frames", "0", "--workers", "1"], b"")?;
+    let none = run_words(&rt, &["play", "door.json", "--frames", "0", "--workers", "1"], b"")?;
     assert_eq!(rt; none.status, 0);
     assert_eq!(rt; none.out.len(), 0);
     Ok(())
@@ -108,16 +108,16 @@ fn plays_files(rt: HostRuntime) -> Result<(), Fail> {
 #[test]
 fn refuses_levels(rt: HostRuntime) -> Result<(), Fail> {
     for (level, line) in &REFUSED_LEVELS {
-        let ran = ran(&rt, &[], level.as_bytes())?;
-        assert_eq!(rt; ran.status, 2, "{level}");
-        assert_eq!(rt; ran.out.len(), 0, "{level}");
-        assert_eq!(rt; ran.err.as_slice(), line.as_bytes(), "{level}");
+        let written = run_words(&rt, &[], level.as_bytes())?;
+        assert_eq!(rt; written.status, 2, "{level}");
+        assert_eq!(rt; written.out.len(), 0, "{level}");
+        assert_eq!(rt; written.err.as_slice(), line.as_bytes(), "{level}");
     }
     let bytes = FIRST.as_bytes();
     for end in 0..bytes.len() {
-        let ran = ran(&rt, &[], &bytes[..end])?;
-        assert_eq!(rt; ran.status, 2, "{end} bytes");
-        assert_eq!(rt; ran.err.as_slice(), b"level: json\n".as_slice(), "{end} bytes");
+        let written = run_words(&rt, &[], &bytes[..end])?;
+        assert_eq!(rt; written.status, 2, "{end} bytes");
+        assert_eq!(rt; written.err.as_slice(), b"level: json\n".as_slice(), "{end} bytes");
     }
     Ok(())
 }
@@ -128,26 +128,26 @@ fn refuses_scripts(rt: HostRuntime) -> Result<(), Fail> {
     let words = ["play", "walk.json", "--frames", "1", "--workers", "1", "--script", "bad.script"];
     for (script, line) in &REFUSED_SCRIPTS {
         fs::write(&rt, "bad.script", *script)?;
-        let ran = ran(&rt, &words, b"")?;
-        assert_eq!(rt; ran.status, 2, "{script}");
-        assert_eq!(rt; ran.out.len(), 0, "{script}");
-        assert_eq!(rt; ran.err.as_slice(), line.as_bytes(), "{script}");
+        let written = run_words(&rt, &words, b"")?;
+        assert_eq!(rt; written.status, 2, "{script}");
+        assert_eq!(rt; written.out.len(), 0, "{script}");
+        assert_eq!(rt; written.err.as_slice(), line.as_bytes(), "{script}");
     }
     Ok(())
 }
 
 #[test]
 fn refuses_words_and_missing_files(rt: HostRuntime) -> Result<(), Fail> {
-    let missing = ran(&rt, &["play", "missing.json", "--frames", "1", "--workers", "1"], b"")?;
+    let missing = run_words(&rt, &["play", "missing.json", "--frames", "1", "--workers", "1"], b"")?;
     assert_eq!(rt; missing.status, 1);
     assert_eq!(rt; missing.err.as_slice(), b"file: missing.json\n".as_slice());
     for words in [["play", "f", "--frames", "10000", "--workers", "1"], ["play", "f", "--frames", "1", "--workers", "17"], ["play", "f", "--frames", "1", "--fibers", "3"]] {
-        let refused = ran(&rt, &words, b"")?;
+        let refused = run_words(&rt, &words, b"")?;
         assert_eq!(rt; refused.status, 2);
         assert_eq!(rt; refused.out.len(), 0);
         assert!(rt; !refused.err.is_empty());
     }
-    let help = ran(&rt, &["--help"], b"")?;
+    let help = run_words(&rt, &["--help"], b"")?;
     assert_eq!(rt; help.status, 0);
     assert!(rt; !help.out.is_empty());
     assert_eq!(rt; help.err.len(), 0);
