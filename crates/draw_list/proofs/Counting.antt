@@ -51,13 +51,3 @@ pieces_more f done after whole i n h e w =
 
 pub pieces_end : (f : ℕ → List ℕ) (done whole : List ℕ) (i n : ℕ) → n ≤ i → done ++ flat_map f (count_up i (n - i)) ≡ whole → done ≡ whole
 pieces_end f done whole i n h w = sym (append-nil done) ∙ ap (λ l. done ++ flat_map f l) (sym (count_up-end i n h)) ∙ w
-
-pub items_more : (f : ℕ → ℕ) (done after whole : List ℕ) (i n x : ℕ) → i < n → x ≡ f i → after ≡ done ++ x ∷ []
-    → done ++ map f (count_up i (n - i)) ≡ whole → after ++ map f (count_up (i + 1) (n - (i + 1))) ≡ whole
-items_more f done after whole i n x h same e w =
-    ap (λ l. l ++ map f (count_up (i + 1) (n - (i + 1)))) (e ∙ ap (λ y. done ++ y ∷ []) same)
-    ∙ append_assoc done (f i ∷ []) (map f (count_up (i + 1) (n - (i + 1))))
-    ∙ ap (λ l. done ++ map f l) (sym (count_up-left i n h)) ∙ w
-
-pub items_end : (f : ℕ → ℕ) (done whole : List ℕ) (i n : ℕ) → n ≤ i → done ++ map f (count_up i (n - i)) ≡ whole → done ≡ whole
-items_end f done whole i n h w = sym (append-nil done) ∙ ap (λ l. done ++ map f l) (sym (count_up-end i n h)) ∙ w
