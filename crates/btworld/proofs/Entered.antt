@@ -1,7 +1,7 @@
 -- the subcommand that a parse entered
-use Rattle.std.proofs.Common.{◌≡◌, ◌≢◌, ◌∙◌, ap, ap₂, sym, true, List, [], Option, refl}
+use Rattle.std.proofs.Common.{◌≡◌, ◌≢◌, ◌∙◌, ap, sym, true, List, [], Option, refl}
 use Rattle.std.specs.Prelude.{Some, None, option_map}
-use Rattle.clap.specs.Words.{App, Row, Text, HasMatchesOf, found_of, is_simple, rows_of, subcommand_of, subcommand_rows_of, subcommand_name_of}
+use Rattle.clap.specs.Words.{App, Row, Text, HasMatchesOf, is_simple, subcommand_of, subcommand_rows_of, subcommand_name_of}
 use Rattle.clap.specs.Simple.{subcommand_rows}
 use Rattle.clap.specs.declared.parser.matches.ArgMatches.{ArgMatches}
 use Rattle.clap.specs.declared.parser.matches.ArgMatches.TheViews.{out-ArgMatches}

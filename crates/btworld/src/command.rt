@@ -43,7 +43,12 @@ fn named_file<H: Files>(rt: &H, alloc: Global, path: String) -> Result<Vec<u8>, 
 }
 
 /// Plays the level and the script that the words name; both files are read before either is parsed.
-fn play_files<H: Files, W: Write>(rt: &H, alloc: Global, play: Play, out: &mut W) -> Result<(), Fault>
+fn play_files<H: Files, W: Write>(
+    rt: &H,
+    alloc: Global,
+    play: Play,
+    out: &mut W,
+) -> Result<(), Fault>
     ensures { OnOk result ((level : List ℕ) × (script : List ℕ) × IsSomeAnd (spelled_game level script)
         (λ g. Appends (W.contents out.old) (W.contents out.new) (texts g play.frames))) }
 {

@@ -13,9 +13,8 @@ mod tests;
 use command::command;
 use fault::Fault;
 use std::alloc::Alloc;
-use std::env;
-use std::io;
 use std::process::ExitCode;
+use std::{env, io};
 
 /// The words after the program's name.
 fn words_given(rt: &HostRuntime) -> io::Result<Vec<String>> {
@@ -32,7 +31,14 @@ fn main(rt: HostRuntime) -> ExitCode {
     let mut err = rt.stderr();
     match words_given(&rt) {
         Ok(words) => {
-            let status = command(&rt, rt.alloc(), &words, &mut rt.stdin(), &mut rt.stdout(), &mut err);
+            let status = command(
+                &rt,
+                rt.alloc(),
+                &words,
+                &mut rt.stdin(),
+                &mut rt.stdout(),
+                &mut err,
+            );
             ExitCode::from(status)
         }
         Err(_) => ExitCode::from(Fault::OutOfMemory.report(&mut err)),

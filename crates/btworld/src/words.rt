@@ -145,8 +145,13 @@ fn text_entry(alloc: Global, matches: &ArgMatches<'_>, name: &str) -> Result<Str
     }
 }
 
-fn optional_entry(alloc: Global, matches: &ArgMatches<'_>, name: &str) -> Result<Option<String>, AllocError>
-    ensures { IfOk result (λ t. first_of name.now (rows_of (found_of matches.now)) ≡ option_map (λ s. string_bytes s) t) }
+fn optional_entry(
+    alloc: Global,
+    matches: &ArgMatches<'_>,
+    name: &str,
+) -> Result<Option<String>, AllocError>
+    ensures { IfOk result (λ t. first_of name.now (rows_of (found_of matches.now))
+        ≡ option_map (λ s. string_bytes s) t) }
 {
     match matches.get_str(name) {
         Some(text) => Ok(Some(String::from_str(alloc, text)?)),
@@ -155,7 +160,8 @@ fn optional_entry(alloc: Global, matches: &ArgMatches<'_>, name: &str) -> Result
 }
 
 fn play_words(alloc: Global, matches: &ArgMatches<'_>) -> Result<Words, WordsFault>
-    ensures { IfOk result (λ w. (ws : List (List ℕ)) → Enters ws (codes "play") (rows_of (found_of matches.now)) → IsReading ws w) }
+    ensures { IfOk result (λ w. (ws : List (List ℕ))
+        → Enters ws (codes "play") (rows_of (found_of matches.now)) → IsReading ws w) }
 {
     Ok(Words::Play(Play {
         level: text_entry(alloc, matches, "level")?,

@@ -1,5 +1,5 @@
 -- How many agents there are, and how many thoughts.
-use Rattle.std.proofs.Common.{◌≡◌, ◌<◌, ℕ, zero, suc, ◌+◌, List, [], ◌∷◌, ◌++◌, length, map, Bool, true, false, Option, Some, None, refl, sym, ap, ◌∙◌, ◌&&◌, arith, if◌then◌else◌, take, get_or, drop, subst, append_assoc, append-nil, ◌-◌, ◌≤◌, inl, inr}
+use Rattle.std.proofs.Common.{◌≡◌, ◌<◌, ℕ, suc, ◌+◌, List, [], ◌∷◌, ◌++◌, length, map, Bool, true, false, Option, Some, None, refl, sym, ap, ◌∙◌, ◌&&◌, arith, if◌then◌else◌, take, get_or, drop, subst, append_assoc, append-nil, ◌≤◌}
 use Rattle.std.specs.Prelude.{not, is_none}
 use Rattle.std.proofs.lemmas.List.{length-set, map-append, take_more, drop_more, take_all, length-drop}
 use Rattle.grid_world.specs.Grid.{Grid, Point, agent_of, agent_on, point_of, has_item}

@@ -1,5 +1,5 @@
 -- A tick that is cut at each of its questions ends as the agent's thought.
-use Rattle.std.proofs.Common.{◌≡◌, ◌<◌, ◌≤◌, ℕ, suc, ◌+◌, List, [], ◌∷◌, ◌++◌, refl, sym, ap, ◌∙◌, append_assoc, append-nil, subst, arith, true, ⊎_elim, below_more}
+use Rattle.std.proofs.Common.{◌≡◌, ◌<◌, ℕ, suc, ◌+◌, List, [], ◌∷◌, ◌++◌, refl, sym, ap, ◌∙◌, append_assoc, append-nil, subst, arith, true, ⊎_elim, below_more}
 use Rattle.std.specs.Prelude.{Some}
 use Rattle.std.proofs.lemmas.Bool.{cases_lt, both_ways}
 use Rattle.grid_world.specs.declared.cell.Answer.{Answer}
@@ -9,8 +9,8 @@ use Rattle.bt_nodes.specs.declared.node.Status.{Status}
 use Rattle.bt_nodes.specs.Plain.{Plain}
 use Rattle.bt_nodes.specs.Sizes.{size}
 use Rattle.game_rules.specs.View.{View, cell_of}
-use Rattle.game_rules.specs.Tick.{Reply, Gives, Stands, Result, gives}
-use Rattle.game_rules.specs.Thought.{ticked, last_of, way_to_last, next_answer, add_if, ways, all_ways, questions, first_want, Thought, thought, thought_of}
+use Rattle.game_rules.specs.Tick.{Gives, Stands, Result, gives}
+use Rattle.game_rules.specs.Thought.{ticked, last_of, way_to_last, next_answer, add_if, ways, all_ways, questions, Thought, thought, thought_of}
 use Rattle.game_rules.proofs.Ways.{stands, ends, goes_on, all_there}
 use Rattle.bt_tick.specs.Suspended.{after}
 use Rattle.bt_tick.specs.Outcome.{fresh, means, place_of, tree_of, ComesTo, IsOutcome, IsOfTree}
@@ -65,7 +65,7 @@ module _ (v : View) (p : Plain) (m : List ℕ) where
       record {
         places = t.places ++ place_of q ∷ [];
         comes = comes_on v t.places (place_of q ∷ []) o (λ more. means v q (x ∷ more)) (λ more. run (ways v p m (i + 1) ++ more)) c
-        (λ more. ap (λ l. run (l ++ more)) e ∙ ap run (append_assoc (ways v p m i) (x ∷ []) more) ∙ t.comes.1 (x ∷ more));
+            (λ more. ap (λ l. run (l ++ more)) e ∙ ap run (append_assoc (ways v p m i) (x ∷ []) more) ∙ t.comes.1 (x ∷ more));
         tree = subst (λ r. IsOfTree r o) t.tree tree;
         stood = below_more (λ j. (run (ways v p m j)).reply ≡ Stands) i t.stood now.0;
       }

@@ -10,8 +10,7 @@ texts_more : (g : Game) (m k : ℕ) → (rest : List ℕ) × (texts g (m + k) �
 texts_more g m zero = let e : m + zero ≡ m = omega arith in ([], ap (texts g) e ∙ sym (append-nil (texts g m)))
 texts_more g m (suc k) =
     let e : m + suc k ≡ suc (m + k) = omega arith in
-    let before = texts_more g m k in
-    (
+    let before = texts_more g m k in (
       before.0 ++ frame_text g (suc (m + k)),
       ap (texts g) e ∙ ap (λ l. l ++ frame_text g (suc (m + k))) before.1 ∙ append_assoc (texts g m) before.0 (frame_text g (suc (m + k))),
     )
@@ -29,12 +28,11 @@ some_frames g m n a b h w = let rest = texts_begin g m n h in (texts g m, rest.0
 pub part_of_frame : (g : Game) (m n : ℕ) (a b c : Option (List ℕ)) (text : List ℕ) → m < n → text ≡ frame_text g (suc m) → Appends a b (texts g m) → AppendsPart b c text
     → AppendsPart a c (texts g n)
 part_of_frame g m n a b c text h same w (part, rest, whole, grown) =
-    let later = texts_begin g (suc m) n h in
-    (
+    let later = texts_begin g (suc m) n h in (
       texts g m ++ part,
       rest ++ later.0,
       later.1 ∙ ap (λ l. (texts g m ++ l) ++ later.0) (sym same ∙ whole)
-      ∙ ap (λ l. l ++ later.0) (sym (append_assoc (texts g m) part rest)) ∙ append_assoc (texts g m ++ part) rest later.0,
+          ∙ ap (λ l. l ++ later.0) (sym (append_assoc (texts g m) part rest)) ∙ append_assoc (texts g m ++ part) rest later.0,
       writes_on a b c (texts g m) part w grown,
     )
 

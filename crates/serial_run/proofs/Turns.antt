@@ -5,7 +5,6 @@ use Rattle.game_rules.specs.Game.{Game, signals}
 use Rattle.game_rules.specs.Play.{Position, play, turn, thoughts}
 use Rattle.game_rules.specs.Text.{text, frame_text}
 use Rattle.std.proofs.lemmas.List.{length-map}
-use Rattle.bt_nodes.specs.declared.node.Status.{Status}
 use Rattle.bt_nodes.specs.Plain.{Plain}
 use Rattle.game_rules.specs.Thought.{Thought as PlainThought}
 use Rattle.serial_run.specs.declared.thought.Thought.{Thought}

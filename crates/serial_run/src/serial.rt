@@ -52,7 +52,12 @@ fn statuses_of(alloc: Global, thoughts: &[Thought]) -> Result<Vec<Status>, Alloc
 }
 
 /// The world after the agents' intents.
-fn turned(alloc: Global, world: &World, signals: Signals, thoughts: &[Thought]) -> Result<World, AllocError>
+fn turned(
+    alloc: Global,
+    world: &World,
+    signals: Signals,
+    thoughts: &[Thought],
+) -> Result<World, AllocError>
     requires { length thoughts.now ≡ length world.now.agents }
     ensures { IfOk result (λ w. w ≡ apply_all world.now signals 0 (map (λ t. t.intent) thoughts.now)) }
 {
@@ -101,7 +106,12 @@ fn play_frame(
 /// Writes the frames 1 to `frames`, each by one text, and flushes once at the end.
 ///
 /// After a fault the writer has got a first part of their text.
-pub fn play_serially<W: Write>(alloc: Global, session: &Session, frames: u32, out: &mut W) -> Result<(), SerialFault>
+pub fn play_serially<W: Write>(
+    alloc: Global,
+    session: &Session,
+    frames: u32,
+    out: &mut W,
+) -> Result<(), SerialFault>
     ensures ok { OnOk result (Appends (W.contents out.old) (W.contents out.new) (texts session.now frames)) }
     ensures err { OnErr result (AppendsPart (W.contents out.old) (W.contents out.new) (texts session.now frames)) }
 {

@@ -29,7 +29,12 @@ fn way_to(alloc: Global, view: &View, place: Place) -> Result<Answer, AllocError
 }
 
 /// Ticks an agent's tree, and answers each question that the tick asks.
-pub fn think(alloc: Global, view: &View, tree: &Tree<Global>, memory: Memory) -> Result<Thought, AllocError>
+pub fn think(
+    alloc: Global,
+    view: &View,
+    tree: &Tree<Global>,
+    memory: Memory,
+) -> Result<Thought, AllocError>
     requires agent { IsInWorld view.now }
     requires fits { Fits (plain_of tree.now) memory }
     ensures thought { IfOk result (λ t. plain_thought t ≡ thought (view_of view.now) (plain_of tree.now) memory) }

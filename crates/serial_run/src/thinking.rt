@@ -21,7 +21,8 @@ pub fn think_all(
 ) -> Result<Vec<Thought>, AllocError>
     requires agents { length world.now.agents ≡ length session.now.trees }
     requires fit { AllFit session.now.trees memories.items }
-    ensures thoughts { IfOk result (λ ts. map plain_thought ts.items ≡ thoughts_from world.now signals 0 session.now.trees memories.items) }
+    ensures thoughts { IfOk result (λ ts. map plain_thought ts.items
+        ≡ thoughts_from world.now signals 0 session.now.trees memories.items) }
     ensures fit { IfOk result (λ ts. AllFit session.now.trees (map (λ t. t.memory) ts.items)) }
 {
     let mut thoughts = Vec::with_capacity(alloc, world.agents().len())?;

@@ -1,6 +1,5 @@
-use Rattle.std.proofs.Common.{◌≡◌, ap, ◌∙◌, sym, take, arith, ◌-◌}
-use Rattle.std.proofs.lemmas.Grind.{common_steps}
-use Rattle.btworld.proofs.Whole.{none_yet, reads_on, ends_here}
+use Rattle.std.proofs.Common.{take, arith}
+use Rattle.btworld.proofs.Whole.{reads_on, ends_here}
 use Rattle.btworld.proofs.reading.read_whole.Goals as goal
 
 pub reads-preserved : goal.reads-preserved

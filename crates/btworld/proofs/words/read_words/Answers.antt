@@ -1,7 +1,7 @@
-use Rattle.std.proofs.Common.{◌≡◌, ◌≢◌, rules, refl, codes, map, List, [], ℕ}
+use Rattle.std.proofs.Common.{◌≢◌, rules, refl, codes, map, List, []}
 use Rattle.std.specs.Prelude.{string_bytes}
 use Rattle.std.proofs.lemmas.Result.{IfOk-weaker}
-use Rattle.clap.specs.Words.{Text, found_of, rows_of, app_of}
+use Rattle.clap.specs.Words.{Text, found_of, rows_of}
 use Rattle.btworld.specs.Program.{Enters, IsReading}
 use Rattle.btworld.proofs.Entered.{enters}
 use Rattle.btworld.proofs.words.read_words.Goals as goal

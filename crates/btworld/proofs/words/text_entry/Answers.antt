@@ -1,4 +1,4 @@
-use Rattle.std.proofs.Common.{◌≡◌, ◌∙◌, sym, ap, List, ℕ, Option}
+use Rattle.std.proofs.Common.{◌∙◌, sym, ap, List, ℕ}
 use Rattle.std.specs.Prelude.{Some}
 use Rattle.clap.specs.Words.{found_of}
 use Rattle.clap.proofs.WalkLemmas.{first_value-rows}

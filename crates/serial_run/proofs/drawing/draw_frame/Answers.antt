@@ -1,7 +1,7 @@
-use Rattle.std.proofs.Common.{◌≡◌, ◌<◌, ◌∙◌, ap, sym, arith, map}
+use Rattle.std.proofs.Common.{◌≡◌, ◌<◌, ◌∙◌, ap, arith, map}
 use Rattle.std.specs.Int.{div_ceil}
 use Rattle.grid_world.specs.Map.{count_up}
-use Rattle.draw_list.specs.Bands.{band_of, band_count, bands_of}
+use Rattle.draw_list.specs.Bands.{band_of, band_count}
 use Rattle.serial_run.proofs.BandList.{one_more, all_there}
 use Rattle.serial_run.proofs.drawing.draw_frame.Goals as goal
 

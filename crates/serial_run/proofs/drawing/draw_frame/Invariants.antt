@@ -1,6 +1,6 @@
 use Rattle.std.proofs.Common.{◌≡◌, ◌++◌, ◌-◌, map}
 use Rattle.grid_world.specs.Map.{count_up}
-use Rattle.draw_list.specs.Bands.{band_of, bands_of, band_count}
+use Rattle.draw_list.specs.Bands.{band_of}
 use Rattle.serial_run.proofs.drawing.draw_frame.Given as goal
 
 abbrev pub invariant-bands : goal.invariant-bands

@@ -1,4 +1,4 @@
-use Rattle.std.proofs.Common.{◌≡◌, ◌∙◌, ap, sym, subst, map, length, List, Bool, ℕ}
+use Rattle.std.proofs.Common.{◌≡◌, ◌∙◌, ap, sym, subst, map, length, List, Bool}
 use Rattle.std.proofs.lemmas.List.{length-map}
 use Rattle.bt_nodes.specs.declared.node.Status.{Status}
 use Rattle.grid_world.specs.Intents.{apply_all}

@@ -1,4 +1,4 @@
-use Rattle.std.proofs.Common.{◌≡◌, ◌∙◌, ap, sym, subst, arith, ◌<◌, ◌+◌, length, take}
+use Rattle.std.proofs.Common.{◌∙◌, ap, sym, subst, arith, ◌<◌, ◌+◌, length, take}
 use Rattle.bt_nodes.specs.Plain.{Does, Carries}
 use Rattle.bt_nodes.specs.Trees.{plain_of}
 use Rattle.serial_run.specs.Thoughts.{AllFit}
@@ -13,5 +13,5 @@ agents-preserved c =
     record {
       zero = c.in_ok-push.ensures.items ∙ zero_more trees c.agents.memories.items i (Does Carries) (plain_of c.tree_of.result.now) c.in_ok-zero.field-0 h c.tree_of.ensures.value c.in_ok-zero.ensures.zero c.agents.invariant.zero;
       fit = subst (AllFit (take (i + 1) trees)) (sym c.in_ok-push.ensures.items)
-      (fit_more trees c.agents.memories.items i (Does Carries) (plain_of c.tree_of.result.now) c.in_ok-zero.field-0 h c.tree_of.ensures.value c.in_ok-zero.ensures.fits c.agents.invariant.fit);
+          (fit_more trees c.agents.memories.items i (Does Carries) (plain_of c.tree_of.result.now) c.in_ok-zero.field-0 h c.tree_of.ensures.value c.in_ok-zero.ensures.fits c.agents.invariant.fit);
     }

@@ -1,4 +1,4 @@
-use Rattle.std.proofs.Common.{◌≡◌, ◌∙◌, ap, sym, subst, arith, ◌<◌, ◌+◌, length, take, drop, map, ◌++◌, ◌∷◌, []}
+use Rattle.std.proofs.Common.{◌∙◌, ap, sym, subst, arith, ◌<◌, ◌+◌, length, take, drop, map, ◌++◌, ◌∷◌, []}
 use Rattle.std.proofs.lemmas.List.{map-append, nil_from_length}
 use Rattle.bt_nodes.specs.Bounds.{Fits}
 use Rattle.bt_nodes.specs.Plain.{Does, Carries}
@@ -22,7 +22,7 @@ think-requires c =
     record {
       agent = omega (arith, h, c.requires.agents);
       fits = subst (λ p. Fits p c.in-Some.memory) c.tree_of.ensures.value
-      (fit_left trees i (Does Carries) c.agents.memory-iterator.rest.items c.in-Some.memory c.next.new.self.rest.items c.in-Some.ensures.steps.0 c.agents.invariant.left h).0;
+          (fit_left trees i (Does Carries) c.agents.memory-iterator.rest.items c.in-Some.memory c.next.new.self.rest.items c.in-Some.ensures.steps.0 c.agents.invariant.left h).0;
     }
 
 pub agents-preserved : goal.agents-preserved
@@ -41,11 +41,11 @@ agents-preserved c =
       within = omega (arith, h);
       left = (fit_left trees i (Does Carries) ms c.in-Some.memory more c.in-Some.ensures.steps.0 c.agents.invariant.left h).1;
       fit = subst (AllFit (take (i + 1) trees)) (sym (ap (map (λ x. x.memory)) c.in_ok-push.ensures.items ∙ map-append (λ x. x.memory) done (t ∷ [])))
-      (fit_more trees (map (λ x. x.memory) done) i (Does Carries) p t.memory h c.tree_of.ensures.value c.in_ok-think.ensures.fits c.agents.invariant.fit);
+          (fit_more trees (map (λ x. x.memory) done) i (Does Carries) p t.memory h c.tree_of.ensures.value c.in_ok-think.ensures.fits c.agents.invariant.fit);
       thoughts = ap (λ l. l ++ thoughts_from c.args.world.now c.args.signals (i + 1) (drop (i + 1) trees) more)
-      (ap (map plain_thought) c.in_ok-push.ensures.items ∙ map-append plain_thought done (t ∷ []))
-      ∙ thought_more c.args.world.now c.args.signals trees i (Does Carries) p ms c.in-Some.memory more (map plain_thought done) _ (plain_thought t)
-      c.in-Some.ensures.steps.0 h c.tree_of.ensures.value c.in_ok-think.ensures.thought c.agents.invariant.thoughts;
+          (ap (map plain_thought) c.in_ok-push.ensures.items ∙ map-append plain_thought done (t ∷ []))
+          ∙ thought_more c.args.world.now c.args.signals trees i (Does Carries) p ms c.in-Some.memory more (map plain_thought done) _ (plain_thought t)
+          c.in-Some.ensures.steps.0 h c.tree_of.ensures.value c.in_ok-think.ensures.thought c.agents.invariant.thoughts;
     }
 
 pub returns-clause-thoughts : goal.returns-clause-thoughts

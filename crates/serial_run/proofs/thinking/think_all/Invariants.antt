@@ -11,6 +11,6 @@ invariant-agents l = record {
   left : AllFit (drop l.agent l.session.trees) l.memory-iterator.rest.items;
   fit : AllFit (take l.agent l.session.trees) (map (λ t. t.memory) l.thoughts.items);
   thoughts : map plain_thought l.thoughts.items
-  ++ thoughts_from l.world l.signals l.agent (drop l.agent l.session.trees) l.memory-iterator.rest.items
-  ≡ thoughts_from l.world l.signals 0 l.session.trees l.fn.memories.items;
+      ++ thoughts_from l.world l.signals l.agent (drop l.agent l.session.trees) l.memory-iterator.rest.items
+      ≡ thoughts_from l.world l.signals 0 l.session.trees l.fn.memories.items;
 }

@@ -1,6 +1,5 @@
-use Rattle.std.proofs.Common.{rules, ◌≡◌, take, drop, length, List, ℕ, subst}
 use Rattle.std.proofs.lemmas.List.{take_rest}
-use Rattle.serial_run.proofs.Parts.{Writing, more}
+use Rattle.serial_run.proofs.Parts.{more}
 use Rattle.serial_run.proofs.writing.write_whole.Goals as goal
 
 pub writes-preserved : goal.writes-preserved
