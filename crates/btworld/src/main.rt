@@ -5,10 +5,9 @@ mod command;
 mod fault;
 mod play;
 mod reading;
-mod words;
-
 #[cfg(test)]
 mod tests;
+mod words;
 
 use command::command;
 use fault::Fault;

@@ -5,13 +5,13 @@ use crate::command::command;
 use crate::play::play_bytes;
 use games::{GAMES, REFUSED_LEVELS, REFUSED_SCRIPTS};
 use std::alloc::{Alloc, Global};
-use std::fs;
-use std::io;
 use std::io::{Read, Write};
 use std::process::Abort;
 use std::test::Fail;
+use std::{fs, io};
 
-const FIRST: &str = "{\"map\":[\"A0\"],\"agents\":[\"t\"],\"trees\":{\"t\":[\"seq\",[\"wait\",1],[\"at\",\"0\"]]}}";
+const FIRST: &str =
+    "{\"map\":[\"A0\"],\"agents\":[\"t\"],\"trees\":{\"t\":[\"seq\",[\"wait\",1],[\"at\",\"0\"]]}}";
 
 const WALK: &str = "{\"map\":[\"A.0\"],\"agents\":[\"t\"],\"trees\":{\"t\":[\"move\",\"0\"]}}";
 
@@ -71,7 +71,13 @@ impl Write for Narrow {
 fn plays_the_worked_games(rt: HostRuntime) -> Result<(), Fail> {
     for game in &GAMES {
         let mut out = Vec::new(rt.alloc());
-        let done = play_bytes(rt.alloc(), game.level.as_bytes(), game.script.as_bytes(), game.frames, &mut out);
+        let done = play_bytes(
+            rt.alloc(),
+            game.level.as_bytes(),
+            game.script.as_bytes(),
+            game.frames,
+            &mut out,
+        );
         assert!(rt; done.is_ok(), "{}", game.name);
         assert_eq!(rt; out.as_slice(), game.text.as_bytes(), "{}", game.name);
     }
@@ -90,16 +96,40 @@ fn plays_standard_input(rt: HostRuntime) -> Result<(), Fail> {
 
 #[test]
 fn plays_files(rt: HostRuntime) -> Result<(), Fail> {
-    fs::write(&rt, "door.json", "{\"map\":[\"Aa0\"],\"agents\":[\"t\"],\"trees\":{\"t\":[\"move\",\"0\"]}}")?;
+    fs::write(
+        &rt,
+        "door.json",
+        "{\"map\":[\"Aa0\"],\"agents\":[\"t\"],\"trees\":{\"t\":[\"move\",\"0\"]}}",
+    )?;
     fs::write(&rt, "door.script", "2 on a\n3 off a\n")?;
     let text = "frame 1\nAa0\nA F 0,0 -\nframe 2\n.A0\nA R 1,0 -\nframe 3\n.aA\nA R 2,0 -\n";
-    let words = ["play", "door.json", "--frames", "3", "--workers", "1", "--script", "door.script"];
+    let words = [
+        "play",
+        "door.json",
+        "--frames",
+        "3",
+        "--workers",
+        "1",
+        "--script",
+        "door.script",
+    ];
     let played = run_words(&rt, &words, b"")?;
     assert_eq!(rt; played.status, 0);
     assert_eq!(rt; played.out.as_slice(), text.as_bytes());
-    let shut = run_words(&rt, &["play", "door.json", "--frames", "1", "--workers", "16"], b"")?;
-    assert_eq!(rt; shut.out.as_slice(), b"frame 1\nAa0\nA F 0,0 -\n".as_slice());
-    let none = run_words(&rt, &["play", "door.json", "--frames", "0", "--workers", "1"], b"")?;
+    let shut = run_words(
+        &rt,
+        &["play", "door.json", "--frames", "1", "--workers", "16"],
+        b"",
+    )?;
+    assert_eq!(rt;
+        shut.out.as_slice(),
+        b"frame 1\nAa0\nA F 0,0 -\n".as_slice()
+    );
+    let none = run_words(
+        &rt,
+        &["play", "door.json", "--frames", "0", "--workers", "1"],
+        b"",
+    )?;
     assert_eq!(rt; none.status, 0);
     assert_eq!(rt; none.out.len(), 0);
     Ok(())
@@ -117,7 +147,11 @@ fn refuses_levels(rt: HostRuntime) -> Result<(), Fail> {
     for end in 0..bytes.len() {
         let written = run_words(&rt, &[], &bytes[..end])?;
         assert_eq!(rt; written.status, 2, "{end} bytes");
-        assert_eq!(rt; written.err.as_slice(), b"level: json\n".as_slice(), "{end} bytes");
+        assert_eq!(rt;
+            written.err.as_slice(),
+            b"level: json\n".as_slice(),
+            "{end} bytes"
+        );
     }
     Ok(())
 }
@@ -125,7 +159,16 @@ fn refuses_levels(rt: HostRuntime) -> Result<(), Fail> {
 #[test]
 fn refuses_scripts(rt: HostRuntime) -> Result<(), Fail> {
     fs::write(&rt, "walk.json", WALK)?;
-    let words = ["play", "walk.json", "--frames", "1", "--workers", "1", "--script", "bad.script"];
+    let words = [
+        "play",
+        "walk.json",
+        "--frames",
+        "1",
+        "--workers",
+        "1",
+        "--script",
+        "bad.script",
+    ];
     for (script, line) in &REFUSED_SCRIPTS {
         fs::write(&rt, "bad.script", *script)?;
         let written = run_words(&rt, &words, b"")?;
@@ -138,10 +181,18 @@ fn refuses_scripts(rt: HostRuntime) -> Result<(), Fail> {
 
 #[test]
 fn refuses_words_and_missing_files(rt: HostRuntime) -> Result<(), Fail> {
-    let missing = run_words(&rt, &["play", "missing.json", "--frames", "1", "--workers", "1"], b"")?;
+    let missing = run_words(
+        &rt,
+        &["play", "missing.json", "--frames", "1", "--workers", "1"],
+        b"",
+    )?;
     assert_eq!(rt; missing.status, 1);
     assert_eq!(rt; missing.err.as_slice(), b"file: missing.json\n".as_slice());
-    for words in [["play", "f", "--frames", "10000", "--workers", "1"], ["play", "f", "--frames", "1", "--workers", "17"], ["play", "f", "--frames", "1", "--fibers", "3"]] {
+    for words in [
+        ["play", "f", "--frames", "10000", "--workers", "1"],
+        ["play", "f", "--frames", "1", "--workers", "17"],
+        ["play", "f", "--frames", "1", "--fibers", "3"],
+    ] {
         let refused = run_words(&rt, &words, b"")?;
         assert_eq!(rt; refused.status, 2);
         assert_eq!(rt; refused.out.len(), 0);
@@ -157,7 +208,8 @@ fn refuses_words_and_missing_files(rt: HostRuntime) -> Result<(), Fail> {
 /// What a writer took before it failed is a first part of the right text.
 #[test]
 fn stops_where_a_write_fails(rt: HostRuntime) -> Result<(), Fail> {
-    let text = b"frame 1\n.A0\nA R 1,0 -\nframe 2\n..A\nA R 2,0 -\nframe 3\n..A\nA S 2,0 -\n".as_slice();
+    let text =
+        b"frame 1\n.A0\nA R 1,0 -\nframe 2\n..A\nA R 2,0 -\nframe 3\n..A\nA S 2,0 -\n".as_slice();
     for room in 0..text.len() {
         let mut out = Narrow {
             bytes: Vec::new(rt.alloc()),

@@ -204,26 +204,86 @@ pub static GAMES: [Game; 27] = [
 pub static REFUSED_LEVELS: [(&str, &str); 22] = [
     ("{", "level: json\n"),
     ("[]", "level: shape\n"),
-    ("{\"map\":[\"A.\",\".\"],\"agents\":[\"t\"],\"trees\":{\"t\":[\"carrying\"]}}", "level: map size\n"),
-    ("{\"map\":[\"A?\"],\"agents\":[\"t\"],\"trees\":{\"t\":[\"carrying\"]}}", "level: map character at 1,0\n"),
-    ("{\"map\":[\"AC\"],\"agents\":[\"t\",\"t\"],\"trees\":{\"t\":[\"carrying\"]}}", "level: letters\n"),
-    ("{\"map\":[\"00\"],\"agents\":[],\"trees\":{}}", "level: letters\n"),
-    ("{\"map\":[\"A\"],\"agents\":[],\"trees\":{\"t\":[\"carrying\"]}}", "level: agent count\n"),
-    ("{\"map\":[\"A\"],\"agents\":[\"t\"],\"trees\":{\"t\":[\"par\",0,[\"wait\",1]]}}", "level: tree t: threshold\n"),
-    ("{\"map\":[\"A\"],\"agents\":[\"t\"],\"trees\":{\"t\":[\"seq\"]}}", "level: tree t: no child\n"),
-    ("{\"map\":[\"A\"],\"agents\":[\"t\"],\"trees\":{\"t\":[\"wait\",0]}}", "level: tree t: count\n"),
-    ("{\"map\":[\"A\"],\"agents\":[\"u\"],\"trees\":{\"t\":[\"carrying\"]}}", "level: agent A has no tree\n"),
-    ("{\"map\":[\"A0\"],\"agents\":[\"t\"],\"trees\":{\"t\":[\"move\",\"1\"]}}", "level: tree t names a place that is not on the map\n"),
-    ("{\"map\":[\"A0\"],\"agents\":[\"t\"],\"trees\":{\"t\":[\"at\",\"1\"]}}", "level: tree t names a place that is not on the map\n"),
-    ("{\"map\":[\"A\"],\"agents\":[\"t\"],\"trees\":{\"t\":[\"not\",[\"not\",[\"not\",[\"not\",[\"not\",[\"not\",[\"not\",[\"not\",[\"not\",[\"not\",[\"not\",[\"not\",[\"not\",[\"not\",[\"not\",[\"not\",[\"not\",[\"not\",[\"not\",[\"not\",[\"not\",[\"not\",[\"not\",[\"not\",[\"not\",[\"not\",[\"not\",[\"not\",[\"not\",[\"not\",[\"not\",[\"not\",[\"carrying\"]]]]]]]]]]]]]]]]]]]]]]]]]]]]]]]]]}}", "level: tree t: too deep\n"),
-    ("{\"map\":[\"A\"],\"agents\":[\"t\"],\"trees\":{\"t\":[\"seq\",[\"carrying\"],[\"carrying\"],[\"carrying\"],[\"carrying\"],[\"carrying\"],[\"carrying\"],[\"carrying\"],[\"carrying\"],[\"carrying\"],[\"carrying\"],[\"carrying\"],[\"carrying\"],[\"carrying\"],[\"carrying\"],[\"carrying\"],[\"carrying\"],[\"carrying\"],[\"carrying\"],[\"carrying\"],[\"carrying\"],[\"carrying\"],[\"carrying\"],[\"carrying\"],[\"carrying\"],[\"carrying\"],[\"carrying\"],[\"carrying\"],[\"carrying\"],[\"carrying\"],[\"carrying\"],[\"carrying\"],[\"carrying\"],[\"carrying\"],[\"carrying\"],[\"carrying\"],[\"carrying\"],[\"carrying\"],[\"carrying\"],[\"carrying\"],[\"carrying\"],[\"carrying\"],[\"carrying\"],[\"carrying\"],[\"carrying\"],[\"carrying\"],[\"carrying\"],[\"carrying\"],[\"carrying\"],[\"carrying\"],[\"carrying\"],[\"carrying\"],[\"carrying\"],[\"carrying\"],[\"carrying\"],[\"carrying\"],[\"carrying\"],[\"carrying\"],[\"carrying\"],[\"carrying\"],[\"carrying\"],[\"carrying\"],[\"carrying\"],[\"carrying\"],[\"carrying\"],[\"carrying\"],[\"carrying\"],[\"carrying\"],[\"carrying\"],[\"carrying\"],[\"carrying\"],[\"carrying\"],[\"carrying\"],[\"carrying\"],[\"carrying\"],[\"carrying\"],[\"carrying\"],[\"carrying\"],[\"carrying\"],[\"carrying\"],[\"carrying\"],[\"carrying\"],[\"carrying\"],[\"carrying\"],[\"carrying\"],[\"carrying\"],[\"carrying\"],[\"carrying\"],[\"carrying\"],[\"carrying\"],[\"carrying\"],[\"carrying\"],[\"carrying\"],[\"carrying\"],[\"carrying\"],[\"carrying\"],[\"carrying\"],[\"carrying\"],[\"carrying\"],[\"carrying\"],[\"carrying\"],[\"carrying\"],[\"carrying\"],[\"carrying\"],[\"carrying\"],[\"carrying\"],[\"carrying\"],[\"carrying\"],[\"carrying\"],[\"carrying\"],[\"carrying\"],[\"carrying\"],[\"carrying\"],[\"carrying\"],[\"carrying\"],[\"carrying\"],[\"carrying\"],[\"carrying\"],[\"carrying\"],[\"carrying\"],[\"carrying\"],[\"carrying\"],[\"carrying\"],[\"carrying\"],[\"carrying\"],[\"carrying\"],[\"carrying\"],[\"carrying\"],[\"carrying\"],[\"carrying\"],[\"carrying\"],[\"carrying\"],[\"carrying\"],[\"carrying\"],[\"carrying\"],[\"carrying\"],[\"carrying\"],[\"carrying\"],[\"carrying\"],[\"carrying\"],[\"carrying\"],[\"carrying\"],[\"carrying\"],[\"carrying\"],[\"carrying\"],[\"carrying\"],[\"carrying\"],[\"carrying\"],[\"carrying\"],[\"carrying\"],[\"carrying\"],[\"carrying\"],[\"carrying\"],[\"carrying\"],[\"carrying\"],[\"carrying\"],[\"carrying\"],[\"carrying\"],[\"carrying\"],[\"carrying\"],[\"carrying\"],[\"carrying\"],[\"carrying\"],[\"carrying\"],[\"carrying\"],[\"carrying\"],[\"carrying\"],[\"carrying\"],[\"carrying\"],[\"carrying\"],[\"carrying\"],[\"carrying\"],[\"carrying\"],[\"carrying\"],[\"carrying\"],[\"carrying\"],[\"carrying\"],[\"carrying\"],[\"carrying\"],[\"carrying\"],[\"carrying\"],[\"carrying\"],[\"carrying\"],[\"carrying\"],[\"carrying\"],[\"carrying\"],[\"carrying\"],[\"carrying\"],[\"carrying\"],[\"carrying\"],[\"carrying\"],[\"carrying\"],[\"carrying\"],[\"carrying\"],[\"carrying\"],[\"carrying\"],[\"carrying\"],[\"carrying\"],[\"carrying\"],[\"carrying\"],[\"carrying\"],[\"carrying\"],[\"carrying\"],[\"carrying\"],[\"carrying\"],[\"carrying\"],[\"carrying\"],[\"carrying\"],[\"carrying\"],[\"carrying\"],[\"carrying\"],[\"carrying\"],[\"carrying\"],[\"carrying\"],[\"carrying\"],[\"carrying\"],[\"carrying\"],[\"carrying\"],[\"carrying\"],[\"carrying\"],[\"carrying\"],[\"carrying\"],[\"carrying\"],[\"carrying\"],[\"carrying\"],[\"carrying\"],[\"carrying\"],[\"carrying\"],[\"carrying\"],[\"carrying\"],[\"carrying\"],[\"carrying\"],[\"carrying\"],[\"carrying\"],[\"carrying\"],[\"carrying\"],[\"carrying\"],[\"carrying\"],[\"carrying\"],[\"carrying\"],[\"carrying\"],[\"carrying\"],[\"carrying\"],[\"carrying\"],[\"carrying\"],[\"carrying\"],[\"carrying\"],[\"carrying\"],[\"carrying\"],[\"carrying\"],[\"carrying\"],[\"carrying\"],[\"carrying\"],[\"carrying\"],[\"carrying\"],[\"carrying\"]]}}", "level: tree t: too many nodes\n"),
-    ("{\"map\":[\"A\"],\"agents\":[\"t\"],\"trees\":{\"t\":[\"wait\",-1]}}", "level: shape\n"),
-    ("{\"map\":[\"A\"],\"agents\":[\"t\"],\"trees\":{\"t\":[\"move\",\"00\"]}}", "level: shape\n"),
-    ("{\"map\":[\"A\"],\"agents\":[\"t\"],\"trees\":{\"t\":[\"par\",1]}}", "level: tree t: no child\n"),
-    ("{\"map\":[\"A\"],\"agents\":[\"t\"],\"trees\":{\"t\":[\"wait\",18446744073709551615]}}", "level: tree t: count\n"),
-    ("{\"map\":[\"A\"],\"agents\":[\"t\"],\"trees\":{\"t\":[\"near\",17]}}", "level: tree t: count\n"),
-    ("{\"map\":[\"AÄ\"],\"agents\":[\"t\"],\"trees\":{\"t\":[\"carrying\"]}}", "level: map character at 1,0\n"),
-    ("{\"map\":[\"A\"],\"agents\":[\"t\"],\"trees\":{\"t\":[\"carrying\"]},\"more\":1}", "level: shape\n"),
+    (
+        "{\"map\":[\"A.\",\".\"],\"agents\":[\"t\"],\"trees\":{\"t\":[\"carrying\"]}}",
+        "level: map size\n",
+    ),
+    (
+        "{\"map\":[\"A?\"],\"agents\":[\"t\"],\"trees\":{\"t\":[\"carrying\"]}}",
+        "level: map character at 1,0\n",
+    ),
+    (
+        "{\"map\":[\"AC\"],\"agents\":[\"t\",\"t\"],\"trees\":{\"t\":[\"carrying\"]}}",
+        "level: letters\n",
+    ),
+    (
+        "{\"map\":[\"00\"],\"agents\":[],\"trees\":{}}",
+        "level: letters\n",
+    ),
+    (
+        "{\"map\":[\"A\"],\"agents\":[],\"trees\":{\"t\":[\"carrying\"]}}",
+        "level: agent count\n",
+    ),
+    (
+        "{\"map\":[\"A\"],\"agents\":[\"t\"],\"trees\":{\"t\":[\"par\",0,[\"wait\",1]]}}",
+        "level: tree t: threshold\n",
+    ),
+    (
+        "{\"map\":[\"A\"],\"agents\":[\"t\"],\"trees\":{\"t\":[\"seq\"]}}",
+        "level: tree t: no child\n",
+    ),
+    (
+        "{\"map\":[\"A\"],\"agents\":[\"t\"],\"trees\":{\"t\":[\"wait\",0]}}",
+        "level: tree t: count\n",
+    ),
+    (
+        "{\"map\":[\"A\"],\"agents\":[\"u\"],\"trees\":{\"t\":[\"carrying\"]}}",
+        "level: agent A has no tree\n",
+    ),
+    (
+        "{\"map\":[\"A0\"],\"agents\":[\"t\"],\"trees\":{\"t\":[\"move\",\"1\"]}}",
+        "level: tree t names a place that is not on the map\n",
+    ),
+    (
+        "{\"map\":[\"A0\"],\"agents\":[\"t\"],\"trees\":{\"t\":[\"at\",\"1\"]}}",
+        "level: tree t names a place that is not on the map\n",
+    ),
+    (
+        "{\"map\":[\"A\"],\"agents\":[\"t\"],\"trees\":{\"t\":[\"not\",[\"not\",[\"not\",[\"not\",[\"not\",[\"not\",[\"not\",[\"not\",[\"not\",[\"not\",[\"not\",[\"not\",[\"not\",[\"not\",[\"not\",[\"not\",[\"not\",[\"not\",[\"not\",[\"not\",[\"not\",[\"not\",[\"not\",[\"not\",[\"not\",[\"not\",[\"not\",[\"not\",[\"not\",[\"not\",[\"not\",[\"not\",[\"carrying\"]]]]]]]]]]]]]]]]]]]]]]]]]]]]]]]]]}}",
+        "level: tree t: too deep\n",
+    ),
+    (
+        "{\"map\":[\"A\"],\"agents\":[\"t\"],\"trees\":{\"t\":[\"seq\",[\"carrying\"],[\"carrying\"],[\"carrying\"],[\"carrying\"],[\"carrying\"],[\"carrying\"],[\"carrying\"],[\"carrying\"],[\"carrying\"],[\"carrying\"],[\"carrying\"],[\"carrying\"],[\"carrying\"],[\"carrying\"],[\"carrying\"],[\"carrying\"],[\"carrying\"],[\"carrying\"],[\"carrying\"],[\"carrying\"],[\"carrying\"],[\"carrying\"],[\"carrying\"],[\"carrying\"],[\"carrying\"],[\"carrying\"],[\"carrying\"],[\"carrying\"],[\"carrying\"],[\"carrying\"],[\"carrying\"],[\"carrying\"],[\"carrying\"],[\"carrying\"],[\"carrying\"],[\"carrying\"],[\"carrying\"],[\"carrying\"],[\"carrying\"],[\"carrying\"],[\"carrying\"],[\"carrying\"],[\"carrying\"],[\"carrying\"],[\"carrying\"],[\"carrying\"],[\"carrying\"],[\"carrying\"],[\"carrying\"],[\"carrying\"],[\"carrying\"],[\"carrying\"],[\"carrying\"],[\"carrying\"],[\"carrying\"],[\"carrying\"],[\"carrying\"],[\"carrying\"],[\"carrying\"],[\"carrying\"],[\"carrying\"],[\"carrying\"],[\"carrying\"],[\"carrying\"],[\"carrying\"],[\"carrying\"],[\"carrying\"],[\"carrying\"],[\"carrying\"],[\"carrying\"],[\"carrying\"],[\"carrying\"],[\"carrying\"],[\"carrying\"],[\"carrying\"],[\"carrying\"],[\"carrying\"],[\"carrying\"],[\"carrying\"],[\"carrying\"],[\"carrying\"],[\"carrying\"],[\"carrying\"],[\"carrying\"],[\"carrying\"],[\"carrying\"],[\"carrying\"],[\"carrying\"],[\"carrying\"],[\"carrying\"],[\"carrying\"],[\"carrying\"],[\"carrying\"],[\"carrying\"],[\"carrying\"],[\"carrying\"],[\"carrying\"],[\"carrying\"],[\"carrying\"],[\"carrying\"],[\"carrying\"],[\"carrying\"],[\"carrying\"],[\"carrying\"],[\"carrying\"],[\"carrying\"],[\"carrying\"],[\"carrying\"],[\"carrying\"],[\"carrying\"],[\"carrying\"],[\"carrying\"],[\"carrying\"],[\"carrying\"],[\"carrying\"],[\"carrying\"],[\"carrying\"],[\"carrying\"],[\"carrying\"],[\"carrying\"],[\"carrying\"],[\"carrying\"],[\"carrying\"],[\"carrying\"],[\"carrying\"],[\"carrying\"],[\"carrying\"],[\"carrying\"],[\"carrying\"],[\"carrying\"],[\"carrying\"],[\"carrying\"],[\"carrying\"],[\"carrying\"],[\"carrying\"],[\"carrying\"],[\"carrying\"],[\"carrying\"],[\"carrying\"],[\"carrying\"],[\"carrying\"],[\"carrying\"],[\"carrying\"],[\"carrying\"],[\"carrying\"],[\"carrying\"],[\"carrying\"],[\"carrying\"],[\"carrying\"],[\"carrying\"],[\"carrying\"],[\"carrying\"],[\"carrying\"],[\"carrying\"],[\"carrying\"],[\"carrying\"],[\"carrying\"],[\"carrying\"],[\"carrying\"],[\"carrying\"],[\"carrying\"],[\"carrying\"],[\"carrying\"],[\"carrying\"],[\"carrying\"],[\"carrying\"],[\"carrying\"],[\"carrying\"],[\"carrying\"],[\"carrying\"],[\"carrying\"],[\"carrying\"],[\"carrying\"],[\"carrying\"],[\"carrying\"],[\"carrying\"],[\"carrying\"],[\"carrying\"],[\"carrying\"],[\"carrying\"],[\"carrying\"],[\"carrying\"],[\"carrying\"],[\"carrying\"],[\"carrying\"],[\"carrying\"],[\"carrying\"],[\"carrying\"],[\"carrying\"],[\"carrying\"],[\"carrying\"],[\"carrying\"],[\"carrying\"],[\"carrying\"],[\"carrying\"],[\"carrying\"],[\"carrying\"],[\"carrying\"],[\"carrying\"],[\"carrying\"],[\"carrying\"],[\"carrying\"],[\"carrying\"],[\"carrying\"],[\"carrying\"],[\"carrying\"],[\"carrying\"],[\"carrying\"],[\"carrying\"],[\"carrying\"],[\"carrying\"],[\"carrying\"],[\"carrying\"],[\"carrying\"],[\"carrying\"],[\"carrying\"],[\"carrying\"],[\"carrying\"],[\"carrying\"],[\"carrying\"],[\"carrying\"],[\"carrying\"],[\"carrying\"],[\"carrying\"],[\"carrying\"],[\"carrying\"],[\"carrying\"],[\"carrying\"],[\"carrying\"],[\"carrying\"],[\"carrying\"],[\"carrying\"],[\"carrying\"],[\"carrying\"],[\"carrying\"],[\"carrying\"],[\"carrying\"],[\"carrying\"],[\"carrying\"],[\"carrying\"],[\"carrying\"],[\"carrying\"],[\"carrying\"],[\"carrying\"],[\"carrying\"],[\"carrying\"],[\"carrying\"],[\"carrying\"],[\"carrying\"],[\"carrying\"],[\"carrying\"],[\"carrying\"],[\"carrying\"],[\"carrying\"],[\"carrying\"]]}}",
+        "level: tree t: too many nodes\n",
+    ),
+    (
+        "{\"map\":[\"A\"],\"agents\":[\"t\"],\"trees\":{\"t\":[\"wait\",-1]}}",
+        "level: shape\n",
+    ),
+    (
+        "{\"map\":[\"A\"],\"agents\":[\"t\"],\"trees\":{\"t\":[\"move\",\"00\"]}}",
+        "level: shape\n",
+    ),
+    (
+        "{\"map\":[\"A\"],\"agents\":[\"t\"],\"trees\":{\"t\":[\"par\",1]}}",
+        "level: tree t: no child\n",
+    ),
+    (
+        "{\"map\":[\"A\"],\"agents\":[\"t\"],\"trees\":{\"t\":[\"wait\",18446744073709551615]}}",
+        "level: tree t: count\n",
+    ),
+    (
+        "{\"map\":[\"A\"],\"agents\":[\"t\"],\"trees\":{\"t\":[\"near\",17]}}",
+        "level: tree t: count\n",
+    ),
+    (
+        "{\"map\":[\"AÄ\"],\"agents\":[\"t\"],\"trees\":{\"t\":[\"carrying\"]}}",
+        "level: map character at 1,0\n",
+    ),
+    (
+        "{\"map\":[\"A\"],\"agents\":[\"t\"],\"trees\":{\"t\":[\"carrying\"]},\"more\":1}",
+        "level: shape\n",
+    ),
 ];
 
 /// Scripts that are refused, with the line that is written.
