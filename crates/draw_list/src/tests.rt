@@ -52,7 +52,10 @@ fn a_missing_band_is_a_gap(rt: HostRuntime) -> Result<(), Fail> {
         };
         assert!(rt; world.agents().is_empty());
         let found = frame_text(alloc, 1, some, &world, &[]);
-        assert!(rt; matches!(&found, Err(DrawFault::Gap { band }) if *band == gap), "{first} to {last}");
+        assert!(rt;
+            matches!(&found, Err(DrawFault::Gap { band }) if *band == gap),
+            "{first} to {last}"
+        );
     }
     let mut many = bands_of(alloc, &world, Signals::off())?;
     many.push(draw_band(alloc, &world, Signals::off(), 2).map_err(|_| "band")?)?;
@@ -74,20 +77,35 @@ fn an_item_on_a_door_is_drawn_as_the_item(rt: HostRuntime) -> Result<(), Fail> {
     };
     on.set(a, true);
     let mut world = world_of(alloc, &["A*a#", "...7"])?;
-    for intent in [Intent::Move(Dir::East), Intent::Take, Intent::Move(Dir::East)] {
+    for intent in [
+        Intent::Move(Dir::East),
+        Intent::Take,
+        Intent::Move(Dir::East),
+    ] {
         world = resolve(alloc, &world, on, &[intent]).map_err(|_| "resolve")?;
     }
     assert_eq!(rt; world.agents().len(), 1);
     let bands = bands_of(alloc, &world, on)?;
     let text = frame_text(alloc, 9999, &bands, &world, &[Status::Running]).map_err(|_| "text")?;
-    assert_eq!(rt; &text[..], b"frame 9999\n..A#\n...7\nA R 2,0 *\n".as_slice());
+    assert_eq!(rt;
+        &text[..],
+        b"frame 9999\n..A#\n...7\nA R 2,0 *\n".as_slice()
+    );
     for intent in [Intent::Drop, Intent::Move(Dir::West)] {
         world = resolve(alloc, &world, on, &[intent]).map_err(|_| "resolve")?;
     }
     assert_eq!(rt; world.agents().len(), 1);
     for (signals, status, lines) in [
-        (on, Status::Success, b"frame 12\n.A*#\n...7\nA S 1,0 -\n".as_slice()),
-        (Signals::off(), Status::Failure, b"frame 12\n.A*#\n...7\nA F 1,0 -\n".as_slice()),
+        (
+            on,
+            Status::Success,
+            b"frame 12\n.A*#\n...7\nA S 1,0 -\n".as_slice(),
+        ),
+        (
+            Signals::off(),
+            Status::Failure,
+            b"frame 12\n.A*#\n...7\nA F 1,0 -\n".as_slice(),
+        ),
     ] {
         assert_eq!(rt; world.agents().len(), 1);
         let bands = bands_of(alloc, &world, signals)?;
@@ -106,7 +124,10 @@ fn doors_are_drawn_by_their_signals(rt: HostRuntime) -> Result<(), Fail> {
         return Err(Fail::from("signal"));
     };
     on.set(a, true);
-    for (signals, row) in [(Signals::off(), b"aba\n".as_slice()), (on, b"/b/\n".as_slice())] {
+    for (signals, row) in [
+        (Signals::off(), b"aba\n".as_slice()),
+        (on, b"/b/\n".as_slice()),
+    ] {
         let band = draw_band(alloc, &world, signals, 0).map_err(|_| "band")?;
         assert_eq!(rt; band.rows.into_bytes().as_slice(), row);
     }
