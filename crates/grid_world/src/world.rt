@@ -20,6 +20,7 @@ use std::sync::Arc;
 
 mod changes;
 mod draw;
+mod same;
 #[cfg(test)]
 mod tests;
 

@@ -1,0 +1,4 @@
+pub mod Names
+pub mod Contents
+pub mod Logic
+pub mod Slots

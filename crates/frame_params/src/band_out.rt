@@ -1,0 +1,59 @@
+ghost use Rattle.std.specs.Prelude.{◌≡◌};
+ghost use Rattle.frame_params.specs.Contents.{band_in};
+
+use draw_list::Band;
+use job_core::names::JobName;
+use level_text::Session;
+use std::marker::Model;
+
+/// A band of a frame, drawn.
+#[derive(Drop)]
+pub struct BandOut<'t> {
+    pub(crate) session: &'t Session,
+    pub(crate) frame: u32,
+    pub(crate) band: Band,
+}
+
+impl<'t> Model for BandOut<'t> {
+    ghost use Rattle.std.specs.Prelude.{◌≡◌};
+    ghost use Rattle.frame_params.specs.Names.{PartOf, part_code};
+    ghost use Rattle.frame_params.specs.Contents.{band_in};
+
+    ghost Value = { PartOf };
+
+    ghost coded = { part_code };
+
+    ghost view = { λ b. record { game = b.session.now; frame = b.frame; number = b.band.number } };
+
+    ghost invariant = { λ b. b.band ≡ band_in b.session.now b.frame b.band.number };
+}
+
+impl<'t> BandOut<'t> {
+    pub fn session(&self) -> &'t Session
+        ensures { result.now ≡ self.now.game }
+    {
+        self.session
+    }
+
+    pub fn name(&self) -> JobName
+        ensures { result ≡ JobName.Draw self.now.frame self.now.number }
+    {
+        JobName::Draw {
+            frame: self.frame,
+            band: self.band.number,
+        }
+    }
+
+    /// The band's rows.
+    pub fn band(&self) -> &Band
+        ensures { result.now ≡ band_in self.now.game self.now.frame self.now.number }
+    {
+        &self.band
+    }
+
+    pub fn into_band(self) -> Band
+        ensures { result ≡ band_in self.entry.game self.entry.frame self.entry.number }
+    {
+        self.band
+    }
+}

@@ -1,0 +1,22 @@
+//! The tasks of a frame and their results. A result's type keeps that what it holds is the game's value for its game,
+//! frame and numbers, so callers see it as these alone.
+#![tactic(auto)]
+
+mod band_out;
+mod draw_task;
+mod gathered;
+mod logic_step;
+mod logic_task;
+mod params;
+mod slots;
+mod thought;
+mod turn;
+
+pub use band_out::BandOut;
+pub use draw_task::DrawTask;
+pub use logic_step::LogicStep;
+pub use logic_task::LogicTask;
+pub use params::FrameParams;
+pub use slots::Slots;
+pub use thought::Thought;
+pub use turn::Turn;

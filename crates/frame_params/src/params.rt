@@ -1,0 +1,122 @@
+ghost use Rattle.std.specs.Prelude.{◌≡◌, ◌+◌, ◌-◌, ◌^◌, ◌<◌, IfOk, map, length};
+ghost use Rattle.bt_nodes.specs.Bounds.{zero_memory, Fits};
+ghost use Rattle.game_jobs.specs.Instance.{tree_of};
+ghost use Rattle.frame_params.specs.Contents.{signals_in, world_after, memory_before, AllFit};
+
+use crate::turn::Turn;
+use bt_tick::Memory;
+use grid_world::{Signals, World};
+use level_text::Session;
+use std::alloc::{AllocError, Global};
+use std::marker::Model;
+use std::sync::Arc;
+
+/// What the jobs of a frame read: the frame's signals, and the world and the memories of the frame before. The tasks
+/// that are made of it share these with it.
+#[derive(Drop)]
+pub struct FrameParams<'t> {
+    pub(crate) session: &'t Session,
+    pub(crate) frame: u32,
+    pub(crate) signals: Signals,
+    pub(crate) world: Arc<World>,
+    pub(crate) memories: Arc<Vec<Memory>>,
+}
+
+impl<'t> Model for FrameParams<'t> {
+    ghost use Rattle.std.specs.Prelude.{◌≡◌, ◌<◌, ◌-◌};
+    ghost use Rattle.std.specs.Arc.{arc_value};
+    ghost use Rattle.frame_params.specs.Names.{FrameOf, frame_code};
+    ghost use Rattle.frame_params.specs.Contents.{signals_in, IsAfter};
+
+    ghost Value = { FrameOf };
+
+    ghost coded = { frame_code };
+
+    ghost view = { λ p. record { game = p.session.now; frame = p.frame } };
+
+    ghost invariant = { λ p. (0 < p.frame) × (p.signals ≡ signals_in p.session.now p.frame)
+        × IsAfter p.session.now (p.frame - 1) (arc_value p.world) (arc_value p.memories).items };
+}
+
+// A memory of zeros for each agent.
+fn zero_memories(alloc: Global, session: &Session) -> Result<Vec<Memory>, AllocError>
+    ensures zeros { IfOk result (λ memories. memories.items ≡ map zero_memory session.now.trees) }
+    ensures fit { IfOk result (λ memories. AllFit session.now.trees memories.items) }
+{
+    let count = session.world().agents().len();
+    let mut memories = Vec::with_capacity(alloc, count)?;
+    'agents: for agent in 0..count as u32 {
+        memories.push(Memory::zero(alloc, session.tree_of(agent))?)?;
+    }
+    Ok(memories)
+}
+
+impl<'t> FrameParams<'t> {
+    /// Those of frame 1: the session's world, and memories of zeros.
+    pub fn first(alloc: Global, session: &'t Session) -> Result<FrameParams<'t>, AllocError>
+        ensures { IfOk result (λ p. p ≡ record { game = session.now; frame = 1 }) }
+    {
+        let world = session.world().copy(alloc)?;
+        let memories = zero_memories(alloc, session)?;
+        Ok(FrameParams {
+            session,
+            frame: 1,
+            signals: session.script().signals(1),
+            world: Arc::new(alloc, world)?,
+            memories: Arc::new(alloc, memories)?,
+        })
+    }
+
+    /// Those of the frame after a turn's. The world and the memories are the turn's own, so nothing is copied.
+    pub fn after(_alloc: Global, turn: &Turn<'t>) -> Result<FrameParams<'t>, AllocError>
+        requires { turn.now.frame + 1 < 2 ^ 32 }
+        ensures { IfOk result (λ p. p ≡ record { game = turn.now.game; frame = turn.now.frame + 1 }) }
+    {
+        let frame = turn.frame + 1;
+        Ok(FrameParams {
+            session: turn.session,
+            frame,
+            signals: turn.session.script().signals(frame),
+            world: Arc::try_clone(&turn.world)?,
+            memories: Arc::try_clone(&turn.memories)?,
+        })
+    }
+
+    pub fn session(&self) -> &'t Session
+        ensures { result.now ≡ self.now.game }
+    {
+        self.session
+    }
+
+    /// Frames count from 1.
+    pub fn frame(&self) -> u32
+        ensures value { result ≡ self.now.frame }
+        ensures positive { 0 < result }
+    {
+        self.frame
+    }
+
+    /// The signals of the frame.
+    pub fn signals(&self) -> Signals
+        ensures { result ≡ signals_in self.now.game self.now.frame }
+    {
+        self.signals
+    }
+
+    /// The world after the frame before.
+    pub fn world(&self) -> &World
+        ensures value { result.now ≡ world_after self.now.game (self.now.frame - 1) }
+        ensures agents { length result.now.agents ≡ length self.now.game.trees }
+    {
+        &self.world
+    }
+
+    /// An agent's memory after the frame before.
+    pub fn memory_of(&self, agent: u32) -> &Memory
+        requires { agent < length self.now.game.trees }
+        ensures value { result.now ≡ memory_before self.now.game self.now.frame agent }
+        ensures fits { Fits (tree_of self.now.game agent) result.now }
+    {
+        &self.memories[agent as usize]
+    }
+}

@@ -1,0 +1,88 @@
+ghost use Rattle.std.specs.Prelude.{◌≡◌};
+ghost use Rattle.bt_nodes.specs.Bounds.{Fits};
+ghost use Rattle.game_jobs.specs.Instance.{tree_of};
+ghost use Rattle.frame_params.specs.Contents.{thought_in, questions_in};
+
+use bt_nodes::Status;
+use bt_tick::Memory;
+use grid_world::Intent;
+use job_core::names::JobName;
+use level_text::Session;
+use std::marker::Model;
+
+/// What an agent thought in a frame: its tick's answer, its memory after it, and what it wants to do.
+#[derive(Drop)]
+pub struct Thought<'t> {
+    pub(crate) session: &'t Session,
+    pub(crate) frame: u32,
+    pub(crate) agent: u32,
+    pub(crate) questions: u32,
+    pub(crate) status: Status,
+    pub(crate) memory: Memory,
+    pub(crate) intent: Intent,
+}
+
+impl<'t> Model for Thought<'t> {
+    ghost use Rattle.std.specs.Prelude.{◌≡◌, ◌<◌};
+    ghost use Rattle.game_jobs.specs.Instance.{tree_of};
+    ghost use Rattle.bt_nodes.specs.Bounds.{Fits};
+    ghost use Rattle.frame_params.specs.Names.{PartOf, part_code};
+    ghost use Rattle.frame_params.specs.Contents.{thought_in, questions_in};
+
+    ghost Value = { PartOf };
+
+    ghost coded = { part_code };
+
+    ghost view = { λ t. record { game = t.session.now; frame = t.frame; number = t.agent } };
+
+    ghost invariant = { λ t.
+        (record { status = t.status; memory = t.memory; intent = t.intent } ≡ thought_in t.session.now t.frame t.agent)
+        × (t.questions ≡ questions_in t.session.now t.frame t.agent)
+        × Fits (tree_of t.session.now t.agent) t.memory };
+}
+
+impl<'t> Thought<'t> {
+    pub fn session(&self) -> &'t Session
+        ensures { result.now ≡ self.now.game }
+    {
+        self.session
+    }
+
+    pub fn name(&self) -> JobName
+        ensures { result ≡ JobName.Think self.now.frame self.now.number }
+    {
+        JobName::Think {
+            frame: self.frame,
+            agent: self.agent,
+        }
+    }
+
+    /// How many path questions the tick asked.
+    pub fn questions(&self) -> u32
+        ensures { result ≡ questions_in self.now.game self.now.frame self.now.number }
+    {
+        self.questions
+    }
+
+    // The tick's answer.
+    pub(crate) fn status(&self) -> Status
+        ensures { result ≡ (thought_in self.now.game self.now.frame self.now.number).status }
+    {
+        self.status
+    }
+
+    // What the agent wants to do.
+    pub(crate) fn intent(&self) -> Intent
+        ensures { result ≡ (thought_in self.now.game self.now.frame self.now.number).intent }
+    {
+        self.intent
+    }
+
+    // The agent's memory after the tick.
+    pub(crate) fn memory(&self) -> &Memory
+        ensures value { result.now ≡ (thought_in self.now.game self.now.frame self.now.number).memory }
+        ensures fits { Fits (tree_of self.now.game self.now.number) result.now }
+    {
+        &self.memory
+    }
+}

@@ -1,0 +1,66 @@
+ghost use Rattle.std.specs.Prelude.{◌≡◌};
+ghost use Rattle.frame_params.specs.Contents.{world_after, statuses_in};
+
+use bt_nodes::Status;
+use bt_tick::Memory;
+use grid_world::World;
+use job_core::names::JobName;
+use level_text::Session;
+use std::marker::Model;
+use std::sync::Arc;
+
+/// What came of a frame: the world and the memories after it, and the answers of the agents' ticks.
+#[derive(Drop)]
+pub struct Turn<'t> {
+    pub(crate) session: &'t Session,
+    pub(crate) frame: u32,
+    // Shared with the parameters of the next frame and the draws of this one.
+    pub(crate) world: Arc<World>,
+    pub(crate) memories: Arc<Vec<Memory>>,
+    pub(crate) statuses: Arc<Vec<Status>>,
+}
+
+impl<'t> Model for Turn<'t> {
+    ghost use Rattle.std.specs.Prelude.{◌≡◌, ◌<◌};
+    ghost use Rattle.std.specs.Arc.{arc_value};
+    ghost use Rattle.frame_params.specs.Names.{FrameOf, frame_code};
+    ghost use Rattle.frame_params.specs.Contents.{IsAfter, statuses_in};
+
+    ghost Value = { FrameOf };
+
+    ghost coded = { frame_code };
+
+    ghost view = { λ t. record { game = t.session.now; frame = t.frame } };
+
+    ghost invariant = { λ t. (0 < t.frame)
+        × IsAfter t.session.now t.frame (arc_value t.world) (arc_value t.memories).items
+        × ((arc_value t.statuses).items ≡ statuses_in t.session.now t.frame) };
+}
+
+impl<'t> Turn<'t> {
+    pub fn session(&self) -> &'t Session
+        ensures { result.now ≡ self.now.game }
+    {
+        self.session
+    }
+
+    pub fn name(&self) -> JobName
+        ensures { result ≡ JobName.Logic self.now.frame }
+    {
+        JobName::Logic { frame: self.frame }
+    }
+
+    /// The world after the frame.
+    pub fn world(&self) -> &World
+        ensures { result.now ≡ world_after self.now.game self.now.frame }
+    {
+        &self.world
+    }
+
+    /// The answer of each agent's tick, by agent number.
+    pub fn statuses(&self) -> &[Status]
+        ensures { result.now ≡ statuses_in self.now.game self.now.frame }
+    {
+        &self.statuses
+    }
+}
