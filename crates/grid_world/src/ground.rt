@@ -66,6 +66,13 @@ impl Ground {
         }
     }
 
+    /// The cells, row after row.
+    pub fn cells(&self) -> &[Cell]
+        ensures { result.now ≡ self.now.cells }
+    {
+        &self.kinds
+    }
+
     /// For each cell whether it can be stepped on while all signals are off.
     pub fn floor(&self) -> &[bool]
         ensures { result.now ≡ map (is_passable no_signals) self.now.cells }

@@ -206,6 +206,13 @@ impl World {
         self.ground.is_open(signals, x, y)
     }
 
+    /// The cells, row after row.
+    pub fn cells(&self) -> &[Cell]
+        ensures { result.now ≡ self.now.cells }
+    {
+        self.ground.cells()
+    }
+
     /// For each cell, row after row, whether it can be stepped on while all signals are off.
     pub fn floor(&self) -> &[bool]
         ensures { result.now ≡ map (is_passable no_signals) self.now.cells }
