@@ -5,6 +5,7 @@ mod around;
 mod fault;
 mod question;
 mod search;
+mod searcher;
 mod table;
 #[cfg(test)]
 mod tests;
@@ -12,3 +13,4 @@ mod tests;
 pub use fault::PathFault;
 pub use grid_world::Answer;
 pub use question::ask;
+pub use searcher::Searcher;

@@ -49,7 +49,7 @@ pub fn ask<A: Allocator + Clone>(
 }
 
 // The number of a cell in the table.
-fn number_of(world: &World, cell: (u32, u32)) -> usize
+pub(crate) fn number_of(world: &World, cell: (u32, u32)) -> usize
     requires { (cell.0 < world.now.width) × (cell.1 < world.now.height) }
     ensures { result ≡ number_of world.now (point cell.0 cell.1) }
 {

@@ -11,34 +11,39 @@ ghost use Rattle.serial_run.specs.Thoughts.{plain_thought};
 use crate::thought::Thought;
 use bt_nodes::Tree;
 use bt_tick::{Memory, Outcome, View, begin, resume};
-use grid_path::{PathFault, ask};
+use grid_path::Searcher;
 use grid_world::{Answer, Place};
 use std::alloc::{AllocError, Global};
 
 /// The way from the agent's cell to a place; there is none to a place that is not on the map.
-fn way_to(alloc: Global, view: &View, place: Place) -> Result<Answer, AllocError>
-    requires { IsInWorld view.now }
-    ensures { IfOk result (λ a. a ≡ way view.now.world.now view.now.signals (cell_of (view_of view.now)) place) }
+fn way_to(view: &View, searcher: &mut Searcher, place: Place) -> Result<Answer, AllocError>
+    requires agent { IsInWorld view.now }
+    requires world { searcher.old.world.now ≡ view.now.world.now }
+    requires signals { searcher.old.signals ≡ view.now.signals }
+    ensures way { IfOk result (λ a. a ≡ way view.now.world.now view.now.signals (cell_of (view_of view.now)) place) }
+    ensures world { searcher.new.world ≡ searcher.old.world }
+    ensures signals { searcher.new.signals ≡ searcher.old.signals }
 {
     let here = view.world.agents()[view.agent as usize];
-    match ask(alloc, view.world, view.signals, (here.x, here.y), place) {
-        Ok(answer) => Ok(answer),
-        Err(PathFault::OffMap) => Ok(Answer::NoWay),
-        Err(PathFault::OutOfMemory) => Err(AllocError),
-    }
+    searcher.way((here.x, here.y), place)
 }
 
 /// Ticks an agent's tree, and answers each question that the tick asks.
 pub fn think(
     alloc: Global,
     view: &View,
+    searcher: &mut Searcher,
     tree: &Tree<Global>,
     memory: Memory,
 ) -> Result<Thought, AllocError>
     requires agent { IsInWorld view.now }
+    requires world { searcher.old.world.now ≡ view.now.world.now }
+    requires signals { searcher.old.signals ≡ view.now.signals }
     requires fits { Fits (plain_of tree.now) memory }
     ensures thought { IfOk result (λ t. plain_thought t ≡ thought (view_of view.now) (plain_of tree.now) memory) }
     ensures fits { IfOk result (λ t. Fits (plain_of tree.now) t.memory) }
+    ensures world { searcher.new.world ≡ searcher.old.world }
+    ensures signals { searcher.new.signals ≡ searcher.old.signals }
 {
     let Ok(begun) = begin(alloc, tree, view, memory) else {
         return Err(AllocError);
@@ -58,7 +63,7 @@ pub fn think(
                 });
             }
             Outcome::Asks { place, pending } => {
-                let answer = way_to(alloc, view, place)?;
+                let answer = way_to(view, searcher, place)?;
                 let Ok(resumed) = resume(alloc, pending, view, answer) else {
                     return Err(AllocError);
                 };

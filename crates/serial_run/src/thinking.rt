@@ -7,6 +7,7 @@ ghost use Rattle.serial_run.specs.Thoughts.{plain_thought, AllFit};
 use crate::think::think;
 use crate::thought::Thought;
 use bt_tick::{Memory, View};
+use grid_path::Searcher;
 use grid_world::{Signals, World};
 use level_text::Session;
 use std::alloc::{AllocError, Global};
@@ -26,6 +27,7 @@ pub fn think_all(
     ensures fit { IfOk result (λ ts. AllFit session.now.trees (map (λ t. t.memory) ts.items)) }
 {
     let mut thoughts = Vec::with_capacity(alloc, world.agents().len())?;
+    let mut searcher = Searcher::new(alloc, world, signals);
     let mut agent = 0;
     'agents: for memory in memories {
         let view = View {
@@ -33,7 +35,7 @@ pub fn think_all(
             signals,
             agent,
         };
-        thoughts.push(think(alloc, &view, session.tree_of(agent), memory)?)?;
+        thoughts.push(think(alloc, &view, &mut searcher, session.tree_of(agent), memory)?)?;
         agent += 1;
     }
     Ok(thoughts)

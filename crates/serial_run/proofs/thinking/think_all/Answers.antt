@@ -21,6 +21,8 @@ think-requires c =
     c.in-Some.ensures.steps.0 c.agents.invariant.left c.agents.invariant.within in
     record {
       agent = omega (arith, h, c.requires.agents);
+      world = c.agents.invariant.world;
+      signals = c.agents.invariant.signals;
       fits = subst (λ p. Fits p c.in-Some.memory) c.tree_of.ensures.value
           (fit_left trees i (Does Carries) c.agents.memory-iterator.rest.items c.in-Some.memory c.next.new.self.rest.items c.in-Some.ensures.steps.0 c.agents.invariant.left h).0;
     }
@@ -38,6 +40,8 @@ agents-preserved c =
     record {
       can_next = tt;
       is_finite = tt;
+      world = ap (λ w. w.now) c.think.ensures.world ∙ c.agents.invariant.world;
+      signals = c.think.ensures.signals ∙ c.agents.invariant.signals;
       within = omega (arith, h);
       left = (fit_left trees i (Does Carries) ms c.in-Some.memory more c.in-Some.ensures.steps.0 c.agents.invariant.left h).1;
       fit = subst (AllFit (take (i + 1) trees)) (sym (ap (map (λ x. x.memory)) c.in_ok-push.ensures.items ∙ map-append (λ x. x.memory) done (t ∷ [])))

@@ -7,6 +7,8 @@ abbrev pub invariant-agents : goal.invariant-agents
 invariant-agents l = record {
   can_next : (goal.iterator-agents).can_next l.memory-iterator;
   is_finite : (goal.iterator-agents).is_finite l.memory-iterator;
+  world : l.searcher.world.now ≡ l.world;
+  signals : l.searcher.signals ≡ l.signals;
   within : l.agent ≤ length l.session.trees;
   left : AllFit (drop l.agent l.session.trees) l.memory-iterator.rest.items;
   fit : AllFit (take l.agent l.session.trees) (map (λ t. t.memory) l.thoughts.items);
