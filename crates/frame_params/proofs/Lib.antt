@@ -1,3 +1,4 @@
 pub mod Fitting
 pub mod Ground
 pub mod Turning
+pub mod AllAgents

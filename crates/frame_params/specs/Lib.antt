@@ -2,3 +2,4 @@ pub mod Names
 pub mod Contents
 pub mod Logic
 pub mod Slots
+pub mod Tasks

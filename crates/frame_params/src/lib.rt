@@ -9,6 +9,10 @@ mod logic_step;
 mod logic_task;
 mod params;
 mod slots;
+mod step;
+mod task;
+#[cfg(test)]
+mod tests;
 mod thought;
 mod turn;
 
@@ -18,5 +22,7 @@ pub use logic_step::LogicStep;
 pub use logic_task::LogicTask;
 pub use params::FrameParams;
 pub use slots::Slots;
+pub use step::Step;
+pub use task::Task;
 pub use thought::Thought;
 pub use turn::Turn;
