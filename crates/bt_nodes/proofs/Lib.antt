@@ -3,3 +3,4 @@ pub mod Views
 pub mod AtLeastOne
 pub mod WithinLimits
 pub mod MemoryBounds
+pub mod Alike

@@ -1,4 +1,4 @@
-ghost use Rattle.std.specs.Prelude.{◌≡◌, ◌≤◌, None, Some, IfOk, IfErr};
+ghost use Rattle.std.specs.Prelude.{◌≡◌, ◌≢◌, ◌≤◌, None, Some, IfOk, IfErr, true, false};
 ghost use Rattle.bt_nodes.specs.Plain.{plain};
 ghost use Rattle.bt_nodes.specs.Sizes.{size, depth};
 ghost use Rattle.bt_nodes.specs.Limits.{tree_fault};
@@ -76,6 +76,15 @@ impl<A: Allocator> Tree<A> {
         ensures within { tree_fault (plain result.now) ≡ None }
     {
         &self.root
+    }
+
+    /// Whether two trees are the same, wherever their nodes lie. It walks over both until they differ, and takes no
+    /// memory; calls nest as deep as the trees.
+    pub fn is_same<B: Allocator>(&self, other: &Tree<B>) -> bool
+        ensures same { result ≡ true → plain_of self.now ≡ plain_of other.now }
+        ensures differs { result ≡ false → plain_of self.now ≢ plain_of other.now }
+    {
+        self.root.is_same(&other.root)
     }
 
     /// A copy whose nodes lie in `alloc`.

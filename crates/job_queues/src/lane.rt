@@ -129,6 +129,24 @@ impl Lane {
         self.fresh.push_back_reserved(job);
     }
 
+    pub(crate) fn has_job(&self, job: JobName) -> bool
+        ensures { result ≡ has (same job) self.now.fresh.items }
+    {
+        match first_of_job(&self.fresh, job) {
+            Some(_) => true,
+            None => false,
+        }
+    }
+
+    pub(crate) fn has_ready(&self, fiber: Fiber) -> bool
+        ensures { result ≡ has (λ other. fiber == other) self.now.ready.items }
+    {
+        match first_of_fiber(&self.ready, fiber) {
+            Some(_) => true,
+            None => false,
+        }
+    }
+
     /// Takes the first entry of a new job out, and says whether there was one.
     pub(crate) fn take_out(&mut self, job: JobName) -> bool
         ensures found { result ≡ has (same job) self.old.fresh.items }

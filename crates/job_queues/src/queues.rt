@@ -82,6 +82,34 @@ impl Queues {
         self.low.peek(free)
     }
 
+    /// Whether a job is among the new ones.
+    #[tactic(auto, using(crate::proofs::Threes::has_all))]
+    pub fn is_queued(&self, job: JobName) -> bool
+        ensures { result ≡ has (same job) (all self.now.queues.fresh) }
+    {
+        if self.high.has_job(job) {
+            return true;
+        }
+        if self.normal.has_job(job) {
+            return true;
+        }
+        self.low.has_job(job)
+    }
+
+    /// Whether a fiber is among the ready ones.
+    #[tactic(auto, using(crate::proofs::Threes::has_all))]
+    pub fn is_ready(&self, fiber: Fiber) -> bool
+        ensures { result ≡ has (λ other. fiber == other) (all self.now.queues.ready) }
+    {
+        if self.high.has_ready(fiber) {
+            return true;
+        }
+        if self.normal.has_ready(fiber) {
+            return true;
+        }
+        self.low.has_ready(fiber)
+    }
+
     /// Takes out, of the highest priority that has one, the first ready fiber, or else the first new job that may
     /// start where so many fibers are free. The time is that of a look at the jobs before it.
     pub fn pick(&mut self, free: u32) -> Option<Pick>

@@ -17,6 +17,8 @@ mod script_file;
 #[cfg(test)]
 mod script_tests;
 mod session;
+#[cfg(test)]
+mod session_tests;
 mod write;
 mod write_nodes;
 

@@ -1,4 +1,4 @@
-ghost use Rattle.std.specs.Prelude.{◌≡◌, ◌<◌, IsTrue, length, slice_index_or};
+ghost use Rattle.std.specs.Prelude.{◌≡◌, ◌≢◌, ◌<◌, true, false, IsTrue, length, slice_index_or};
 ghost use Rattle.std.specs.List.{list_all};
 ghost use Rattle.bt_nodes.specs.Plain.{Does, Carries};
 ghost use Rattle.bt_nodes.specs.Trees.{plain_of};
@@ -68,5 +68,34 @@ impl Session {
         ensures { result.now ≡ self.now.changes }
     {
         &self.script
+    }
+
+    // Whether each agent has the same tree in both.
+    fn has_same_trees(&self, other: &Session) -> bool
+        requires { length self.now.trees ≡ length other.now.trees }
+        ensures same { result ≡ true → self.now.trees ≡ other.now.trees }
+        ensures differs { result ≡ false → self.now.trees ≢ other.now.trees }
+    {
+        'agents: for agent in 0..self.world().agents().len() as u32 {
+            if !self.tree_of(agent).is_same(other.tree_of(agent)) {
+                return false;
+            }
+        }
+        true
+    }
+
+    /// Whether two sessions are of one game: the same world, the same tree for each agent, whatever its name, and the
+    /// same changes of signals. It reads both until they differ, and takes no memory.
+    pub fn is_same(&self, other: &Session) -> bool
+        ensures same { result ≡ true → self.now ≡ other.now }
+        ensures differs { result ≡ false → self.now ≢ other.now }
+    {
+        if !self.script.is_same(&other.script) {
+            return false;
+        }
+        if !self.world().is_same(other.world()) {
+            return false;
+        }
+        self.has_same_trees(other)
     }
 }

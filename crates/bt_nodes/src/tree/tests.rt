@@ -184,6 +184,7 @@ fn a_copy_has_every_kind_of_node(rt: HostRuntime) -> Result<(), Fail> {
         return Err("refused".into());
     };
     let copy = tree.copy_in(alloc)?;
+    assert!(rt; tree.is_same(&copy));
     assert_eq!(rt; copy.size(), 21);
     assert_eq!(rt; copy.depth(), 7);
     let text =
@@ -208,5 +209,18 @@ fn sizes_and_depths_of_nodes(rt: HostRuntime) -> Result<(), Fail> {
         format!(in alloc; "{copy:?}")?.as_str(),
         "Seq([Carrying, Carrying, Carrying])"
     );
+    Ok(())
+}
+
+#[test]
+fn trees_differ_in_kind_number_and_order(rt: HostRuntime) -> Result<(), Fail> {
+    let alloc = rt.alloc();
+    let one = pair(alloc, Node::Wait(1), Node::Take)?;
+    assert!(rt; one.is_same(&pair(alloc, Node::Wait(1), Node::Take)?));
+    assert!(rt; !one.is_same(&pair(alloc, Node::Take, Node::Wait(1))?));
+    assert!(rt; !one.is_same(&pair(alloc, Node::Wait(2), Node::Take)?));
+    assert!(rt; !one.is_same(&pair(alloc, Node::Wait(1), Node::Drop)?));
+    assert!(rt; !one.is_same(&Node::Seq(list(alloc, 1)?)));
+    assert!(rt; !nested(alloc, 2)?.is_same(&nested(alloc, 3)?));
     Ok(())
 }

@@ -1,0 +1,115 @@
+-- A tree is settled by its root's kind, the number that stands in it, and what stands below it.
+use Rattle.std.proofs.Common.{◌≡◌, ◌≢◌, map, take, ℕ, zero, suc, ◌+◌, ◌<◌, ◌≤◌, List, [], ◌∷◌, length, get_or, Option, Some, refl, sym, ap, ◌∙◌, arith, unwrap_or}
+use Rattle.bt_nodes.specs.Plain.{Sequence, Fallback, TakeItem, DropItem, AtPlace, Carries, OnItem, SignalOn, NearOther, Plain, Composite, CompositeStar, Parallel, Invert, Tries, Ticks, Wait, MoveTo, Does, Forest, forest_of, plain, plains}
+use Rattle.std.proofs.lemmas.List.{take_more, take_all}
+use Rattle.bt_nodes.specs.Sizes.{size, sizes, count}
+use Rattle.bt_nodes.specs.Heads.{kind_of, number_of, listed, decorated}
+use Rattle.bt_nodes.specs.declared.node.Node.{Node}
+use Rattle.bt_nodes.proofs.Forests.{count-plains, copied_more}
+use Rattle.bt_nodes.specs.declared.kind.NodeKind.{NodeKind}
+use Rattle.bt_nodes.specs.declared.kind.NodeKind.TheVariants as kind
+
+abbrev built : NodeKind → Option ℕ → Forest → Option Plain → Plain
+built kind.Seq n cs c = Composite Sequence cs
+built kind.Fallback n cs c = Composite Fallback cs
+built kind.Par n cs c = Parallel (unwrap_or n 0) cs
+built kind.SeqStar n cs c = CompositeStar Sequence cs
+built kind.FallbackStar n cs c = CompositeStar Fallback cs
+built kind.Not n cs c = Invert (unwrap_or c (Does Carries))
+built kind.Tries n cs c = Tries (unwrap_or n 0) (unwrap_or c (Does Carries))
+built kind.Ticks n cs c = Ticks (unwrap_or n 0) (unwrap_or c (Does Carries))
+built kind.Wait n cs c = Wait (unwrap_or n 0)
+built kind.Move n cs c = MoveTo (unwrap_or n 0)
+built kind.Take n cs c = Does TakeItem
+built kind.Drop n cs c = Does DropItem
+built kind.At n cs c = Does (AtPlace (unwrap_or n 0))
+built kind.Carrying n cs c = Does Carries
+built kind.Item n cs c = Does OnItem
+built kind.Signal n cs c = Does (SignalOn (unwrap_or n 0))
+built kind.Near n cs c = Does (NearOther (unwrap_or n 0))
+
+again : (p : Plain) → built (kind_of p) (number_of p) (listed p) (decorated p) ≡ p
+again (Composite Sequence cs) = refl
+again (Composite Fallback cs) = refl
+again (CompositeStar Sequence cs) = refl
+again (CompositeStar Fallback cs) = refl
+again (Parallel m cs) = refl
+again (Invert c) = refl
+again (Tries n c) = refl
+again (Ticks n c) = refl
+again (Wait n) = refl
+again (MoveTo p) = refl
+again (Does TakeItem) = refl
+again (Does DropItem) = refl
+again (Does (AtPlace p)) = refl
+again (Does Carries) = refl
+again (Does OnItem) = refl
+again (Does (SignalOn a)) = refl
+again (Does (NearOther n)) = refl
+
+pub same_tree : (p q : Plain) → kind_of p ≡ kind_of q → number_of p ≡ number_of q → listed p ≡ listed q → decorated p ≡ decorated q → p ≡ q
+same_tree p q k n l d =
+    sym (again p)
+    ∙ ap (λ x. built x (number_of p) (listed p) (decorated p)) k
+    ∙ ap (λ x. built (kind_of q) x (listed p) (decorated p)) n
+    ∙ ap (λ x. built (kind_of q) (number_of q) x (decorated p)) l
+    ∙ ap (built (kind_of q) (number_of q) (listed q)) d
+    ∙ again q
+
+-- what stands below a root is smaller
+pub listed_smaller : (p : Plain) → sizes (listed p) < size p
+listed_smaller (Composite kind cs) = omega arith
+listed_smaller (CompositeStar kind cs) = omega arith
+listed_smaller (Parallel m cs) = omega arith
+listed_smaller (Invert c) = omega arith
+listed_smaller (Tries n c) = omega arith
+listed_smaller (Ticks n c) = omega arith
+listed_smaller (Wait n) = omega arith
+listed_smaller (MoveTo p) = omega arith
+listed_smaller (Does leaf) = omega arith
+
+pub decorated_smaller : (p c : Plain) → Some c ≡ decorated p → size c < size p
+decorated_smaller (Composite kind cs) c e = absurd (cc)
+decorated_smaller (CompositeStar kind cs) c e = absurd (cc)
+decorated_smaller (Parallel m cs) c e = absurd (cc)
+decorated_smaller (Invert d) c e = let s : c ≡ d = cc in omega (arith, ap size s)
+decorated_smaller (Tries n d) c e = let s : c ≡ d = cc in omega (arith, ap size s)
+decorated_smaller (Ticks n d) c e = let s : c ≡ d = cc in omega (arith, ap size s)
+decorated_smaller (Wait n) c e = absurd (cc)
+decorated_smaller (MoveTo p) c e = absurd (cc)
+decorated_smaller (Does leaf) c e = absurd (cc)
+
+pub element_smaller : {A : Type 0} → (nodes : List (Node A)) (i : ℕ) (d : Node A) → i < length nodes → size (plain (get_or nodes i d)) ≤ sizes (plains nodes)
+element_smaller [] i d h = absurd (omega arith)
+element_smaller (x ∷ xs) zero d h = omega arith
+element_smaller (x ∷ xs) (suc i) d h = let s = element_smaller xs i d (omega arith) in omega (arith, s)
+
+-- ---- lists of roots
+
+same_count : {A B : Type 0} → (xs : List (Node A)) (ys : List (Node B)) → plains xs ≡ plains ys → length xs ≡ length ys
+same_count xs ys e = sym (count-plains xs) ∙ ap count e ∙ count-plains ys
+
+pub other_count : {A B : Type 0} → (xs : List (Node A)) (ys : List (Node B)) → length xs ≢ length ys → plains xs ≢ plains ys
+other_count xs ys other e = other (same_count xs ys e)
+
+same_element : {A B : Type 0} → (xs : List (Node A)) (ys : List (Node B)) (i : ℕ) (d : Node A) (e : Node B) → plains xs ≡ plains ys → i < length xs
+    → plain (get_or xs i d) ≡ plain (get_or ys i e)
+same_element [] ys i d e same h = absurd (omega arith)
+same_element (x ∷ xs) [] i d e same h = absurd (cc)
+same_element (x ∷ xs) (y ∷ ys) zero d e same h = let r : plain x ≡ plain y = cc in r
+same_element (x ∷ xs) (y ∷ ys) (suc i) d e same h = let r : plains xs ≡ plains ys = cc in same_element xs ys i d e r (omega arith)
+
+pub other_element : {A B : Type 0} → (xs : List (Node A)) (ys : List (Node B)) (i : ℕ) (x : Node A) (y : Node B) → i < length xs
+    → x ≡ get_or xs i x → y ≡ get_or ys i y → plain x ≢ plain y → plains xs ≢ plains ys
+other_element xs ys i x y h a b other same = other (ap plain a ∙ same_element xs ys i x y same h ∙ ap plain (sym b))
+
+pub same_more : {A B : Type 0} → (xs : List (Node A)) (ys : List (Node B)) (i : ℕ) (x : Node A) (y : Node B) → length xs ≡ length ys → i < length xs
+    → x ≡ get_or xs i x → y ≡ get_or ys i y → plain x ≡ plain y → map plain (take i xs) ≡ map plain (take i ys)
+    → map plain (take (i + 1) xs) ≡ map plain (take (i + 1) ys)
+same_more xs ys i x y n h a b same far =
+    ap (map plain) (take_more xs i x h)
+    ∙ copied_more (take i xs) (get_or xs i x) ys i y far (omega arith) (ap plain (sym a) ∙ same ∙ ap plain b)
+
+pub same_all : {A B : Type 0} → (xs : List (Node A)) (ys : List (Node B)) (i : ℕ) → length xs ≡ length ys → length xs ≤ i
+    → map plain (take i xs) ≡ map plain (take i ys) → plains xs ≡ plains ys
+same_all xs ys i n h far = ap forest_of (ap (map plain) (sym (take_all i xs h)) ∙ far ∙ ap (map plain) (take_all i ys (omega arith)))

@@ -1,0 +1,65 @@
+// Whether two worlds are the same.
+ghost use Rattle.std.specs.Prelude.{◌≡◌, ◌≢◌, true, false};
+
+use super::World;
+use crate::cell::{Agent, Cell};
+
+fn are_same_cells(cells: &[Cell], others: &[Cell]) -> bool
+    ensures same { result ≡ true → cells.now ≡ others.now }
+    ensures differs { result ≡ false → cells.now ≢ others.now }
+{
+    cells == others
+}
+
+fn are_same_agents(agents: &[Agent], others: &[Agent]) -> bool
+    ensures same { result ≡ true → agents.now ≡ others.now }
+    ensures differs { result ≡ false → agents.now ≢ others.now }
+{
+    agents == others
+}
+
+fn are_same_numbers(numbers: &[u32], others: &[u32]) -> bool
+    ensures same { result ≡ true → numbers.now ≡ others.now }
+    ensures differs { result ≡ false → numbers.now ≢ others.now }
+{
+    numbers == others
+}
+
+impl World {
+    /// Whether two worlds are the same: their cells, items and agents, wherever they come from. It takes time linear
+    /// in the number of cells, and no memory.
+    pub fn is_same(&self, other: &World) -> bool
+        ensures same { result ≡ true → self.now ≡ other.now }
+        ensures differs { result ≡ false → self.now ≢ other.now }
+    {
+        if self.width() != other.width() || self.height() != other.height() {
+            return false;
+        }
+        if !are_same_agents(&self.crew, &other.crew) {
+            return false;
+        }
+        if !are_same_numbers(&self.item_cells, &other.item_cells) {
+            return false;
+        }
+        are_same_cells(self.cells(), other.cells())
+    }
+}
+
+#[cfg(test)]
+mod tests {
+    use crate::world::World;
+    use std::test::Fail;
+
+    #[test]
+    fn worlds_differ_in_cells_items_and_agents(rt: HostRuntime) -> Result<(), Fail> {
+        let alloc = rt.alloc();
+        let rows = [String::from_str(alloc, "A*.a")?];
+        let world = World::from_rows(alloc, &rows)?;
+        assert!(rt; world.is_same(&World::from_rows(alloc, &rows)?));
+        for other in ["A*.b", "A.*a", "*A.a", "A*..", "A*.a."] {
+            let rows = [String::from_str(alloc, other)?];
+            assert!(rt; !world.is_same(&World::from_rows(alloc, &rows)?), "{other}");
+        }
+        Ok(())
+    }
+}

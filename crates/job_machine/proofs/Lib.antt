@@ -1,0 +1,4 @@
+pub mod Entries
+pub mod Steps
+pub mod Rows
+pub mod Woken

@@ -1,0 +1,98 @@
+ghost use Rattle.std.specs.Prelude.{◌≡◌, ◌<◌, ◌^◌, ◌==◌, MatchOption, true, false, option_map, length, not};
+ghost use Rattle.job_core.specs.Core.{same};
+ghost use Rattle.board_law.specs.Lists.{all, has, tally, at};
+ghost use Rattle.board_law.specs.Board.{holds};
+ghost use Rattle.board_law.specs.Pick.{pick};
+ghost use Rattle.board_law.specs.Passes.{on_fiber};
+ghost use Rattle.job_queues.specs.Names.{picked};
+ghost use Rattle.job_machine.specs.Seats.{IsHolder, IsDrawn};
+
+use super::held::Held;
+use super::machine::Machine;
+use super::tables::{entry, place_of};
+use counters::CounterKey;
+use job_core::names::JobName;
+use job_queues::{Fiber, Pick};
+
+// What a board asks its machine before it does an event. None of these takes memory.
+impl Machine {
+    /// What an idle worker is given, with nothing taken out.
+    pub fn peek(&self) -> Option<Pick>
+        ensures { option_map picked result ≡ pick (tally not self.now.seats.taken) self.now.queues }
+    {
+        self.queues.peek(self.pool.free())
+    }
+
+    /// The job that a worker runs, if it runs one.
+    pub fn runs(&self, worker: u32) -> Option<Held>
+        ensures { result ≡ on_fiber self.now.seats (at self.now.seats.workers worker) }
+    {
+        let fiber = entry(&self.workers, worker)?;
+        entry(&self.jobs, fiber.0)
+    }
+
+    /// The job that a fiber holds, if it holds one.
+    pub fn held_by(&self, fiber: Fiber) -> Option<Held>
+        ensures { result ≡ at self.now.seats.jobs fiber }
+    {
+        entry(&self.jobs, fiber.0)
+    }
+
+    /// The fiber that holds a job, if one does.
+    pub fn holder(&self, job: JobName) -> Option<Fiber>
+        requires { length self.now.seats.jobs < 2 ^ 32 }
+        ensures { MatchOption result (tally (holds job) self.now.seats.jobs ≡ 0) (IsHolder job self.now.seats.jobs) }
+    {
+        let Some(place) = place_of(&self.jobs, job) else {
+            return None;
+        };
+        Some(Fiber(place as u32))
+    }
+
+    pub fn is_queued(&self, job: JobName) -> bool
+        ensures { result ≡ has (same job) (all self.now.queues.fresh) }
+    {
+        self.queues.is_queued(job)
+    }
+
+    pub fn is_ready(&self, fiber: Fiber) -> bool
+        ensures { result ≡ has (λ other. fiber == other) (all self.now.queues.ready) }
+    {
+        self.queues.is_ready(fiber)
+    }
+
+    /// How many fibers are free.
+    pub fn free(&self) -> u32
+        ensures { result ≡ tally not self.now.seats.taken }
+    {
+        self.pool.free()
+    }
+
+    /// How many frames are shown.
+    pub fn emitted(&self) -> u32
+        ensures { result ≡ self.now.emitted }
+    {
+        self.emitted
+    }
+
+    pub fn is_stopped(&self) -> bool
+        ensures { result ≡ self.now.stopped }
+    {
+        self.stopped
+    }
+
+    /// Whether a frame is drawn and still to be shown.
+    pub fn is_drawn(&self, frame: u32) -> bool
+        requires { length self.now.seats.jobs < 2 ^ 32 }
+        ensures yes { result ≡ true → IsDrawn self.now frame }
+        ensures no { result ≡ false → IsDrawn self.now frame → ⊥ }
+    {
+        if self.counters.left(CounterKey::Shown { frame }).is_none() {
+            return false;
+        }
+        if self.holder(JobName::Logic { frame }).is_some() {
+            return false;
+        }
+        self.counters.left(CounterKey::Draws { frame }).is_none()
+    }
+}
