@@ -2,3 +2,4 @@ pub mod Fitting
 pub mod Ground
 pub mod Turning
 pub mod CutThoughts
+pub mod AllAgents

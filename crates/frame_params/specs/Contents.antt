@@ -20,10 +20,10 @@ use Rattle.frame_params.specs.Names.{PartOf}
 abbrev pub signals_in : Game → ℕ → List Bool
 signals_in g f = signals g.changes f
 
-abbrev pub world_after : Game → ℕ → Grid
+unfoldable pub world_after : Game → ℕ → Grid
 world_after g f = (play g f).world
 
-abbrev pub memories_after : Game → ℕ → List (List ℕ)
+unfoldable pub memories_after : Game → ℕ → List (List ℕ)
 memories_after g f = (play g f).memories
 
 -- the answers and the intents of all agents, by agent number

@@ -3,3 +3,4 @@ pub mod Contents
 pub mod Logic
 pub mod Slots
 pub mod Thinks
+pub mod Tasks

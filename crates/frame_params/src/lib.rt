@@ -12,6 +12,10 @@ mod parked;
 mod path_task;
 mod slots;
 mod stand;
+mod step;
+mod task;
+#[cfg(test)]
+mod tests;
 mod think_step;
 mod think_task;
 #[cfg(test)]
@@ -28,6 +32,8 @@ pub use params::FrameParams;
 pub use parked::Parked;
 pub use path_task::PathTask;
 pub use slots::Slots;
+pub use step::Step;
+pub use task::Task;
 pub use think_step::ThinkStep;
 pub use think_task::ThinkTask;
 pub use thought::Thought;

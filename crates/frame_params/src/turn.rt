@@ -1,8 +1,9 @@
 ghost use Rattle.std.specs.Prelude.{◌≡◌};
-ghost use Rattle.frame_params.specs.Contents.{world_after, statuses_in};
+ghost use Rattle.frame_params.specs.Contents.{world_after, statuses_in, bands_in};
 
 use bt_nodes::Status;
 use bt_tick::Memory;
+use draw_list::BAND_ROWS;
 use grid_world::World;
 use job_core::names::JobName;
 use level_text::Session;
@@ -55,6 +56,14 @@ impl<'t> Turn<'t> {
         ensures { result.now ≡ world_after self.now.game self.now.frame }
     {
         &self.world
+    }
+
+    #[tactic(auto, using(crate::proofs::Turning::height_stays))]
+    /// How many bands the frame has.
+    pub fn bands(&self) -> u32
+        ensures { result ≡ bands_in self.now.game }
+    {
+        self.world.height().div_ceil(BAND_ROWS)
     }
 
     /// The answer of each agent's tick, by agent number.

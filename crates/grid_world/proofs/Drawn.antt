@@ -1,17 +1,19 @@
 -- The glyphs of a cell and of a row.
-use Rattle.std.proofs.Common.{◌*◌, ◌==◌, eqb-true, refl, Result, Ok, Err, is_ok, OnOk, ◌++◌, get_or-take, ◌∙◌, ap, map, take, length, get_or, ◌+◌, ◌<◌, ◌≤◌, arith, sym, length-take, ◌≡◌, ℕ, Bool, true, false, ◌&&◌, if◌then◌else◌, List, Option, Some, None}
+use Rattle.std.proofs.Common.{◌*◌, ◌==◌, eqb-true, refl, get_or-take, ◌∙◌, ap, map, take, length, get_or, ◌+◌, ◌<◌, ◌≤◌, arith, sym, length-take, ◌≡◌, ℕ, Bool, true, false, ◌&&◌, if◌then◌else◌, List, Option, Some, None}
 use Rattle.std.proofs.lemmas.Grind.{same_number_lists}
+use Rattle.std.proofs.lemmas.List.{take_all}
 use Rattle.std.proofs.lemmas.List.Quantifiers.{position-Some}
 use Rattle.grid_world.specs.declared.cell.Agent.{Agent}
 use Rattle.grid_world.specs.declared.cell.Cell.{Cell}
 use Rattle.grid_world.specs.declared.cell.Cell.TheVariants.{Wall, Floor, Door, Spot}
 use Rattle.grid_world.specs.Grid.{Grid, Point, agent_on, cell_at, has_item, is_on_map, point_of, same_point}
-use Rattle.grid_world.specs.Ground.{is_among, marked}
+use Rattle.grid_world.specs.Ground.{emptied, is_among, marked}
 use Rattle.grid_world.specs.Glyphs.{base_glyph, content_glyph, glyph, glyph_of}
 use Rattle.grid_world.specs.Map.{count_up}
 use Rattle.grid_world.specs.World.{point, row_glyphs, IsWorld}
 use Rattle.grid_world.proofs.CountUp.{get_or-map-count_up, length-map-count_up}
 use Rattle.grid_world.proofs.Marked.{get_or-marked}
+use Rattle.grid_world.proofs.Lined.{glyph-emptied}
 use Rattle.grid_world.proofs.Rows.{and_parts}
 
 -- the glyph of a cell that is on the map
@@ -62,51 +64,48 @@ has_item-Wall g world p wall = go (has_item g p) refl
     go false e = refl
     go true e = absurd (world.items_off_walls p e wall)
 
-over : (agent : Option ℕ) (item : Bool) (base : ℕ)
+-- a cell drawn over by its item and its agent
+glyph-drawn_over : (signals : List Bool) (cell : Cell) (agent : Option ℕ) (item : Bool)
+    → (cell ≡ Wall → agent ≡ None) → (cell ≡ Wall → item ≡ false)
+    → content_glyph agent item (glyph_of cell (base_glyph signals cell))
+    ≡ glyph_of cell (content_glyph agent item (base_glyph signals cell))
+glyph-drawn_over signals Wall agent item no_agent no_item = rw (no_agent refl, no_item refl) refl
+glyph-drawn_over signals Floor agent item _ _ = refl
+glyph-drawn_over signals (Door a) agent item _ _ = refl
+glyph-drawn_over signals (Spot p) agent item _ _ = refl
+
+-- an item drawn first, and then an agent
+pub over : (agent : Option ℕ) (item : Bool) (base : ℕ)
     → content_glyph agent false (if item then 42 else base) ≡ content_glyph agent item base
 over (Some a) item base = refl
 over None true base = refl
 over None false base = refl
 
--- a cell drawn over by its item, and then by its agent
-glyph-drawn_over : (signals : List Bool) (cell : Cell) (agent : Option ℕ) (item : Bool)
-    → (cell ≡ Wall → agent ≡ None) → (cell ≡ Wall → item ≡ false)
-    → content_glyph agent false (if item then 42 else base_glyph signals cell)
-    ≡ glyph_of cell (content_glyph agent item (base_glyph signals cell))
-glyph-drawn_over signals Wall agent item no_agent no_item = rw (no_agent refl, no_item refl) refl
-glyph-drawn_over signals Floor agent item _ _ = over agent item (base_glyph signals Floor)
-glyph-drawn_over signals (Door a) agent item _ _ = over agent item (base_glyph signals (Door a))
-glyph-drawn_over signals (Spot p) agent item _ _ = over agent item (base_glyph signals (Spot p))
-
--- a row drawn cell by cell, then item by item, then agent by agent
+-- a row of the ground drawn over by its items and its agents
 pub row_glyphs-drawn_over : (g : Grid) → IsWorld g → (signals : List Bool) (y : ℕ) (listed : List ℕ)
     → g.items ≡ marked (length g.cells) listed → y < g.height
-    → (cells items agents : List ℕ) → g.width ≤ length agents
-    → ((x : ℕ) → x < g.width → get_or cells x 0 ≡ base_glyph signals (get_or g.cells (y * g.width + x) Wall))
-    → ((x : ℕ) → x < g.width
-    → get_or items x 0 ≡ (if is_among listed (y * g.width + x) then 42 else get_or cells x 0))
-    → ((x : ℕ) → x < g.width
-    → get_or agents x 0 ≡ content_glyph (agent_on g (point x y)) false (get_or items x 0))
-    → take g.width agents ≡ row_glyphs g signals y
-row_glyphs-drawn_over g world signals y listed marks row cells items agents long first second third =
-    row_glyphs-from_each g signals y agents long (λ x column.
+    → (ground row : List ℕ) → ground ≡ row_glyphs (emptied g) signals y → length row ≡ g.width
+    → ((x : ℕ) → x < g.width → get_or row x 0
+    ≡ content_glyph (agent_on g (point x y)) (is_among listed (y * g.width + x)) (get_or ground x 0))
+    → row ≡ row_glyphs g signals y
+row_glyphs-drawn_over g world signals y listed marks inside ground row bare long each =
+    sym (take_all g.width row (omega (arith, long)))
+    ∙ row_glyphs-from_each g signals y row (omega (arith, long)) (λ x column.
     let small : y * g.width + x < length g.cells = omega
     (arith, world.sized.all_cells, index_below x column) in
-    let lies : has_item g (point x y) ≡ is_among listed (y * g.width + x) =
-    ap (λ ms. get_or ms (y * g.width + x) false) marks
-    ∙ get_or-marked (length g.cells) listed (y * g.width + x) small in
-    third x column ∙ ap (content_glyph (agent_on g (point x y)) false) (second x column
-    ∙ ap (λ b. if b then 42 else get_or cells x 0) (sym lies)
-    ∙ ap (λ n. if has_item g (point x y) then 42 else n) (first x column))
+    let lies : is_among listed (y * g.width + x) ≡ has_item g (point x y) =
+    sym (ap (λ ms. get_or ms (y * g.width + x) false) marks
+    ∙ get_or-marked (length g.cells) listed (y * g.width + x) small) in
+    let zero_more : 0 + x ≡ x = omega arith in
+    let shown : get_or ground x 0 ≡ glyph_of (cell_at g (point x y)) (base_glyph signals (cell_at g (point x y))) =
+    ap (λ l. get_or l x 0) bare
+    ∙ get_or-map-count_up (λ k. glyph (emptied g) signals (point k y)) 0 g.width x 0 column
+    ∙ ap (λ k. glyph (emptied g) signals (point k y)) zero_more ∙ glyph-emptied g signals (point x y) in
+    each x column
+    ∙ ap (λ b. content_glyph (agent_on g (point x y)) b (get_or ground x 0)) lies
+    ∙ ap (content_glyph (agent_on g (point x y)) (has_item g (point x y))) shown
     ∙ glyph-drawn_over signals (cell_at g (point x y)) (agent_on g (point x y)) (has_item g (point x y))
     (agent_on-Wall g world (point x y)) (has_item-Wall g world (point x y)))
   where
     index_below : (x : ℕ) → x < g.width → y * g.width + x < g.width * g.height
     index_below x column = grind arith
-
--- what was appended, where it could be
-pub appended : {X E : Type 0} (r : Result X E) (old new more : List ℕ)
-    → new ≡ (if is_ok r then old ++ more else old) → (part : List ℕ) → more ≡ part
-    → OnOk r (new ≡ old ++ part)
-appended (Ok x) old new more e part same = e ∙ ap (λ xs. old ++ xs) same
-appended (Err f) old new more e part same = tt

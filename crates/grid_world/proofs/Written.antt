@@ -34,6 +34,17 @@ IsCut-gap xs bound i gap = record {
       λ k from inside. let high = gap.above k from inside in omega arith;
 }
 
+pub IsCut-far : (xs : List ℕ) (bound i : ℕ) → AllPairs (λ i j. i < j) xs → i < length xs
+    → bound ≤ get_or xs i 0 → ((k : ℕ) → k < i → get_or xs k 0 < bound) → IsCut xs bound i
+IsCut-far xs bound i up within far low = record {
+  within = omega arith;
+  below = low;
+  above = λ k from inside. elim (cases_lt i k) [
+    | inl behind ↦ (let high = up i k 0 behind inside in omega (arith, high, far))
+    | inr here ↦ (let e : k ≡ i = omega arith in omega (arith, far, ap (λ j. get_or xs j 0) e))
+  ];
+}
+
 -- what lies before the cut matters to no number from the bound on
 pub is_among-cut : (xs : List ℕ) (bound i n : ℕ) → IsCut xs bound i → bound ≤ n
     → is_among (drop i xs) n ≡ is_among xs n

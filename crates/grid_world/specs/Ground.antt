@@ -7,11 +7,16 @@ use Rattle.grid_world.specs.declared.cell.Cell.TheVariants.{Wall, Floor, Door, S
 use Rattle.grid_world.specs.Grid.{Grid, is_spot}
 use Rattle.grid_world.specs.Open.{is_passable}
 use Rattle.grid_world.specs.Map.{count_up}
+use Rattle.grid_world.specs.Rows.{IsPlaced, lines}
 use Rattle.grid_world.specs.World.{IsSized, IsWorld}
 
 -- a ground with nothing on it
 abbrev pub bare : ℕ → ℕ → List Cell → Grid
 bare width height cells = record { width = width; height = height; cells = cells; items = []; agents = [] }
+
+-- a world without its items and agents
+abbrev pub emptied : Grid → Grid
+emptied g = bare g.width g.height g.cells
 
 -- the table has the number of each place's cell
 abbrev pub ListsSpots : List (Option ℕ) → Grid → Type 0
@@ -35,11 +40,13 @@ pub record ListsDoors (doors : List ℕ) (cells : List Cell) : Type 0 where
   pub within : All (λ i. i < length cells) doors
 
 -- a ground with its tables
-pub record IsGround (g : Grid) (floor : List Bool) (doors : List ℕ) (spots : List (Option ℕ)) : Type 0 where
+pub record IsGround (g : Grid) (floor : List Bool) (doors : List ℕ) (spots : List (Option ℕ)) (text : List ℕ) : Type 0 where
   pub sized : IsSized g
+  pub placed : All IsPlaced g.cells
   pub passable : floor ≡ map (is_passable no_signals) g.cells
   pub doored : ListsDoors doors g.cells
   pub listing : ListsSpots spots g
+  pub drawn : text ≡ lines g no_signals 0 g.height
 
 -- for each of n cells whether it is among those listed
 abbrev pub marked : ℕ → List ℕ → List Bool

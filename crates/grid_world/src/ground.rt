@@ -1,10 +1,12 @@
-ghost use Rattle.std.specs.Prelude.{ℕ, IfOk, length, map, position, slice_index_or, ◌≡◌, ◌<◌, ◌≤◌, ◌*◌, IfSome, Some, None, option_map, if◌then◌else◌};
+ghost use Rattle.std.specs.Prelude.{ℕ, All, IfOk, length, map, ◌+◌, position, slice_index_or, ◌≡◌, ◌<◌, ◌≤◌, ◌*◌, IfSome, Some, None, option_map, if◌then◌else◌};
 ghost use Rattle.grid_world.specs.Grid.{cell_at, index_of, is_on_map, is_spot, place_of};
 ghost use Rattle.grid_world.specs.Open.{is_open, is_passable};
-ghost use Rattle.grid_world.specs.Ground.{ListsDoors, is_door, no_signals};
+ghost use Rattle.grid_world.specs.Ground.{ListsDoors, bare, emptied, is_door, no_signals};
+ghost use Rattle.grid_world.specs.Rows.{IsPlaced, lines};
 ghost use Rattle.grid_world.specs.World.{IsSized, point};
 
 use crate::cell::Cell;
+use crate::glyph::glyph_of;
 use crate::place::Place;
 use crate::signal::Signals;
 use std::alloc::{AllocError, Global};
@@ -19,6 +21,8 @@ pub struct Ground {
     floor: Vec<bool>,
     doors: Vec<u32>,
     spots: [Option<u32>; 10],
+    // the text of the rows while all signals are off, with nobody and no item there
+    text: Vec<u8>,
 }
 
 impl Model for Ground {
@@ -29,23 +33,25 @@ impl Model for Ground {
 
     ghost view = { λ g. bare g.columns g.rows g.kinds.items };
 
-    ghost invariant = { λ g. IsGround (bare g.columns g.rows g.kinds.items) g.floor.items g.doors.items g.spots };
+    ghost invariant = { λ g. IsGround (bare g.columns g.rows g.kinds.items) g.floor.items g.doors.items g.spots g.text.items };
 }
 
 impl Ground {
-    ghost use Rattle.grid_world.specs.Ground.{bare};
-
-    /// The ground of these cells, row after row, with what `floor_in` and `doors_in` make of them. Takes no memory.
+    /// The ground of these cells, row after row, with what `floor_in`, `doors_in` and `text_in` make of them. Takes no
+    /// memory.
     pub fn new(
         columns: u32,
         rows: u32,
         kinds: Vec<Cell>,
         floor: Vec<bool>,
         doors: Vec<u32>,
+        text: Vec<u8>,
     ) -> Ground
         requires sized { IsSized (bare columns rows kinds.items) }
+        requires placed { All IsPlaced kinds.items }
         requires floor { floor.items ≡ map (is_passable no_signals) kinds.items }
         requires doors { ListsDoors doors.items kinds.items }
+        requires text { text.items ≡ lines (bare columns rows kinds.items) no_signals 0 rows }
         ensures { result ≡ bare columns rows kinds.items }
     {
         let spots = spots_in(&kinds);
@@ -56,6 +62,7 @@ impl Ground {
             floor,
             doors,
             spots,
+            text,
         }
     }
 
@@ -137,6 +144,28 @@ impl Ground {
     }
 }
 
+impl Ground {
+    /// The text of some rows with nobody and no item there, from row `first` on.
+    pub fn rows(
+        &self,
+        alloc: Global,
+        signals: Signals,
+        first: u32,
+        count: u32,
+    ) -> Result<Vec<u8>, AllocError>
+        requires { first + count ≤ self.now.height }
+        ensures { IfOk result (λ rows. rows.items ≡ lines (emptied self.now) signals first count) }
+    {
+        let stride = self.columns as usize + 1;
+        let from = first as usize * stride;
+        let end = (first + count) as usize * stride;
+        let shut = &self.text[from..end];
+        let mut rows = Vec::from_slice(alloc, shut)?;
+        signals.open_doors(&mut rows);
+        Ok(rows)
+    }
+}
+
 fn is_passable(cell: Cell, signals: &Signals) -> bool
     ensures { result ≡ is_passable signals.now cell }
 {
@@ -182,6 +211,27 @@ pub fn doors_in(alloc: Global, kinds: &[Cell]) -> Result<Vec<u32>, AllocError>
         }
     }
     Ok(doors)
+}
+
+/// The text of all rows while all signals are off: for each the glyphs of its cells, from the left, and a line feed.
+pub fn text_in(
+    alloc: Global,
+    columns: u32,
+    rows: u32,
+    kinds: &[Cell],
+) -> Result<Vec<u8>, AllocError>
+    requires { IsSized (bare columns rows kinds.now) }
+    ensures { IfOk result (λ text. text.items ≡ lines (bare columns rows kinds.now) no_signals 0 rows) }
+{
+    let off = Signals::off();
+    let mut text = Vec::with_capacity(alloc, (columns as usize + 1) * rows as usize)?;
+    'rows: for y in 0..rows {
+        'columns: for x in 0..columns {
+            text.push(glyph_of(kinds[(y * columns + x) as usize], None, false, &off))?;
+        }
+        text.push(b'\n')?;
+    }
+    Ok(text)
 }
 
 fn is_spot(cell: &Cell, number: u32) -> bool

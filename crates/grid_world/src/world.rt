@@ -8,7 +8,7 @@ ghost use Rattle.grid_world.specs.Ground.{is_among, IsGap, ListsDoors, no_signal
 use crate::cell::{Agent, Cell};
 use crate::fault::MapFault;
 use crate::glyph::glyph_of;
-use crate::ground::{Ground, doors_in, floor_in};
+use crate::ground::{Ground, doors_in, floor_in, text_in};
 use crate::map::{
     agents_in, cells_in, first_width, has_letters, has_size, item_cells_in, marks_in, strange_mark,
 };
@@ -110,7 +110,8 @@ impl World {
         let crew = agents_in(alloc, columns, &marks)?;
         let floor = floor_in(alloc, &kinds)?;
         let doors = doors_in(alloc, &kinds)?;
-        let ground = Ground::new(columns, rows.len() as u32, kinds, floor, doors);
+        let text = text_in(alloc, columns, rows.len() as u32, &kinds)?;
+        let ground = Ground::new(columns, rows.len() as u32, kinds, floor, doors, text);
         match Arc::new(alloc, ground) {
             Ok(ground) => Ok(World {
                 ground,

@@ -107,15 +107,6 @@ impl Machine {
         }
     }
 
-    /// The job that a fiber holds.
-    #[tactic(auto, using(crate::proofs::Entries::at_in))]
-    fn held_by(&self, fiber: Fiber) -> Option<Held>
-        requires { fiber < length self.now.seats.jobs }
-        ensures { result ≡ at self.now.seats.jobs fiber }
-    {
-        self.jobs[fiber.0 as usize]
-    }
-
     fn hold_on(&mut self, worker: u32, fiber: Fiber, held: Option<Held>)
         requires worker { worker < length self.old.seats.workers }
         requires fiber { fiber < length self.old.seats.jobs }

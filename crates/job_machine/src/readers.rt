@@ -31,6 +31,13 @@ impl Machine {
         entry(&self.jobs, fiber.0)
     }
 
+    /// The job that a fiber holds, if it holds one.
+    pub fn held_by(&self, fiber: Fiber) -> Option<Held>
+        ensures { result ≡ at self.now.seats.jobs fiber }
+    {
+        entry(&self.jobs, fiber.0)
+    }
+
     /// The fiber that holds a job, if one does.
     pub fn holder(&self, job: JobName) -> Option<Fiber>
         requires { length self.now.seats.jobs < 2 ^ 32 }

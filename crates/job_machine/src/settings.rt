@@ -1,5 +1,5 @@
 ghost use Rattle.std.specs.Prelude.{◌≡◌, ◌≤◌, Some, None, IfOk, IfErr, OnOk};
-ghost use Rattle.job_machine.specs.Numbers.{settings_of};
+ghost use Rattle.job_machine.specs.Numbers.{settings_of, IsWithinLimits};
 ghost use Rattle.job_machine.specs.Limits.{settings_fault};
 
 use std::marker::Model;
@@ -99,5 +99,12 @@ impl Settings {
         ensures most { result ≤ 16 }
     {
         self.slots
+    }
+
+    /// The numbers are within their limits.
+    pub fn is_within_limits(&self)
+        ensures { IsWithinLimits self.now.frames self.now.workers self.now.fibers self.now.slots }
+    {
+        let _ = &self.frames;
     }
 }

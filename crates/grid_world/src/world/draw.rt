@@ -1,46 +1,42 @@
-// Drawing a row of a world: its cells, then the items on them, then the agents.
-ghost use Rattle.std.specs.Prelude.{◌≡◌, ◌<◌, ◌≤◌, ◌^◌, ℕ, ◌++◌, ◌+◌, ◌*◌, All, AllPairs, OnOk, OnErr, false, length, position, slice_index, slice_index_or, if◌then◌else◌, vec_len, vec_capacity};
+// Drawing rows of a world: the ground's, then the items on them and the agents.
+ghost use Rattle.std.specs.Prelude.{◌≡◌, ◌<◌, ◌≤◌, ◌^◌, ℕ, ◌+◌, ◌*◌, All, AllPairs, IfOk, false, length, position, slice_index, if◌then◌else◌};
 ghost use Rattle.grid_world.specs.Grid.{point_of, same_point};
-ghost use Rattle.grid_world.specs.Glyphs.{base_glyph, content_glyph};
+ghost use Rattle.grid_world.specs.Glyphs.{content_glyph};
 ghost use Rattle.grid_world.specs.Ground.{is_among, IsCut};
-ghost use Rattle.grid_world.specs.World.{AreApart, point, row_glyphs};
-ghost use Rattle.grid_world.specs.declared.cell.Cell.TheVariants.{Wall};
+ghost use Rattle.grid_world.specs.Rows.{lines};
+ghost use Rattle.grid_world.specs.World.{AreApart, point};
 
 use super::{World, find};
-use crate::cell::{Agent, Cell};
-use crate::glyph::{ITEM, base_glyph};
+use crate::cell::Agent;
+use crate::glyph::ITEM;
 use crate::signal::Signals;
-use std::alloc::AllocError;
+use std::alloc::{AllocError, Global};
 
 impl World {
-    /// Appends the glyphs of a row, from the left. Takes no memory where the text has room for `width` more bytes.
+    /// The text of some rows, from row `first` on: for each its glyphs, from the left, and a line feed.
     ///
-    /// Takes time linear in the width and the number of agents, and logarithmic in the number of items of other rows.
-    pub fn draw_row(&self, signals: Signals, y: u32, text: &mut Vec<u8>) -> Result<(), AllocError>
-        requires { y < self.now.height }
-        ensures ok { OnOk result (text.new.items ≡ text.old.items ++ row_glyphs self.now signals y) }
-        ensures err { OnErr result (text.new.items ≡ text.old.items) }
-        ensures full { OnErr result (vec_capacity text.old < vec_len text.old + self.now.width) }
+    /// Takes time linear in the length of the text and in the number of agents for each row, and logarithmic in the
+    /// number of items of other rows.
+    pub fn draw_rows(
+        &self,
+        alloc: Global,
+        signals: Signals,
+        first: u32,
+        count: u32,
+    ) -> Result<Vec<u8>, AllocError>
+        requires { first + count ≤ self.now.height }
+        ensures { IfOk result (λ rows. rows.items ≡ lines self.now signals first count) }
     {
-        let mut row = [0; 128];
         let width = self.width();
-        let start = y * width;
-        draw_cells(self.cells(), start, width, &signals, &mut row);
-        draw_items(&self.item_cells, start, width, &mut row);
-        draw_agents(&self.crew, y, width, &mut row);
-        text.extend_from_slice(&row[..width as usize])
-    }
-}
-
-fn draw_cells(cells: &[Cell], start: u32, width: u32, signals: &Signals, row: &mut [u8])
-    requires cells { start + width ≤ length cells.now }
-    requires fits { start + width < 2 ^ 32 }
-    requires room { width ≤ length row.old }
-    ensures { (x : ℕ) → x < width →
-        slice_index row.new x ≡ base_glyph signals.now (slice_index_or cells.now (start + x) Wall) }
-{
-    'cells: for x in 0..width {
-        row[x as usize] = base_glyph(cells[(start + x) as usize], signals);
+        let stride = width as usize + 1;
+        let mut rows = self.ground.rows(alloc, signals, first, count)?;
+        let mut next = first_from(&self.item_cells, first * width);
+        'rows: for k in 0..count {
+            let from = k as usize * stride;
+            let row = &mut rows[from..from + width as usize];
+            next = furnish(&self.item_cells, next, &self.crew, first + k, width, row);
+        }
+        Ok(rows)
     }
 }
 
@@ -55,21 +51,51 @@ fn first_from(listed: &[u32], bound: u32) -> usize
     }
 }
 
-fn draw_items(listed: &[u32], start: u32, width: u32, row: &mut [u8])
+// Draws the items and the agents of row `y` over its bare glyphs. The items from place `next` on are those from the
+// row's first cell on. Answers where those of the rows below begin.
+fn furnish(
+    listed: &[u32],
+    next: usize,
+    agents: &[Agent],
+    y: u32,
+    width: u32,
+    row: &mut [u8],
+) -> usize
     requires rising { AllPairs (λ i j. i < j) listed.now }
+    requires begins { IsCut listed.now (y * width) next }
+    requires fits { y * width + width < 2 ^ 32 }
+    requires few { length agents.now ≤ 26 }
+    requires apart { AreApart agents.now }
+    requires columns { All (λ agent. agent.x < width) agents.now }
+    requires room { width ≤ length row.old }
+    ensures drawn { (x : ℕ) → x < width → slice_index row.new x ≡ content_glyph
+        (position (λ a. same_point (point_of a) (point x y)) agents.now)
+        (is_among listed.now (y * width + x)) (slice_index row.old x) }
+    ensures ends { IsCut listed.now (y * width + width) result }
+{
+    let end = draw_items(listed, next, y * width, width, row);
+    draw_agents(agents, y, width, row);
+    end
+}
+
+fn draw_items(listed: &[u32], next: usize, start: u32, width: u32, row: &mut [u8]) -> usize
+    requires rising { AllPairs (λ i j. i < j) listed.now }
+    requires begins { IsCut listed.now start next }
     requires fits { start + width < 2 ^ 32 }
     requires room { width ≤ length row.old }
-    ensures { (x : ℕ) → x < width →
+    ensures drawn { (x : ℕ) → x < width →
         slice_index row.new x ≡ (if is_among listed.now (start + x) then 42 else slice_index row.old x) }
+    ensures ends { IsCut listed.now (start + width) result }
 {
     let end = start + width;
-    'items: for i in first_from(listed, start)..listed.len() {
+    'items: for i in next..listed.len() {
         let cell = listed[i];
         if cell >= end {
-            break;
+            return i;
         }
         row[(cell - start) as usize] = ITEM;
     }
+    listed.len()
 }
 
 fn draw_agents(agents: &[Agent], y: u32, width: u32, row: &mut [u8])

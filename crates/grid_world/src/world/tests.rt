@@ -25,12 +25,7 @@ fn texts(alloc: Global, rows: &[&str]) -> Result<Vec<String>, AllocError> {
 
 // The world as it is drawn, with a line feed after each row.
 fn picture(alloc: Global, world: &World, signals: Signals) -> Result<Vec<u8>, AllocError> {
-    let mut text = Vec::new(alloc);
-    for y in 0..world.height() {
-        world.draw_row(signals, y, &mut text)?;
-        text.push(b'\n')?;
-    }
-    Ok(text)
+    world.draw_rows(alloc, signals, 0, world.height())
 }
 
 #[test]

@@ -1,4 +1,4 @@
-use Rattle.std.proofs.Common.{refl, map, ◌==◌, ◌≡◌, ◌≤◌, ap, ◌∙◌, sym, arith, length, subst}
+use Rattle.std.proofs.Common.{All, refl, map, ◌==◌, ◌≡◌, ◌≤◌, ap, ◌∙◌, sym, arith, length, subst}
 use Rattle.std.proofs.lemmas.List.{length-map}
 use Rattle.std.specs.Str.{chars}
 use Rattle.std.proofs.Common.{string_bytes}
@@ -6,6 +6,8 @@ use Rattle.grid_world.specs.MapFaults.{rows_of}
 use Rattle.grid_world.proofs.Rows.{IsRectangle-from_size, few_marks}
 use Rattle.grid_world.proofs.MapWorld.{AreParts, IsKept-parts, IsSized-parts}
 use Rattle.grid_world.specs.Map.{cell_of}
+use Rattle.grid_world.specs.Rows.{IsPlaced}
+use Rattle.grid_world.proofs.Lined.{cells-placed}
 use Rattle.grid_world.specs.Ground.{IsListed, marked}
 use Rattle.grid_world.proofs.world.World.from_rows.Goals as goal
 
@@ -64,3 +66,17 @@ invariant_of-result c =
     ≡ map (λ c. c == 42) marks) items_read c.in_ok-item_cells.ensures.marked)
     (c.in_ok-crew.ensures
     ∙ rw (c.first_width-columns.ensures, c.deref-5.ensures.value, c.in_ok-marks.ensures) refl))
+
+pub text_in-requires : goal.text_in-requires
+text_in-requires c =
+    let rows = rows_of c.args.rows.now in
+    let size = IsRectangle-from_size rows (sym c.has_size.ensures ∙ c.if-not-has_size.false) in
+    IsSized-parts rows size _ _ _ (record {
+      wide = c.first_width-columns.ensures;
+      high = sym (length-map c.args.rows.now (λ text. chars (string_bytes text)));
+      ground = c.deref-8.ensures.value ∙ c.in_ok-kinds.ensures ∙ ap (map cell_of) (c.deref-3.ensures.value ∙ c.in_ok-marks.ensures);
+    })
+
+pub new-ground-requires-clause-placed : goal.new-ground-requires-clause-placed
+new-ground-requires-clause-placed c =
+    subst (All IsPlaced) (sym (c.in_ok-kinds.ensures)) (cells-placed c.deref-3.result.now)
