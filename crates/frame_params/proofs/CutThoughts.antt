@@ -1,6 +1,6 @@
 -- Thoughts that are cut at their questions.
-use Rattle.std.proofs.Common.{◌≡◌, ◌<◌, ℕ, zero, suc, [], ◌+◌, ◌-◌, Bool, List, length, refl, sym, ap, ◌∙◌, subst, arith}
-use Rattle.std.specs.Prelude.{Some, slice_index_or}
+use Rattle.std.proofs.Common.{◌≡◌, ◌<◌, ℕ, zero, suc, [], ◌+◌, ◌-◌, Bool, List, length, sym, ap, ◌∙◌, subst, arith}
+use Rattle.std.specs.Prelude.{slice_index_or}
 use Rattle.std.specs.declared.alloc.Global.{Global}
 use Rattle.grid_world.specs.Grid.{Grid}
 use Rattle.grid_world.specs.Way.{way}
@@ -11,8 +11,8 @@ use Rattle.bt_nodes.specs.Plain.{Plain}
 use Rattle.bt_nodes.specs.Sizes.{size}
 use Rattle.game_rules.specs.Game.{Game, signals}
 use Rattle.game_rules.specs.Play.{play}
-use Rattle.game_rules.specs.View.{View, cell_of}
-use Rattle.game_rules.specs.Thought.{Thought, questions, way_to_last}
+use Rattle.game_rules.specs.View.{cell_of}
+use Rattle.game_rules.specs.Thought.{questions, way_to_last}
 use Rattle.game_rules.proofs.Ways.{few}
 use Rattle.game_jobs.specs.Instance.{tree_of, view, asked_in}
 use Rattle.bt_tick.specs.Outcome.{place_of}
@@ -21,7 +21,7 @@ use Rattle.bt_tick.specs.declared.tick.Pending.{Pending}
 use Rattle.bt_tick.specs.declared.tick.Outcome.{Outcome}
 use Rattle.bt_tick.specs.declared.tick.Outcome.TheVariants.{Ended, Asks}
 use Rattle.bt_tick.proofs.CutTicks.{asks_now, still_asks, ended_asks, thinking_ended}
-use Rattle.frame_params.specs.Contents.{world_after, signals_in, IsAfter, seen, memory_before, thought_in, questions_in, ways_in, place_in, way_in}
+use Rattle.frame_params.specs.Contents.{world_after, memories_after, signals_in, IsAfter, seen, memory_before, thought_in, questions_in, ways_in, place_in, way_in}
 use Rattle.frame_params.specs.Thinks.{Sees, ThinksTo, StandsAt, AsksFor, IsWayOf, GoesOn}
 
 -- what an agent sees
@@ -63,7 +63,7 @@ module _ (g : Game) (f a i : ℕ) where
 
 -- the job core's number of questions
 pub asked_is : (g : Game) (f a : ℕ) → 0 < f → questions_in g f a ≡ asked_in g f a
-unfolding questions_in seen memory_before
+unfolding questions_in seen memory_before world_after memories_after
 asked_is g zero a h = absurd (omega arith)
 asked_is g (suc f) a h =
     let n : suc f - 1 ≡ f = omega arith in
