@@ -51,6 +51,12 @@ as_many_intents g f =
     length-map (thoughts g f (play g (f - 1))) (λ t. t.intent)
     ∙ length_of (play g (f - 1)).world (signals g.changes f) g.trees (play g (f - 1)).memories 0 (as_many g (f - 1))
 
+pub as_many_statuses : (g : Game) (f : ℕ) → length (statuses_in g f) ≡ length g.trees
+unfolding statuses_in memories_after
+as_many_statuses g f =
+    length-map (thoughts g f (play g (f - 1))) (λ t. t.status)
+    ∙ length_of (play g (f - 1)).world (signals g.changes f) g.trees (play g (f - 1)).memories 0 (as_many g (f - 1))
+
 -- the thoughts of a frame are those of its agents
 all_thoughts : (g : Game) (f : ℕ) → thoughts g f (play g (f - 1)) ≡ map (thought_in g f) (count_up 0 (length g.trees))
 unfolding thought_in seen memory_before world_after memories_after

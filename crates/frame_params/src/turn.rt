@@ -1,4 +1,4 @@
-ghost use Rattle.std.specs.Prelude.{◌≡◌};
+ghost use Rattle.std.specs.Prelude.{◌≡◌, length};
 ghost use Rattle.frame_params.specs.Contents.{world_after, statuses_in, bands_in};
 
 use bt_nodes::Status;
@@ -53,7 +53,8 @@ impl<'t> Turn<'t> {
 
     /// The world after the frame.
     pub fn world(&self) -> &World
-        ensures { result.now ≡ world_after self.now.game self.now.frame }
+        ensures value { result.now ≡ world_after self.now.game self.now.frame }
+        ensures agents { length result.now.agents ≡ length self.now.game.trees }
     {
         &self.world
     }
@@ -66,9 +67,11 @@ impl<'t> Turn<'t> {
         self.world.height().div_ceil(BAND_ROWS)
     }
 
+    #[tactic(auto, using(crate::proofs::Turning::as_many_statuses))]
     /// The answer of each agent's tick, by agent number.
     pub fn statuses(&self) -> &[Status]
-        ensures { result.now ≡ statuses_in self.now.game self.now.frame }
+        ensures value { result.now ≡ statuses_in self.now.game self.now.frame }
+        ensures agents { length result.now ≡ length self.now.game.trees }
     {
         &self.statuses
     }
