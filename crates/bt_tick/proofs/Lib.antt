@@ -9,3 +9,4 @@ pub mod Opening
 pub mod Outcomes
 pub mod Zero
 pub mod Fitting
+pub mod CutTicks

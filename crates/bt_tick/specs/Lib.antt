@@ -7,3 +7,4 @@ pub mod Views
 pub mod Machine
 pub mod Outcome
 pub mod Fitting
+pub mod Thinking

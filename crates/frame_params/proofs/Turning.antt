@@ -40,19 +40,26 @@ length_of w on (p ∷ ps) (m ∷ ms) k e = ap suc (length_of w on ps ms (suc k) 
 
 -- a memory for each tree
 pub as_many : (g : Game) (f : ℕ) → length (memories_after g f) ≡ length g.trees
+unfolding memories_after
 as_many g zero = length-map g.trees zero_memory
 as_many g (suc f) =
     length-map (thoughts g (suc f) (play g f)) (λ t. t.memory) ∙ length_of (play g f).world (signals g.changes (suc f)) g.trees (play g f).memories 0 (as_many g f)
 
 pub as_many_intents : (g : Game) (f : ℕ) → length (intents_in g f) ≡ length g.trees
-unfolding intents_in
+unfolding intents_in memories_after
 as_many_intents g f =
     length-map (thoughts g f (play g (f - 1))) (λ t. t.intent)
     ∙ length_of (play g (f - 1)).world (signals g.changes f) g.trees (play g (f - 1)).memories 0 (as_many g (f - 1))
 
+pub as_many_statuses : (g : Game) (f : ℕ) → length (statuses_in g f) ≡ length g.trees
+unfolding statuses_in memories_after
+as_many_statuses g f =
+    length-map (thoughts g f (play g (f - 1))) (λ t. t.status)
+    ∙ length_of (play g (f - 1)).world (signals g.changes f) g.trees (play g (f - 1)).memories 0 (as_many g (f - 1))
+
 -- the thoughts of a frame are those of its agents
 all_thoughts : (g : Game) (f : ℕ) → thoughts g f (play g (f - 1)) ≡ map (thought_in g f) (count_up 0 (length g.trees))
-unfolding thought_in seen memory_before
+unfolding thought_in seen memory_before world_after memories_after
 all_thoughts g f =
     row_is (play g (f - 1)).world (signals g.changes f) g.trees (play g (f - 1)).memories 0 (thought_in g f) (as_many g (f - 1))
     (λ a l. let n : 0 + a ≡ a = omega arith in
@@ -84,6 +91,7 @@ module _ (p : FrameOf) (parts : List PartOf) (all : AreOfAllAgents p parts) wher
   kept g (suc f) h = let n : suc f - 1 ≡ f = omega arith in ap (λ k. map (λ t. t.memory) (thoughts g (suc f) (play g k))) n
 
   pub all_memories : 0 < p.frame → map (λ q. (thought_for q).memory) parts ≡ memories_after p.game p.frame
+  unfolding memories_after
   all_memories h = all_parts (λ t. t.memory) p parts all ∙ kept p.game p.frame h
 
   -- memories that fit the thoughts' trees fit all trees
@@ -106,7 +114,7 @@ module _ (p : FrameOf) (parts : List PartOf) (all : AreOfAllAgents p parts) wher
 -- ---- the turn
 
 turned : (g : Game) (f : ℕ) → 0 < f → apply_all (world_after g (f - 1)) (signals_in g f) 0 (intents_in g f) ≡ world_after g f
-unfolding intents_in
+unfolding intents_in world_after
 turned g zero h = absurd (omega (arith, h))
 turned g (suc f) h =
     let n : suc f - 1 ≡ f = omega arith in
@@ -118,6 +126,7 @@ module _ (g : Game) (f : ℕ) (x : Gathered) (is : IsGathered g f x) where
 
   -- what is gathered comes to the turn
   pub is_after : (world : Grid) → world ≡ apply_all (arc_value x.world) x.signals 0 x.intents.items → IsAfter g f world (arc_value x.memories).items
+  unfolding world_after
   is_after world e =
       let there : world ≡ world_after g f =
       e ∙ ap (λ w. apply_all w x.signals 0 x.intents.items) is.world ∙ ap (λ on. apply_all (world_after g (f - 1)) on 0 x.intents.items) is.signals
@@ -133,5 +142,9 @@ module _ (g : Game) (f : ℕ) (x : Gathered) (is : IsGathered g f x) where
 
 -- ---- bands
 
+pub height_stays : (g : Game) (f : ℕ) → (world_after g f).height ≡ g.world.height
+unfolding world_after
+height_stays g f = (play_ground g f).height
+
 pub is_there : (g : Game) (f : ℕ) (world : Grid) (b : ℕ) → world ≡ world_after g f → b < bands_in g → b < band_count world.height
-is_there g f world b e h = let same : world.height ≡ g.world.height = ap (λ w. w.height) e ∙ (play_ground g f).height in subst (λ n. b < band_count n) (sym same) h
+is_there g f world b e h = let same : world.height ≡ g.world.height = ap (λ w. w.height) e ∙ height_stays g f in subst (λ n. b < band_count n) (sym same) h

@@ -1,6 +1,5 @@
 -- What stands in the parts of a frame: the game's values for their names.
-use Rattle.std.specs.Prelude.{ℕ, ◌≡◌, ◌<◌, ◌-◌, Bool, List, [], ◌++◌, Option, Some, map, length, slice_index_or}
-use Rattle.std.specs.declared.alloc.Global.{Global}
+use Rattle.std.specs.Prelude.{ℕ, ◌≡◌, ◌<◌, ◌-◌, Bool, List, [], Option, map, length, slice_index_or}
 use Rattle.grid_world.specs.Grid.{Grid}
 use Rattle.grid_world.specs.declared.cell.Answer.{Answer}
 use Rattle.grid_world.specs.declared.cell.Intent.{Intent}
@@ -12,9 +11,6 @@ use Rattle.game_rules.specs.View.{View}
 use Rattle.game_rules.specs.Thought.{Thought, ticked, thought, questions, ways, next_answer, last_of}
 use Rattle.game_rules.specs.Play.{play, thoughts}
 use Rattle.game_jobs.specs.Instance.{tree_of, view}
-use Rattle.bt_tick.specs.Suspended.{after}
-use Rattle.bt_tick.specs.Outcome.{means, place_of, tree_of as tree_of_tick}
-use Rattle.bt_tick.specs.declared.tick.Pending.{Pending}
 use Rattle.draw_list.specs.declared.band.Band.{Band}
 use Rattle.draw_list.specs.Bands.{band_count, band_of}
 use Rattle.frame_params.specs.Names.{PartOf}
@@ -24,10 +20,10 @@ use Rattle.frame_params.specs.Names.{PartOf}
 abbrev pub signals_in : Game → ℕ → List Bool
 signals_in g f = signals g.changes f
 
-abbrev pub world_after : Game → ℕ → Grid
+unfoldable pub world_after : Game → ℕ → Grid
 world_after g f = (play g f).world
 
-abbrev pub memories_after : Game → ℕ → List (List ℕ)
+unfoldable pub memories_after : Game → ℕ → List (List ℕ)
 memories_after g f = (play g f).memories
 
 -- the answers and the intents of all agents, by agent number
@@ -91,13 +87,3 @@ pub record IsAfter (g : Game) (f : ℕ) (world : Grid) (memories : List (List �
   pub memories_are : memories ≡ memories_after g f
   pub agents : length world.agents ≡ length g.trees
   pub all_fit : AllFit g.trees memories
-
--- a tick of agent a's tree in frame f that stands at question i: whatever answers come, it goes on as the tick does that
--- was given the ways to the places asked before
-pub record StandsAt (g : Game) (f a i : ℕ) (p : Pending Global Global) : Type 0 where
-  pub there : a < length g.trees
-  pub asks : i < questions_in g f a
-  pub place : place_in g f a i ≡ Some (place_of p)
-  pub tree : tree_of_tick p ≡ tree_of g a
-  pub places : List ℕ
-  pub goes_on : (more : List Answer) → ticked (seen g f a) (tree_of g a) (memory_before g f a) (ways_in g f a i ++ more) ≡ after places (means (seen g f a) p more)

@@ -45,6 +45,12 @@ frame_of g f = record { game = g; frame = f }
 abbrev pub part_of : Game → ℕ → ℕ → PartOf
 part_of g f n = record { game = g; frame = f; number = n }
 
+abbrev pub logic_of : Game → ℕ → Bool → LogicOf
+logic_of g f has_spread = record { game = g; frame = f; has_spread = has_spread }
+
+abbrev pub think_of : Game → ℕ → ℕ → ℕ → ThinkOf
+think_of g f a answered = record { game = g; frame = f; agent = a; answered = answered }
+
 abbrev pub question_of : Game → ℕ → ℕ → ℕ → QuestionOf
 question_of g f a i = record { game = g; frame = f; agent = a; question = i }
 

@@ -8,15 +8,34 @@ mod gathered;
 mod logic_step;
 mod logic_task;
 mod params;
+mod parked;
+mod path_task;
 mod slots;
+mod stand;
+mod step;
+mod task;
+#[cfg(test)]
+mod tests;
+mod think_step;
+mod think_task;
+#[cfg(test)]
+mod think_tests;
 mod thought;
 mod turn;
+mod way;
 
 pub use band_out::BandOut;
 pub use draw_task::DrawTask;
 pub use logic_step::LogicStep;
 pub use logic_task::LogicTask;
 pub use params::FrameParams;
+pub use parked::Parked;
+pub use path_task::PathTask;
 pub use slots::Slots;
+pub use step::Step;
+pub use task::Task;
+pub use think_step::ThinkStep;
+pub use think_task::ThinkTask;
 pub use thought::Thought;
 pub use turn::Turn;
+pub use way::Way;

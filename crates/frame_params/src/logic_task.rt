@@ -136,11 +136,10 @@ impl<'t> LogicTask<'t> {
     {
         match &self.gathered {
             None => Ok(LogicStep::Begins),
-            Some(gathered) => Ok(LogicStep::Turned(gathered.turn(
-                alloc,
-                self.session,
-                self.frame,
-            )?)),
+            Some(gathered) => {
+                let turn = gathered.turn(alloc, self.session, self.frame)?;
+                Ok(LogicStep::Turned(turn))
+            }
         }
     }
 }

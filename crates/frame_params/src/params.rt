@@ -52,6 +52,7 @@ fn zero_memories(alloc: Global, session: &Session) -> Result<Vec<Memory>, AllocE
 }
 
 impl<'t> FrameParams<'t> {
+    #[tactic(auto, unfolding(crate::specs::Contents::world_after, crate::specs::Contents::memories_after))]
     /// Those of frame 1: the session's world, and memories of zeros.
     pub fn first(alloc: Global, session: &'t Session) -> Result<FrameParams<'t>, AllocError>
         ensures { IfOk result (λ p. p ≡ record { game = session.now; frame = 1 }) }

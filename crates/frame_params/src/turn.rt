@@ -1,8 +1,9 @@
-ghost use Rattle.std.specs.Prelude.{◌≡◌};
-ghost use Rattle.frame_params.specs.Contents.{world_after, statuses_in};
+ghost use Rattle.std.specs.Prelude.{◌≡◌, length};
+ghost use Rattle.frame_params.specs.Contents.{world_after, statuses_in, bands_in};
 
 use bt_nodes::Status;
 use bt_tick::Memory;
+use draw_list::BAND_ROWS;
 use grid_world::World;
 use job_core::names::JobName;
 use level_text::Session;
@@ -52,14 +53,25 @@ impl<'t> Turn<'t> {
 
     /// The world after the frame.
     pub fn world(&self) -> &World
-        ensures { result.now ≡ world_after self.now.game self.now.frame }
+        ensures value { result.now ≡ world_after self.now.game self.now.frame }
+        ensures agents { length result.now.agents ≡ length self.now.game.trees }
     {
         &self.world
     }
 
+    #[tactic(auto, using(crate::proofs::Turning::height_stays))]
+    /// How many bands the frame has.
+    pub fn bands(&self) -> u32
+        ensures { result ≡ bands_in self.now.game }
+    {
+        self.world.height().div_ceil(BAND_ROWS)
+    }
+
+    #[tactic(auto, using(crate::proofs::Turning::as_many_statuses))]
     /// The answer of each agent's tick, by agent number.
     pub fn statuses(&self) -> &[Status]
-        ensures { result.now ≡ statuses_in self.now.game self.now.frame }
+        ensures value { result.now ≡ statuses_in self.now.game self.now.frame }
+        ensures agents { length result.now ≡ length self.now.game.trees }
     {
         &self.statuses
     }

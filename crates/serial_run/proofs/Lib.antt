@@ -1,6 +1,5 @@
 pub mod Parts
 pub mod Frames
 pub mod Crew
-pub mod CutTicks
 pub mod Turns
 pub mod BandList

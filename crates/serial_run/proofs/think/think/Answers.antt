@@ -3,7 +3,8 @@ use Rattle.std.specs.declared.alloc.Global.{Global}
 use Rattle.bt_nodes.specs.Trees.{plain_of}
 use Rattle.bt_tick.specs.Views.{view_of}
 use Rattle.bt_tick.specs.declared.tick.Outcome.{Outcome}
-use Rattle.serial_run.proofs.CutTicks.{Thinking, thinking_begun, thinking_resumed, thinking_ended, thinking_ends}
+use Rattle.bt_tick.specs.Thinking.{Thinking}
+use Rattle.bt_tick.proofs.CutTicks.{thinking_begun, thinking_resumed, thinking_ended, thinking_ends}
 use Rattle.serial_run.proofs.think.think.Goals as goal
 
 pub questions-init : goal.questions-init

@@ -1,7 +1,7 @@
 use Rattle.std.proofs.Common.{◌≡◌}
 use Rattle.bt_nodes.specs.Trees.{plain_of}
 use Rattle.bt_tick.specs.Views.{view_of}
-use Rattle.serial_run.proofs.CutTicks.{Thinking}
+use Rattle.bt_tick.specs.Thinking.{Thinking}
 use Rattle.serial_run.proofs.think.think.Given as goal
 
 abbrev pub invariant-questions : goal.invariant-questions

@@ -1,0 +1,106 @@
+-- Thoughts that are cut at their questions.
+use Rattle.std.proofs.Common.{◌≡◌, ◌<◌, ℕ, zero, suc, [], ◌+◌, ◌-◌, Bool, List, length, sym, ap, ◌∙◌, subst, arith}
+use Rattle.std.specs.Prelude.{slice_index_or}
+use Rattle.std.specs.declared.alloc.Global.{Global}
+use Rattle.grid_world.specs.Grid.{Grid}
+use Rattle.grid_world.specs.Way.{way}
+use Rattle.grid_world.specs.declared.cell.Answer.{Answer}
+use Rattle.grid_world.specs.declared.cell.Intent.{Intent}
+use Rattle.bt_nodes.specs.declared.node.Status.{Status}
+use Rattle.bt_nodes.specs.Plain.{Plain}
+use Rattle.bt_nodes.specs.Sizes.{size}
+use Rattle.game_rules.specs.Game.{Game, signals}
+use Rattle.game_rules.specs.Play.{play}
+use Rattle.game_rules.specs.View.{cell_of}
+use Rattle.game_rules.specs.Thought.{questions, way_to_last}
+use Rattle.game_rules.proofs.Ways.{few}
+use Rattle.game_jobs.specs.Instance.{tree_of, view, asked_in}
+use Rattle.bt_tick.specs.Outcome.{place_of}
+use Rattle.bt_tick.specs.Thinking.{Thinking}
+use Rattle.bt_tick.specs.declared.tick.Pending.{Pending}
+use Rattle.bt_tick.specs.declared.tick.Outcome.{Outcome}
+use Rattle.bt_tick.specs.declared.tick.Outcome.TheVariants.{Ended, Asks}
+use Rattle.bt_tick.proofs.CutTicks.{asks_now, still_asks, ended_asks, thinking_ended}
+use Rattle.frame_params.specs.Contents.{world_after, memories_after, signals_in, IsAfter, seen, memory_before, thought_in, questions_in, ways_in, place_in, way_in}
+use Rattle.frame_params.specs.Thinks.{Sees, ThinksTo, StandsAt, AsksFor, IsWayOf, GoesOn}
+
+-- what an agent sees
+pub sees_is : (g : Game) (f a : ℕ) (world : Grid) (on : List Bool) → Sees g f a world on → view on world a ≡ seen g f a
+unfolding seen
+sees_is g f a world on s = ap (λ w. view on w a) s.world_is ∙ ap (λ l. view l (world_after g (f - 1)) a) s.signals_are
+
+-- a tick that stands asks for its place
+pub asks_for : (g : Game) (f a i : ℕ) (p : Pending Global Global) → StandsAt g f a i p → AsksFor g f a i (place_of p)
+unfolding questions_in place_in ways_in
+asks_for g f a i p s = record {
+  asks = still_asks (seen g f a) (tree_of g a) (memory_before g f a) i (place_of p) p s.thinks;
+  place_is = (asks_now (seen g f a) (tree_of g a) (memory_before g f a) i (place_of p) p s.thinks).1;
+}
+
+-- the way of a question is the way to its place
+pub way_for : (g : Game) (f a i place : ℕ) → AsksFor g f a i place → way_in g f a i ≡ way (seen g f a).world (seen g f a).signals (cell_of (seen g f a)) place
+unfolding way_in place_in ways_in
+way_for g f a i place asks = ap (way_to_last (seen g f a)) asks.place_is
+
+-- a tick asks at most as often as its tree has nodes
+pub few_asked : (g : Game) (f a i : ℕ) (p : Pending Global Global) → StandsAt g f a i p → i < size (tree_of g a)
+unfolding questions_in
+few_asked g f a i p s = let asks = (asks_for g f a i p s).asks in let most = few (seen g f a) (tree_of g a) (memory_before g f a) in omega (arith, asks, most)
+
+module _ (g : Game) (f a i : ℕ) where
+  pub ended_all : (st : Status) (memory : List ℕ) (intent : Intent) → ThinksTo g f a i (Ended st memory intent) → i ≡ questions_in g f a
+  unfolding questions_in
+  ended_all st memory intent t = ended_asks (seen g f a) (tree_of g a) (memory_before g f a) i st memory intent t
+
+  pub still_asked : (place : ℕ) (p : Pending Global Global) → ThinksTo g f a i (Asks place p) → i < questions_in g f a
+  unfolding questions_in
+  still_asked place p t = still_asks (seen g f a) (tree_of g a) (memory_before g f a) i place p t
+
+  pub ended_thought : (st : Status) (memory : List ℕ) (intent : Intent) → ThinksTo g f a i (Ended st memory intent)
+      → record { status = st; memory = memory; intent = intent } ≡ thought_in g f a
+  unfolding thought_in
+  ended_thought st memory intent t = thinking_ended (seen g f a) (tree_of g a) (memory_before g f a) i st memory intent t
+
+-- the job core's number of questions
+pub asked_is : (g : Game) (f a : ℕ) → 0 < f → questions_in g f a ≡ asked_in g f a
+unfolding questions_in seen memory_before world_after memories_after
+asked_is g zero a h = absurd (omega arith)
+asked_is g (suc f) a h =
+    let n : suc f - 1 ≡ f = omega arith in
+    ap (λ k. questions (view (signals g.changes (suc f)) (play g k).world a) (tree_of g a) (slice_index_or (play g k).memories a [])) n
+
+-- ---- what tasks keep
+
+pub sees_of : (g h : Game) (f k a : ℕ) (world : Grid) (memories : List (List ℕ)) (on : List Bool) → g ≡ h → f ≡ k → a < length g.trees → on ≡ signals_in h k
+    → IsAfter h (k - 1) world memories → Sees g f a world on
+sees_of g h f k a world memories on game frame there signals_are before = record {
+  there = there;
+  agents = before.agents ∙ ap (λ x. length x.trees) (sym game);
+  world_is = before.world_is ∙ ap (λ x. world_after x (k - 1)) (sym game) ∙ ap (λ n. world_after g (n - 1)) (sym frame);
+  signals_are = signals_are ∙ ap (λ x. signals_in x k) (sym game) ∙ ap (signals_in g) (sym frame);
+}
+
+module _ (g : Game) (f a : ℕ) (world : Grid) (on : List Bool) (sees : Sees g f a world on) where
+  pub way_answers : (i place : ℕ) (x : Answer) → AsksFor g f a i place → x ≡ way world on (cell_of (view on world a)) place → IsWayOf g f a i x
+  way_answers i place x asks is = record {
+    asks = asks.asks;
+    way_is = is ∙ ap (λ v. way v.world v.signals (cell_of v) place) (sees_is g f a world on sees) ∙ sym (way_for g f a i place asks);
+  }
+
+  pub way_seen : (i : ℕ) (p : Pending Global Global) (x : Answer) → GoesOn g f a i p x → x ≡ way world on (cell_of (view on world a)) (place_of p)
+  way_seen i p x on_with =
+      on_with.way.way_is ∙ way_for g f a i (place_of p) (asks_for g f a i p on_with.stands)
+      ∙ ap (λ v. way v.world v.signals (cell_of v) (place_of p)) (sym (sees_is g f a world on sees))
+
+  pub starts : (memory : List ℕ) (o : Outcome Global Global) → memory ≡ memory_before g f a → Thinking (view on world a) (tree_of g a) memory 0 o → ThinksTo g f a 0 o
+  starts memory o e t =
+      subst (λ v. Thinking v (tree_of g a) (memory_before g f a) 0 o) (sees_is g f a world on sees)
+      (subst (λ m. Thinking (view on world a) (tree_of g a) m 0 o) e t)
+
+  pub goes_on : (i : ℕ) (p : Pending Global Global) (x : Answer) (o : Outcome Global Global) → GoesOn g f a i p x
+      → ((tree : Plain) (memory : List ℕ) (n : ℕ) → Thinking (view on world a) tree memory n (Asks (place_of p) p) → Thinking (view on world a) tree memory (n + 1) o)
+      → ThinksTo g f a (i + 1) o
+  goes_on i p x o on_with h =
+      subst (λ v. Thinking v (tree_of g a) (memory_before g f a) (i + 1) o) (sees_is g f a world on sees)
+      (h (tree_of g a) (memory_before g f a) i
+      (subst (λ v. Thinking v (tree_of g a) (memory_before g f a) i (Asks (place_of p) p)) (sym (sees_is g f a world on sees)) on_with.stands.thinks))

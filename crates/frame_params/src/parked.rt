@@ -1,0 +1,61 @@
+ghost use Rattle.std.specs.Prelude.{◌≡◌, ◌<◌};
+ghost use Rattle.frame_params.specs.Contents.{questions_in};
+
+use bt_tick::Pending;
+use job_core::names::JobName;
+use level_text::Session;
+use std::alloc::Global;
+use std::marker::Model;
+use std::sync::Arc;
+
+/// An agent's tick in a frame that stands at one of its path questions.
+#[derive(Drop)]
+pub struct Parked<'t> {
+    pub(crate) session: &'t Session,
+    pub(crate) frame: u32,
+    pub(crate) agent: u32,
+    pub(crate) question: u32,
+    // Shared with the task that goes on with it.
+    pub(crate) pending: Arc<Pending<'t, Global, Global>>,
+}
+
+impl<'t> Model for Parked<'t> {
+    ghost use Rattle.std.specs.Arc.{arc_value};
+    ghost use Rattle.frame_params.specs.Names.{QuestionOf, question_code};
+
+    ghost Value = { QuestionOf };
+
+    ghost coded = { question_code };
+
+    ghost use Rattle.frame_params.specs.Thinks.{StandsAt};
+
+    ghost view = { λ p. record { game = p.session.now; frame = p.frame; agent = p.agent; question = p.question } };
+
+    ghost invariant = { λ p. StandsAt p.session.now p.frame p.agent p.question (arc_value p.pending) };
+}
+
+impl<'t> Parked<'t> {
+    pub fn session(&self) -> &'t Session
+        ensures { result.now ≡ self.now.game }
+    {
+        self.session
+    }
+
+    /// The job that asks.
+    pub fn name(&self) -> JobName
+        ensures { result ≡ JobName.Think self.now.frame self.now.agent }
+    {
+        JobName::Think {
+            frame: self.frame,
+            agent: self.agent,
+        }
+    }
+
+    /// Which of its questions it stands at, counted from 0.
+    pub fn index(&self) -> u32
+        ensures value { result ≡ self.now.question }
+        ensures asks { result < questions_in self.now.game self.now.frame self.now.agent }
+    {
+        self.question
+    }
+}

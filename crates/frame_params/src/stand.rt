@@ -1,0 +1,18 @@
+use bt_tick::{Memory, Pending};
+use grid_world::Answer;
+use std::alloc::Global;
+use std::sync::Arc;
+
+// Where a tick stands that is to go on: at its start, with the memories of all agents, or at a question that has its
+// answer. Memories and ticks are shared with what they come from.
+#[derive(Drop)]
+pub(crate) enum Stand<'t> {
+    Start {
+        memories: Arc<Vec<Memory>>,
+    },
+    Answered {
+        question: u32,
+        pending: Arc<Pending<'t, Global, Global>>,
+        answer: Answer,
+    },
+}

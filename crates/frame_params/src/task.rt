@@ -1,0 +1,58 @@
+ghost use Rattle.std.specs.Prelude.{◌≡◌, IfOk, IsOk};
+ghost use Rattle.frame_params.specs.Tasks.{game_of, job_of, IsStepOf, IsBeginning};
+
+use crate::draw_task::DrawTask;
+use crate::logic_task::LogicTask;
+use crate::path_task::PathTask;
+use crate::step::Step;
+use crate::think_task::ThinkTask;
+use job_core::names::JobName;
+use level_text::Session;
+use std::alloc::{AllocError, Global};
+
+/// The work that a job stands at.
+#[derive(Drop)]
+pub enum Task<'t> {
+    Logic(LogicTask<'t>),
+    Think(ThinkTask<'t>),
+    Path(PathTask<'t>),
+    Draw(DrawTask<'t>),
+}
+
+impl<'t> Task<'t> {
+    pub fn session(&self) -> &'t Session
+        ensures { result.now ≡ game_of self.now }
+    {
+        match self {
+            Task::Logic(task) => task.session(),
+            Task::Think(task) => task.session(),
+            Task::Path(task) => task.session(),
+            Task::Draw(task) => task.session(),
+        }
+    }
+
+    /// The job whose task it is.
+    pub fn name(&self) -> JobName
+        ensures { result ≡ job_of self.now }
+    {
+        match self {
+            Task::Logic(task) => task.name(),
+            Task::Think(task) => task.name(),
+            Task::Path(task) => task.name(),
+            Task::Draw(task) => task.name(),
+        }
+    }
+
+    /// Does the work. The only fault is want of memory; the task is as it was, and may be worked again.
+    pub fn work(&self, alloc: Global) -> Result<Step<'t>, AllocError>
+        ensures step { IfOk result (λ step. IsStepOf self.now step) }
+        ensures begins { IsBeginning self.now → IsOk result }
+    {
+        match self {
+            Task::Logic(task) => Ok(Step::Logic(task.work(alloc)?)),
+            Task::Think(task) => Ok(Step::Think(task.work(alloc)?)),
+            Task::Path(task) => Ok(Step::Path(task.work(alloc)?)),
+            Task::Draw(task) => Ok(Step::Draw(task.work(alloc)?)),
+        }
+    }
+}

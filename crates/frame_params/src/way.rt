@@ -1,0 +1,56 @@
+ghost use Rattle.std.specs.Prelude.{◌≡◌};
+ghost use Rattle.frame_params.specs.Contents.{way_in};
+
+use grid_world::Answer;
+use job_core::names::JobName;
+use level_text::Session;
+use std::marker::Model;
+
+/// The answer to a path question of an agent in a frame.
+#[derive(Drop)]
+pub struct Way<'t> {
+    pub(crate) session: &'t Session,
+    pub(crate) frame: u32,
+    pub(crate) agent: u32,
+    pub(crate) question: u32,
+    pub(crate) answer: Answer,
+}
+
+impl<'t> Model for Way<'t> {
+    ghost use Rattle.frame_params.specs.Names.{QuestionOf, question_code};
+
+    ghost Value = { QuestionOf };
+
+    ghost coded = { question_code };
+
+    ghost use Rattle.frame_params.specs.Thinks.{IsWayOf};
+
+    ghost view = { λ w. record { game = w.session.now; frame = w.frame; agent = w.agent; question = w.question } };
+
+    ghost invariant = { λ w. IsWayOf w.session.now w.frame w.agent w.question w.answer };
+}
+
+impl<'t> Way<'t> {
+    pub fn session(&self) -> &'t Session
+        ensures { result.now ≡ self.now.game }
+    {
+        self.session
+    }
+
+    pub fn name(&self) -> JobName
+        ensures { result ≡ JobName.Path self.now.frame self.now.agent self.now.question }
+    {
+        JobName::Path {
+            frame: self.frame,
+            agent: self.agent,
+            question: self.question,
+        }
+    }
+
+    // The first step of the way, or why there is none.
+    pub(crate) fn answer(&self) -> Answer
+        ensures { result ≡ way_in self.now.game self.now.frame self.now.agent self.now.question }
+    {
+        self.answer
+    }
+}
