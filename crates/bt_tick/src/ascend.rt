@@ -18,6 +18,7 @@ use std::alloc::Allocator;
 impl<'t, T: Allocator, A: Allocator> Machine<'t, T, A> {
     // Leaves the innermost open node before its children from the next one on are ticked. Only these are walked over,
     // for the number of the node that follows.
+    #[inline(always)]
     fn stop(
         &mut self,
         frame: Frame<'t, T>,
@@ -39,6 +40,7 @@ impl<'t, T: Allocator, A: Allocator> Machine<'t, T, A> {
     }
 
     // Hands a status to the innermost open node, whose next child has the number `at`.
+    #[inline(always)]
     pub(crate) fn ascend(&mut self, frame: Frame<'t, T>, status: Status, at: u64) -> Mode<'t, T>
         requires some { 0 < length self.old.stack }
         requires stands { Standing (bounds_of self.old)

@@ -30,6 +30,7 @@ fn status_of(holds: bool) -> Status
 
 impl<'t, T: Allocator, A: Allocator + Clone> Machine<'t, T, A> {
     // Adds a want to those of the tick.
+    #[inline(always)]
     pub(crate) fn want(&mut self, intent: Intent) -> Result<(), AllocError>
         ensures wants { IfOk result (λ _. self.new.wants.items ≡ self.old.wants.items ++ intent ∷ []) }
         ensures stack { self.new.stack ≡ self.old.stack }
@@ -41,6 +42,7 @@ impl<'t, T: Allocator, A: Allocator + Clone> Machine<'t, T, A> {
     }
 
     // Ticks a node other than a `Move`: opens it and begins a child, or takes its status at once.
+    #[inline(always)]
     pub(crate) fn descend(
         &mut self,
         view: &View,

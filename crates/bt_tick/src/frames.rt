@@ -1,4 +1,5 @@
-// How a machine opens, goes on with and leaves nodes.
+// How a machine opens, goes on with and leaves nodes. All steps of a machine are inlined into its run, since a call would
+// copy the frame that it takes.
 
 ghost use Rattle.std.specs.Prelude.{◌≡◌, ◌<◌, ◌≤◌, ◌+◌, ◌-◌, ◌*◌, ◌^◌, ◌∷◌, List, length, drop, IfOk};
 ghost use Rattle.bt_nodes.specs.Plain.{plain, plains};
@@ -16,6 +17,7 @@ use std::alloc::{AllocError, Allocator};
 
 impl<'t, T: Allocator, A: Allocator + Clone> Machine<'t, T, A> {
     // Opens a node.
+    #[inline(always)]
     pub(crate) fn open(&mut self, frame: Frame<'t, T>) -> Result<(), AllocError>
         requires room { length self.old.stack < 2 ^ 32 - 1 }
         ensures stack { IfOk result (λ _. self.new.stack ≡ frame.entry ∷ self.old.stack) }
@@ -45,6 +47,7 @@ fn par_status(least: u64, count: u64, successes: u64, failures: u64) -> Status
 
 impl<'t, T: Allocator, A: Allocator> Machine<'t, T, A> {
     // Leaves the innermost open node, which gives this status. The number is the one after its last node.
+    #[inline(always)]
     pub(crate) fn leave(&mut self, status: Status, at: u64) -> Mode<'t, T>
         ensures mode { result ≡ Mode.Up status at }
         ensures stack { self.new.stack ≡ drop 1 self.old.stack }
@@ -57,6 +60,7 @@ impl<'t, T: Allocator, A: Allocator> Machine<'t, T, A> {
     }
 
     // Begins the next child of the innermost open node.
+    #[inline(always)]
     fn enter(&mut self, frame: Frame<'t, T>, children: &'t [Node<T>], at: u64) -> Mode<'t, T>
         requires some { 0 < length self.old.stack }
         requires rests { Resting (bounds_of self.old) at (opened frame) (opens (drop 1 self.old.stack)) }
@@ -80,6 +84,7 @@ impl<'t, T: Allocator, A: Allocator> Machine<'t, T, A> {
 
     // Goes on with the innermost open node, none of whose children is being ticked: begins the child with the number
     // `at`, or leaves the node where no child is left.
+    #[inline(always)]
     pub(crate) fn advance(&mut self, frame: Frame<'t, T>, at: u64) -> Mode<'t, T>
         requires some { 0 < length self.old.stack }
         requires rests { Resting (bounds_of self.old) at (opened frame) (opens (drop 1 self.old.stack)) }

@@ -19,6 +19,7 @@ use std::alloc::{AllocError, Allocator};
 
 impl<'t, T: Allocator, A: Allocator + Clone> Machine<'t, T, A> {
     // Opens a node that lists children, and begins the one that the frame names next, which has the number `at`.
+    #[inline(always)]
     pub(crate) fn open_list(
         &mut self,
         frame: Frame<'t, T>,
@@ -69,6 +70,7 @@ impl<'t, T: Allocator, A: Allocator + Clone> Machine<'t, T, A> {
     }
 
     // Opens a node with one child, and begins it.
+    #[inline(always)]
     pub(crate) fn open_only(
         &mut self,
         frame: Frame<'t, T>,

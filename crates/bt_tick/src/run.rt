@@ -35,6 +35,7 @@ fn first_want(wants: &[Intent]) -> Intent
 
 impl<'t, T: Allocator, A: Allocator> Machine<'t, T, A> {
     // The innermost open node.
+    #[inline(always)]
     fn innermost(&self) -> Option<Frame<'t, T>>
         ensures { MatchOption result (self.now.stack ≡ []) (λ frame. self.now.stack ≡ frame ∷ drop 1 self.now.stack) }
     {

@@ -35,6 +35,7 @@ impl<F: Copy, A: Allocator> Drop for Link<F, A> {
 
 impl<F: Copy, A: Allocator> Link<F, A> {
     /// The first element and those below it.
+    #[inline(always)]
     pub(crate) fn split(self) -> Option<(F, Link<F, A>)>
         ensures { MatchOption result (elements self ≡ []) (λ parts. elements self ≡ parts.0 ∷ elements parts.1) }
     {

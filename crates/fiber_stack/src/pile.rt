@@ -46,6 +46,7 @@ impl<F: Copy, A: Allocator> Pile<F, A> {
     }
 
     /// The value on the top.
+    #[inline(always)]
     pub fn top(&self) -> Option<&F>
         ensures { MatchOption result (self.now ≡ []) (λ top. (below : List F) × (self.now ≡ top.now ∷ below)) }
     {
@@ -56,6 +57,7 @@ impl<F: Copy, A: Allocator> Pile<F, A> {
     }
 
     /// Takes the value on the top off.
+    #[inline(always)]
     pub fn pop(&mut self) -> Option<F>
         ensures { MatchOption result ((self.old ≡ []) × (self.new ≡ [])) (λ top. self.old ≡ top ∷ self.new) }
     {
@@ -70,6 +72,7 @@ impl<F: Copy, A: Allocator> Pile<F, A> {
     }
 
     /// Puts a value in place of the one on the top, and hands that one out.
+    #[inline(always)]
     pub fn replace_top(&mut self, element: F) -> Option<F>
         ensures { MatchOption result ((self.old ≡ []) × (self.new ≡ []))
             (λ top. (below : List F) × (self.old ≡ top ∷ below) × (self.new ≡ element ∷ below)) }
