@@ -18,8 +18,6 @@ mod task;
 mod tests;
 mod think_step;
 mod think_task;
-#[cfg(test)]
-mod think_tests;
 mod thought;
 mod turn;
 mod way;
