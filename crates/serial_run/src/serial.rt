@@ -5,6 +5,7 @@ ghost use Rattle.game_rules.specs.Game.{signals};
 ghost use Rattle.game_rules.specs.Play.{turn, thoughts};
 ghost use Rattle.game_rules.specs.Text.{text, texts};
 ghost use Rattle.serial_run.specs.Streams.{AppendsPart};
+ghost use Rattle.serial_run.specs.declared.serial.SerialFault.TheVariants.{OutOfMemory};
 ghost use Rattle.serial_run.specs.Thoughts.{AllFit};
 
 use crate::drawing::draw_frame;
@@ -27,6 +28,8 @@ pub enum SerialFault {
 }
 
 impl From<AllocError> for SerialFault {
+    ghost from_gives = { λ _ fault. fault ≡ OutOfMemory };
+
     fn from(_: AllocError) -> SerialFault {
         SerialFault::OutOfMemory
     }
