@@ -46,3 +46,7 @@ IsThere s st k (Finish w (Path f a i)) = IsAsked k f a i false
 IsThere s st k (Finish w (Draw f b)) = HasTurn s k f (IsMissing b)
 IsThere s st k (Emit f) = IsInSlot s k f × (slice_get k.drawn (f % s.slots) ≡ Some (turned f (parts f s.bands)))
 IsThere s st k _ = Unit {0}
+
+-- the slots, an entry for each agent, and a place for each slot's frame
+abbrev pub HasPlaces : Setup → Stored → Type 0
+HasPlaces s k = (length k.slots ≡ s.slots) × (length k.asking ≡ s.agents) × (length k.drawn ≡ s.slots)
