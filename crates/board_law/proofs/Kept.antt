@@ -1,15 +1,14 @@
 -- What is stored beside the phases of a state.
-use Rattle.std.proofs.Common.{◌≡◌, ◌≤◌, ◌<◌, ℕ, zero, suc, ◌+◌, ◌-◌, ◌%◌, Bool, true, false, ◌&&◌, nat_lt, List, Option, Some, None, length, slice_get, if◌then◌else◌, refl, sym, ap, ap₂, ◌∙◌, subst, ⊎_elim, arith}
+use Rattle.std.proofs.Common.{◌≡◌, ◌<◌, ℕ, zero, suc, ◌%◌, Bool, true, false, ◌&&◌, nat_lt, List, Option, Some, None, length, slice_get, refl, sym, ap, ap₂, ◌∙◌, ⊎_elim, arith}
 use Rattle.std.proofs.lemmas.Bool.{cases_lt}
-use Rattle.job_core.specs.declared.names.JobName.{JobName}
 use Rattle.job_core.specs.declared.names.JobName.TheVariants.{Logic, Think, Path, Draw}
 use Rattle.job_core.specs.Core.{Setup, IsJob, Phase, Absent, Queued, Runs, Waits, Finished, State, Shown}
 use Rattle.job_core.proofs.ByCases.{by_lt}
-use Rattle.job_core.proofs.Shape.{Shape, there, logic_next, asked, ThinkFits, PathFits, DrawFits}
+use Rattle.job_core.proofs.Shape.{Shape, there, logic_next, ThinkFits, PathFits, DrawFits}
 use Rattle.job_core.proofs.Once.{ended}
 use Rattle.board_law.specs.Lists.{bit, at}
 use Rattle.board_law.specs.Law.{has_spread, number, SlotsFit}
-use Rattle.board_law.specs.Stored.{Part, Asked, Drawn, Stored, nothing, turned}
+use Rattle.board_law.specs.Stored.{Part, Drawn, Stored, nothing, turned}
 use Rattle.board_law.specs.Needed.{IsInSlot, IsAsked}
 use Rattle.board_law.proofs.Kit.{at_some}
 use Rattle.board_law.proofs.Places.{get_at}

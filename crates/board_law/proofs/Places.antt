@@ -1,5 +1,5 @@
 -- Entries of lists: what stands at a place, where one is written, and where none was.
-use Rattle.std.proofs.Common.{◌≡◌, ◌<◌, ℕ, zero, suc, List, [], ◌∷◌, Option, Some, None, length, replicate, slice_get, slice_set, refl, sym, ap, ◌∙◌, arith}
+use Rattle.std.proofs.Common.{◌≡◌, ◌<◌, ℕ, zero, suc, List, [], ◌∷◌, Option, Some, length, replicate, slice_get, slice_set, refl, sym, ap, ◌∙◌, arith}
 use Rattle.board_law.specs.Lists.{at}
 use Rattle.board_law.proofs.Kit.{length_write, at_here, at_other}
 use Rattle.board_law.proofs.Bridges.{write_is}

@@ -1,19 +1,17 @@
 -- What is stored of frames that aren't shown yet, where a Logic or a Draw ends, and where a frame is shown.
-use Rattle.std.proofs.Common.{◌≡◌, ◌≤◌, ◌<◌, ℕ, zero, suc, ◌%◌, Bool, true, false, ◌&&◌, nat_lt, ◌==◌, [], Option, Some, None, length, slice_get, slice_set, if◌then◌else◌, refl, sym, ap, ap₂, ◌∙◌, subst, ⊎_elim, arith}
+use Rattle.std.proofs.Common.{◌≡◌, ◌<◌, ℕ, suc, ◌%◌, ◌&&◌, nat_lt, ◌==◌, [], Some, None, slice_get, slice_set, if◌then◌else◌, refl, sym, ap, ap₂, ◌∙◌, subst, ⊎_elim, arith}
 use Rattle.std.specs.Option.{unwrap_or}
 use Rattle.std.proofs.lemmas.Bool.{cases_eq}
-use Rattle.job_core.specs.declared.names.JobName.{JobName}
-use Rattle.job_core.specs.declared.names.JobName.TheVariants.{Logic, Think, Path, Draw}
-use Rattle.job_core.specs.declared.names.Event.{Event}
+use Rattle.job_core.specs.declared.names.JobName.TheVariants.{Logic, Draw}
 use Rattle.job_core.specs.declared.names.Event.TheVariants.{Finish, Emit}
-use Rattle.job_core.specs.Core.{Setup, IsJob, Phase, Absent, Queued, Runs, Waits, Finished, State, Shown, May, put, queue, follows, after}
-use Rattle.job_core.proofs.ByCases.{by_eq, by_eq2, by_eq_lt, agent_of, frame_of}
+use Rattle.job_core.specs.Core.{Setup, IsJob, Queued, Runs, Finished, State, May, put, queue, follows, after}
+use Rattle.job_core.proofs.ByCases.{by_eq, by_eq_lt, agent_of, frame_of}
 use Rattle.job_core.proofs.Shape.{Shape, there, logic_next}
 use Rattle.job_core.proofs.Moves.{put_here, put_other}
 use Rattle.job_core.proofs.Once.{ended, still_other}
 use Rattle.board_law.specs.Lists.{at}
 use Rattle.board_law.specs.Law.{number, SlotsFit}
-use Rattle.board_law.specs.Stored.{Part, Stored, Drawn, part, nothing, turned, put_in, with_band, store}
+use Rattle.board_law.specs.Stored.{Stored, Drawn, part, nothing, turned, with_band, store}
 use Rattle.board_law.proofs.Places.{length_set, get_here, get_other, at_set, at_set_other}
 use Rattle.board_law.proofs.InOrder.{among_none, among_more}
 use Rattle.board_law.proofs.Kept.{Kept, IsBefore, IsOpen, thoughts_in, bands_in, drawn_once, drawn_in, before_next, open_next, logic_of_draw, unshown_of_draw, open_shown, done_shown, drawn_same}

@@ -1,5 +1,5 @@
 -- What each legal event needs is stored, by induction on the log.
-use Rattle.std.proofs.Common.{◌≡◌, ◌≤◌, ◌<◌, ℕ, zero, suc, ◌-◌, ◌%◌, ◌&&◌, nat_lt, ◌∷◌, ◌++◌, List, [], Option, Some, None, length, replicate, slice_get, slice_set, if◌then◌else◌, refl, sym, ap, ap₂, ◌∙◌, subst, ⊎_elim, arith}
+use Rattle.std.proofs.Common.{◌≡◌, ◌<◌, ℕ, zero, suc, ◌-◌, ◌%◌, ◌∷◌, ◌++◌, List, [], Some, None, replicate, slice_get, slice_set, if◌then◌else◌, refl, sym, ap, ◌∙◌, subst, ⊎_elim, arith}
 use Rattle.std.proofs.lemmas.Bool.{cases_lt}
 use Rattle.std.proofs.Math.Nat.{mod-lt}
 use Rattle.std.specs.Option.{IsSomeAnd}
@@ -7,7 +7,7 @@ use Rattle.job_core.specs.declared.names.JobName.{JobName}
 use Rattle.job_core.specs.declared.names.JobName.TheVariants.{Logic, Think, Path, Draw}
 use Rattle.job_core.specs.declared.names.Event.{Event}
 use Rattle.job_core.specs.declared.names.Event.TheVariants.{Start, Resume, Ask, Spread, Hold, Finish, Emit, Stop}
-use Rattle.job_core.specs.Core.{Setup, IsJob, Phase, Absent, Queued, Runs, Waits, Finished, State, Draws, Thinks, Way, left, unfinished, awaited, Shown, May, IsLegal, step_of, after, after_all, opening, state, IsLegalFrom, IsLegalList}
+use Rattle.job_core.specs.Core.{Setup, IsJob, Phase, Absent, Queued, Runs, Waits, Finished, State, left, unfinished, awaited, May, IsLegal, step_of, after, after_all, opening, state, IsLegalFrom, IsLegalList}
 use Rattle.job_core.proofs.ByCases.{by_eq_lt}
 use Rattle.job_core.proofs.Sums.{total_all_zero}
 use Rattle.job_core.proofs.Shape.{Shape, keeps, opens, there, asked, zero_finished, ThinkFits, PathFits, DrawFits}
@@ -15,7 +15,7 @@ use Rattle.job_core.proofs.Once.{ended}
 use Rattle.board_law.specs.Lists.{at}
 use Rattle.board_law.specs.Board.{Core, core_after, core_opening}
 use Rattle.board_law.specs.Law.{number, SlotsFit, Fits}
-use Rattle.board_law.specs.Stored.{Part, Stored, Drawn, parts, asked as question, nothing, turned, store, stored_first, stored_from, stored_after}
+use Rattle.board_law.specs.Stored.{Part, Stored, nothing, turned, store, stored_first, stored_from, stored_after}
 use Rattle.board_law.specs.Needed.{IsInSlot, IsAsked, IsMissing, HasTurn, HasParts, HasPlaces, IsThere}
 use Rattle.board_law.proofs.Bridges.{write_is}
 use Rattle.board_law.proofs.Fit.{step_fits}
@@ -118,9 +118,10 @@ module _ (s : Setup) (st : State) (inv : Shape s st) (k : Stored) (g : Kept s k 
       let q : st.phase (Draw f b) ≡ Runs w m.0 = m.1 in
       has_turn f (IsMissing b) (logic_of_draw s st inv f b (λ y. cc)) (unshown_of_draw s st inv f b (λ y. cc) (λ y. cc)) (among_missing f s.bands b (λ c. ended (st.phase (Draw f c))) (ap ended q))
   event_there (Emit f) m free =
-      let l : st.emitted < f = let e : f ≡ suc st.emitted = m.0 in omega arith in
-      (in_slot s st inv k fit f (done_shown s st inv f m.2 l),
-      drawn_of f m.2 l ∙ ap (λ x. Some (turned f x)) (among_all f s.bands (λ b. ended (st.phase (Draw f b))) (λ b o. ap ended (zero_finished (st.phase (Draw f b)) (total_all_zero s.bands (λ b. unfinished (st.phase (Draw f b))) m.3 b o)))))
+      let l : st.emitted < f = let e : f ≡ suc st.emitted = m.0 in omega arith in (
+        in_slot s st inv k fit f (done_shown s st inv f m.2 l),
+        drawn_of f m.2 l ∙ ap (λ x. Some (turned f x)) (among_all f s.bands (λ b. ended (st.phase (Draw f b))) (λ b o. ap ended (zero_finished (st.phase (Draw f b)) (total_all_zero s.bands (λ b. unfinished (st.phase (Draw f b))) m.3 b o)))),
+      )
   event_there Stop m free = tt
   event_there (Spread w (Think f a)) m free = absurd m
   event_there (Spread w (Path f a i)) m free = absurd m

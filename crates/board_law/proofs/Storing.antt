@@ -1,23 +1,20 @@
 -- Each event keeps what is stored beside the phases.
-use Rattle.std.proofs.Common.{◌≡◌, ◌≤◌, ◌<◌, ℕ, zero, suc, ◌%◌, Bool, true, false, ◌&&◌, nat_lt, ◌==◌, [], Option, Some, None, length, slice_get, slice_set, if◌then◌else◌, refl, sym, ap, ap₂, ◌∙◌, subst, ⊎_elim, arith}
-use Rattle.std.specs.Option.{unwrap_or}
+use Rattle.std.proofs.Common.{◌≡◌, ◌<◌, ℕ, zero, suc, ◌%◌, Bool, true, false, [], Some, None, length, slice_get, slice_set, if◌then◌else◌, refl, sym, ap, ap₂, ◌∙◌, subst, ⊎_elim, arith}
 use Rattle.std.proofs.lemmas.Bool.{cases_eq}
 use Rattle.job_core.specs.declared.names.JobName.{JobName}
 use Rattle.job_core.specs.declared.names.JobName.TheVariants.{Logic, Think, Path, Draw}
-use Rattle.job_core.specs.declared.names.Event.{Event}
-use Rattle.job_core.specs.declared.names.Event.TheVariants.{Start, Resume, Ask, Spread, Hold, Finish, Emit, Stop}
-use Rattle.job_core.specs.Core.{Setup, IsJob, Phase, Absent, Queued, Runs, Waits, Finished, State, Shown, May, step_of, put, queue, follows, ask, after}
-use Rattle.job_core.proofs.ByCases.{by_eq, by_eq2, by_eq_lt, by_same, agent_of, frame_of}
+use Rattle.job_core.specs.declared.names.Event.TheVariants.{Start, Resume, Ask, Spread, Hold, Finish, Stop}
+use Rattle.job_core.specs.Core.{Setup, IsJob, Phase, Absent, Queued, Runs, Waits, Finished, State, May, step_of, put, ask, after}
+use Rattle.job_core.proofs.ByCases.{by_eq, by_eq2, by_same, agent_of}
 use Rattle.job_core.proofs.Shape.{Shape, there, ThinkFits, PathFits}
 use Rattle.job_core.proofs.Moves.{IsSteady, others, put_here, put_other}
-use Rattle.job_core.proofs.Once.{ended, still, still_other}
+use Rattle.job_core.proofs.Once.{ended, still}
 use Rattle.board_law.specs.Lists.{at}
-use Rattle.board_law.specs.Law.{number, SlotsFit}
-use Rattle.board_law.specs.Stored.{Part, Stored, Drawn, part, asked, nothing, turned, put_in, with_band, store}
+use Rattle.board_law.specs.Stored.{Stored, part, asked, put_in, store}
 use Rattle.board_law.specs.Needed.{IsAsked}
 use Rattle.board_law.proofs.Places.{length_set, get_here, get_other, at_set, at_set_other}
-use Rattle.board_law.proofs.InOrder.{among, among_none, among_more}
-use Rattle.board_law.proofs.Kept.{Kept, IsBefore, IsOpen, is_over, thoughts_in, bands_in, drawn_once, drawn_in, before_next, open_next, open_of_wait, think_of_path, logic_of_draw, unshown_of_draw, open_shown, done_shown, open_of_think, thoughts_same, drawn_same}
+use Rattle.board_law.proofs.InOrder.{among_none, among_more}
+use Rattle.board_law.proofs.Kept.{Kept, IsBefore, IsOpen, is_over, thoughts_in, bands_in, drawn_once, drawn_in, before_next, open_next, open_of_wait, think_of_path, open_of_think, thoughts_same, drawn_same}
 
 -- what waits has waited
 steady_wait : (old new : Phase) (k : ℕ) → IsSteady old new → new ≡ Waits k → old ≡ Waits k

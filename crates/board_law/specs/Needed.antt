@@ -1,5 +1,5 @@
 -- What of the stored values each event needs.
-use Rattle.std.specs.Prelude.{◌≡◌, ◌<◌, ℕ, zero, suc, ◌%◌, Bool, true, false, ◌==◌, List, Option, Some, None, length, slice_get}
+use Rattle.std.specs.Prelude.{◌≡◌, ◌<◌, ℕ, zero, suc, ◌%◌, Bool, true, false, ◌==◌, List, Some, None, length, slice_get}
 use Rattle.std.specs.Option.{IsSomeAnd}
 use Rattle.job_core.specs.declared.names.JobName.{JobName}
 use Rattle.job_core.specs.declared.names.JobName.TheVariants.{Logic, Think, Path, Draw}
@@ -7,7 +7,7 @@ use Rattle.job_core.specs.declared.names.Event.{Event}
 use Rattle.job_core.specs.declared.names.Event.TheVariants.{Start, Resume, Ask, Spread, Finish, Emit}
 use Rattle.job_core.specs.Core.{Setup, State, step_of}
 use Rattle.board_law.specs.Lists.{has}
-use Rattle.board_law.specs.Stored.{Stored, Part, Drawn, parts, asked, nothing, turned}
+use Rattle.board_law.specs.Stored.{Stored, Part, parts, asked, nothing, turned}
 
 -- the frame is in its slot
 abbrev pub IsInSlot : Setup → Stored → ℕ → Type 0
