@@ -55,7 +55,7 @@ put_in p (q ∷ qs) = if nat_lt p.number q.number then (p ∷ q ∷ qs) else (q 
 abbrev pub with_band : Part → Drawn → Drawn
 with_band p d = record d { bands = put_in p d.bands }
 
--- a job's end keeps what it came to, for the jobs that follow
+-- what an event puts in, and what it takes out
 abbrev pub store : Setup → State → Stored → Event → Stored
 store s st k (Spread w (Logic f)) = record k { next = None; slots = slice_set k.slots (f % s.slots) (Some f); thoughts = [] }
 store s st k (Ask w (Think f a)) = record k { asking = slice_set k.asking a (Some (asked f a (step_of (st.phase (Think f a))) false)) }
