@@ -81,7 +81,8 @@ impl<A: Allocator> Tree<A> {
     /// other node the number of those before it in preorder.
     pub fn size_at(&self, node: u64) -> u64
         requires { node < size (plain_of self.now) }
-        ensures { result ≡ slice_index (subtree_sizes (plain_of self.now)) node }
+        ensures value { result ≡ slice_index (subtree_sizes (plain_of self.now)) node }
+        ensures most { result ≤ 255 }
     {
         u64::from(self.subtrees[node as usize])
     }
