@@ -1,9 +1,9 @@
-use Rattle.std.proofs.Common.{◌≡◌, ◌∷◌, ◌+◌, ◌-◌, ◌++◌, [], set, take, suc, ap, arith, refl, sym, ◌∙◌, rules, append-nil}
+use Rattle.std.proofs.Common.{◌≡◌, ◌∷◌, ◌+◌, ◌-◌, ◌++◌, [], take, suc, ap, arith, refl, sym, ◌∙◌, rules, append-nil}
 use Rattle.bt_nodes.specs.Plain.{plain, plains}
 use Rattle.bt_nodes.specs.Sizes.{size, sizes, subtree_sizes, subtree_sizes_all}
 use Rattle.bt_nodes.specs.declared.node.Node.{the_lemmas}
 use Rattle.bt_nodes.proofs.Forests.{plains-drop}
-use Rattle.bt_nodes.proofs.SizeTables.{only_size, written_first, written_more, written_all}
+use Rattle.bt_nodes.proofs.SizeTables.{only_size, written_first, written_more}
 use Rattle.bt_nodes.proofs.Views.{listing, decorating}
 use Rattle.bt_nodes.proofs.Alike.{element_smaller}
 use Rattle.bt_nodes.proofs.node.Node.+write_sizes.Goals as goal
