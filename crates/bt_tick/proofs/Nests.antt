@@ -1,5 +1,5 @@
 -- What opening a child, and leaving a node, keep of the open nodes.
-use Rattle.std.proofs.Common.{◌≡◌, ℕ, suc, ◌+◌, ◌*◌, ◌<◌, ◌≤◌, List, ◌∷◌, length, drop, sym, ap, ◌∙◌, subst, arith}
+use Rattle.std.proofs.Common.{◌≡◌, ℕ, suc, ◌+◌, ◌*◌, ◌<◌, ◌≤◌, List, ◌∷◌, length, sym, ap, ◌∙◌, subst, arith}
 use Rattle.bt_nodes.specs.Plain.{Plain, tree}
 use Rattle.bt_nodes.specs.Sizes.{size, sizes, count}
 use Rattle.bt_nodes.specs.Trees.{plain_of}

@@ -1,15 +1,14 @@
-use Rattle.std.proofs.Common.{◌≡◌, ◌+◌, ◌<◌, ap, sym, ◌∙◌, subst, arith, refl}
+use Rattle.std.proofs.Common.{◌+◌, ◌<◌, ap, sym, ◌∙◌, subst, arith, refl}
 use Rattle.std.proofs.lemmas.List.{length-map}
 use Rattle.bt_nodes.specs.Plain.{Fallback, CompositeStar, none, tree, plain, plains}
-use Rattle.bt_nodes.specs.Sizes.{size}
 use Rattle.bt_nodes.proofs.Views.{plain-Seq, plain-Fallback, plain-Par, plain-FallbackStar, plain-Not, plain-Tries, plain-Ticks}
 use Rattle.bt_tick.specs.Children.{children_of}
 use Rattle.bt_tick.specs.Kinds.{HasList}
-use Rattle.bt_tick.specs.Places.{Nested, limit_of}
+use Rattle.bt_tick.specs.Places.{limit_of}
 use Rattle.bt_tick.specs.Views.{view_of}
 use Rattle.bt_tick.specs.Machine.{opened, opens, whole_of}
 use Rattle.bt_tick.proofs.Nests.{room}
-use Rattle.bt_tick.proofs.Opening.{if_ok, first_rests, only_after, only_stands}
+use Rattle.bt_tick.proofs.Opening.{if_ok, first_rests, only_stands}
 use Rattle.bt_tick.proofs.machine.Machine.descend.Goals as goal
 
 pub overflow_add-after : goal.overflow_add-after
