@@ -53,4 +53,3 @@ pub open_only-requires-in-Ticks-clause-stands : goal.open_only-requires-in-Ticks
 open_only-requires-in-Ticks-clause-stands g c =
     only_stands (whole_of c.args.self.now) (record { node = plain c.args.node.now; number = c.args.number; next = 1; won = 0; lost = c.number-past.result }) (plain c.deref-in-Ticks.result.now) _ (ap children_of (ap plain c.in-Ticks.is ∙ plain-Ticks c.in-Ticks.most c.in-Ticks.child) ∙ ap (λ n. tree (plain n) none) (sym c.deref-in-Ticks.ensures)) c.requires.sits refl
     (subst (λ p. 0 + c.number-past.result < limit_of p 1) (sym (ap plain c.in-Ticks.is ∙ plain-Ticks c.in-Ticks.most c.in-Ticks.child)) (omega (arith, c.if-past-most.false))) (omega (arith, c.requires.deep, length-map c.args.self.now.stack opened))
-
