@@ -1,9 +1,12 @@
 // Frames played task by task.
 ghost use Rattle.std.specs.Prelude.{◌≡◌, ◌<◌, IfOk, length};
 ghost use Rattle.frame_params.specs.Names.{part_of, AreOfAllAgents};
+ghost use Rattle.frame_params.specs.Thinks.{IsThinkStep};
+ghost use Rattle.frame_params.specs.Logic.{IsLogicStep};
 
 use crate::{
-    DrawTask, FrameParams, LogicStep, LogicTask, PathTask, ThinkStep, ThinkTask, Thought, Turn,
+    BandOut, DrawTask, FrameParams, LogicStep, LogicTask, PathTask, Step, Task, ThinkStep,
+    ThinkTask, Thought, Turn, Way,
 };
 use draw_list::{Band, frame_text};
 use job_core::names::JobName;
@@ -27,6 +30,43 @@ fn session_of(alloc: Global, level: &str, script: &str) -> Result<Session, Fail>
     Ok(Session::new(level, script))
 }
 
+fn thinks<'t>(alloc: Global, task: ThinkTask<'t>) -> Result<ThinkStep<'t>, Fail>
+    ensures { IfOk result (λ step. IsThinkStep task.entry step) }
+{
+    match Task::Think(task).work(alloc)? {
+        Step::Think(step) => Ok(step),
+        Step::Logic(_) | Step::Path(_) | Step::Draw(_) => Err(Fail::from("no think")),
+    }
+}
+
+fn searches<'t>(alloc: Global, task: PathTask<'t>) -> Result<Way<'t>, Fail>
+    ensures { IfOk result (λ way. way ≡ task.entry) }
+{
+    match Task::Path(task).work(alloc)? {
+        Step::Path(way) => Ok(way),
+        Step::Logic(_) | Step::Think(_) | Step::Draw(_) => Err(Fail::from("no path")),
+    }
+}
+
+// The task is worked twice.
+fn turns<'t>(alloc: Global, task: LogicTask<'t>) -> Result<LogicStep<'t>, Fail>
+    ensures { IfOk result (λ step. IsLogicStep task.entry step) }
+{
+    let task = Task::Logic(task);
+    let _first = task.work(alloc)?;
+    match task.work(alloc)? {
+        Step::Logic(step) => Ok(step),
+        Step::Think(_) | Step::Path(_) | Step::Draw(_) => Err(Fail::from("no logic")),
+    }
+}
+
+fn draws<'t>(alloc: Global, task: DrawTask<'t>) -> Result<BandOut<'t>, Fail> {
+    match Task::Draw(task).work(alloc)? {
+        Step::Draw(band) => Ok(band),
+        Step::Logic(_) | Step::Think(_) | Step::Path(_) => Err(Fail::from("no draw")),
+    }
+}
+
 // An agent's thought: its tasks are worked until they end, with a path at each question.
 fn thought_of<'t>(alloc: Global, params: &FrameParams<'t>, agent: u32) -> Result<Thought<'t>, Fail>
     requires { agent < length params.now.game.trees }
@@ -34,11 +74,10 @@ fn thought_of<'t>(alloc: Global, params: &FrameParams<'t>, agent: u32) -> Result
 {
     let mut task = ThinkTask::start(alloc, params, agent)?;
     'questions: for _asked in 0..256u32 {
-        match task.work(alloc)? {
+        match thinks(alloc, task)? {
             ThinkStep::Ended(thought) => return Ok(thought),
             ThinkStep::Asks(parked) => {
-                let path = PathTask::of(alloc, params, &parked)?;
-                let way = path.work(alloc)?;
+                let way = searches(alloc, PathTask::of(alloc, params, &parked)?)?;
                 task = ThinkTask::resume(alloc, params, &parked, &way)?;
             }
         }
@@ -61,10 +100,7 @@ fn turn_of<'t>(alloc: Global, params: &FrameParams<'t>) -> Result<Turn<'t>, Fail
     ensures { IfOk result (λ turn. turn ≡ params.now) }
 {
     let thoughts = thoughts_of(alloc, params)?;
-    let task = LogicTask::turn(alloc, params, &thoughts)?;
-    // a task may be worked again
-    let _first = task.work(alloc)?;
-    match task.work(alloc)? {
+    match turns(alloc, LogicTask::turn(alloc, params, &thoughts)?)? {
         LogicStep::Begins => Err(Fail::from("begins")),
         LogicStep::Turned(turn) => Ok(turn),
     }
@@ -73,8 +109,7 @@ fn turn_of<'t>(alloc: Global, params: &FrameParams<'t>) -> Result<Turn<'t>, Fail
 fn bands_of(alloc: Global, turn: &Turn) -> Result<Vec<Band>, Fail> {
     let mut bands = Vec::new(alloc);
     for number in 0..turn.bands() {
-        let task = DrawTask::of(alloc, turn, number)?;
-        let drawn = task.work(alloc)?;
+        let drawn = draws(alloc, DrawTask::of(alloc, turn, number)?)?;
         bands.push(drawn.into_band())?;
     }
     Ok(bands)
