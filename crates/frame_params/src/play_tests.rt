@@ -4,17 +4,16 @@ ghost use Rattle.frame_params.specs.Names.{part_of, AreOfAllAgents};
 ghost use Rattle.frame_params.specs.Thinks.{IsThinkStep};
 ghost use Rattle.frame_params.specs.Logic.{IsLogicStep};
 
+use crate::tests::{FIRST, session_of};
 use crate::{
     BandOut, DrawTask, FrameParams, LogicStep, LogicTask, PathTask, Step, Task, ThinkStep,
     ThinkTask, Thought, Turn, Way,
 };
 use draw_list::{Band, frame_text};
 use job_core::names::JobName;
-use level_text::{Session, read_level, read_script};
+use level_text::Session;
 use std::alloc::Global;
 use std::test::Fail;
-
-const FIRST: &str = "{\"map\":[\"A.0\"],\"agents\":[\"t\"],\"trees\":{\"t\":[\"move\",\"0\"]}}";
 
 // Three agents whose trees have every kind of node. Its frames are those that the baseline program `serial`, which was
 // written without this one, prints for it.
@@ -23,12 +22,6 @@ const EVERY_KIND: &str =
 
 const ITS_FRAMES: &str =
     "frame 1\n.A0*a\nB...1\n.C2##\nA R 1,0 -\nB S 0,1 -\nC R 1,2 -\nframe 2\n..A*a\n.B..1\n.C2##\nA R 2,0 -\nB R 1,1 -\nC R 1,2 *\nframe 3\n..0A/\n..B.1\n..C##\nA R 3,0 -\nB R 2,1 -\nC R 2,2 *\nframe 4\n..0*A\n...B1\n..C##\nA R 4,0 -\nB R 3,1 -\nC R 2,2 -\nframe 5\n..0*A\n....B\n..C##\nA F 4,0 -\nB R 4,1 -\nC R 2,2 *\nframe 6\n..0A/\n....B\n..C##\nA R 3,0 -\nB S 4,1 -\nC R 2,2 -\nframe 7\n..A*/\n....B\n..C##\nA R 2,0 -\nB S 4,1 -\nC R 2,2 *\n";
-
-fn session_of(alloc: Global, level: &str, script: &str) -> Result<Session, Fail> {
-    let level = read_level(alloc, level.as_bytes()).map_err(|_| "level")?;
-    let script = read_script(alloc, script.as_bytes()).map_err(|_| "script")?;
-    Ok(Session::new(level, script))
-}
 
 fn thinks<'t>(alloc: Global, task: ThinkTask<'t>) -> Result<ThinkStep<'t>, Fail>
     ensures { IfOk result (λ step. IsThinkStep task.entry step) }

@@ -1,19 +1,11 @@
 ghost use Rattle.std.specs.Prelude.{◌≡◌, ◌<◌, IfOk, length};
 
+use crate::tests::{FIRST, session_of};
 use crate::{FrameParams, Parked, PathTask, ThinkStep, ThinkTask, Thought, Way};
 use grid_world::{Answer, Dir};
 use job_core::names::JobName;
-use level_text::{Script, Session, read_level};
 use std::alloc::Global;
 use std::test::Fail;
-
-// An agent two steps west of where it goes.
-const FIRST: &str = "{\"map\":[\"A.0\"],\"agents\":[\"t\"],\"trees\":{\"t\":[\"move\",\"0\"]}}";
-
-fn session_of(alloc: Global) -> Result<Session, Fail> {
-    let level = read_level(alloc, FIRST.as_bytes()).map_err(|_| "level")?;
-    Ok(Session::new(level, Script::empty(alloc)))
-}
 
 // The first question of the first agent. The task is worked twice.
 fn parked_of<'t>(alloc: Global, params: &FrameParams<'t>) -> Result<Parked<'t>, Fail>
@@ -57,7 +49,7 @@ fn thought_of<'t>(
 #[test]
 fn a_think_asks_its_question_and_ends(rt: HostRuntime) -> Result<(), Fail> {
     let alloc = rt.alloc();
-    let session = session_of(alloc)?;
+    let session = session_of(alloc, FIRST, "")?;
     let params = FrameParams::first(alloc, &session)?;
     assert!(rt; params.world().agents().len() == 1);
     let parked = parked_of(alloc, &params)?;
