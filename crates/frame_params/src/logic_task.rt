@@ -92,7 +92,8 @@ impl<'t> LogicTask<'t> {
         })
     }
 
-    /// The logic of a frame after all its thinks. The thoughts are those of all agents, in order.
+    /// The logic of a frame after all its thinks. The thoughts are those of all agents, in order; their memories are
+    /// copied, and all else is shared or a word an agent.
     pub fn turn(
         alloc: Global,
         params: &FrameParams<'t>,
