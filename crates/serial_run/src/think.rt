@@ -29,10 +29,10 @@ fn way_to(view: &View, searcher: &mut Searcher, place: Place) -> Result<Answer, 
     searcher.way((here.x, here.y), place)
 }
 
-/// Ticks an agent's tree, and answers each question that the tick asks. The nodes that the tick has open lie in an arena
-/// of its own, which goes as a whole.
+/// Ticks an agent's tree, and answers each question that the tick asks. The nodes that the tick has open lie in the arena,
+/// which is emptied first.
 pub fn think(
-    alloc: Global,
+    arena: &mut Bump,
     view: &View,
     searcher: &mut Searcher,
     tree: &Tree<Global>,
@@ -47,8 +47,10 @@ pub fn think(
     ensures world { searcher.new.world ≡ searcher.old.world }
     ensures signals { searcher.new.signals ≡ searcher.old.signals }
 {
-    let arena = Bump::new(alloc);
-    let Ok(begun) = begin(&arena, tree, view, memory) else {
+    // Where the arena isn't emptied, it only grows.
+    let _ = arena.reset();
+    let arena = &*arena;
+    let Ok(begun) = begin(arena, tree, view, memory) else {
         return Err(AllocError);
     };
     let mut outcome = begun;
@@ -67,7 +69,7 @@ pub fn think(
             }
             Outcome::Asks { place, pending } => {
                 let answer = way_to(view, searcher, place)?;
-                let Ok(resumed) = resume(&arena, pending, view, answer) else {
+                let Ok(resumed) = resume(arena, pending, view, answer) else {
                     return Err(AllocError);
                 };
                 outcome = resumed;
