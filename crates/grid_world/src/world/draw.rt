@@ -54,14 +54,15 @@ fn furnish(items: &[bool], agents: &[Agent], y: u32, width: u32, row: &mut [u8])
     draw_agents(agents, y, width, row);
 }
 
-// It has no branch within the loop, which is vectorised.
+// Both glyphs are read in any case, since a loop with no branch is vectorised.
 fn draw_items(items: &[bool], row: &mut [u8])
     requires { length row.old ≡ length items.now }
     ensures { (x : ℕ) → x < length items.now → slice_index row.new x
         ≡ (if slice_index_or items.now x false then 42 else slice_index row.old x) }
 {
     'cells: for x in 0..items.len() {
-        row[x] = if items[x] { ITEM } else { row[x] };
+        let bare = row[x];
+        row[x] = if items[x] { ITEM } else { bare };
     }
 }
 
