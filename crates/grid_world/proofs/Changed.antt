@@ -1,6 +1,6 @@
--- What an intent changes of a world: one agent, and perhaps the item of its cell. The world stays one.
-use Rattle.std.proofs.Common.{[], is_some, nat_lt, ltb-true, true≢false, ne_eqb, ◌≡◌, ◌≢◌, ℕ, ◌<◌, ◌≤◌, ◌==◌, ◌&&◌, Bool, true, false, not, if◌then◌else◌, List, All, length, get_or, set, position, Option, Some, None, is_none, refl, sym, ap, subst, ◌∙◌, arith, inl, inr, get_or-set_same, get_or-set_other, length-set}
-use Rattle.std.proofs.lemmas.Bool.{cases_lt, cases_eq}
+-- What a move makes of a world: one agent stands elsewhere, and the world stays one.
+use Rattle.std.proofs.Common.{is_some, nat_lt, ltb-true, true≢false, ne_eqb, ◌≡◌, ◌≢◌, ℕ, ◌<◌, ◌≤◌, ◌==◌, ◌&&◌, Bool, true, false, if◌then◌else◌, List, All, length, get_or, set, position, Option, Some, None, is_none, refl, sym, ap, ◌∙◌, arith, inl, inr, get_or-set_same, get_or-set_other, length-set}
+use Rattle.std.proofs.lemmas.Bool.{cases_eq}
 use Rattle.std.proofs.lemmas.List.{get_or_default}
 use Rattle.std.proofs.lemmas.List.Elements.{All-set}
 use Rattle.std.proofs.lemmas.List.Sums.{fails_before_first}
@@ -8,10 +8,9 @@ use Rattle.std.proofs.lemmas.Grind.{common_steps}
 use Rattle.std.specs.List.{position_or_len}
 use Rattle.grid_world.specs.declared.cell.Agent.{Agent}
 use Rattle.grid_world.specs.declared.cell.Cell.TheVariants.{Wall}
-use Rattle.grid_world.specs.declared.cell.Intent.TheVariants.{Take, Drop}
-use Rattle.grid_world.specs.Grid.{Grid, Point, agent_of, cell_at, has_item, index_of, is_on_map, point_of, same_point}
+use Rattle.grid_world.specs.Grid.{Grid, Point, agent_of, cell_at, has_item, is_on_map, point_of, same_point}
 use Rattle.grid_world.specs.Ground.{furnished}
-use Rattle.grid_world.specs.Intents.{with_agent, apply, handed, moved}
+use Rattle.grid_world.specs.Intents.{with_agent, moved}
 use Rattle.grid_world.specs.Open.{is_open, is_passable}
 use Rattle.grid_world.specs.World.{AreApart, IsStanding, IsWorld}
 use Rattle.grid_world.proofs.Rows.{and_parts}
@@ -50,7 +49,7 @@ AreApart-set agents a new within free apart i j d before inside =
       ]
     ]
 
--- the same ground with another agent and another item
+-- the same ground with another agent
 module _ (ground : Grid) (items : List Bool) (agents : List Agent) (world : IsWorld (furnished ground items agents)) where
   -- with agents that stand well, and items off the walls
   IsWorld-changed : (items' : List Bool) (agents' : List Agent) → length items' ≡ length items
@@ -95,35 +94,6 @@ module _ (ground : Grid) (items : List Bool) (agents : List Agent) (world : IsWo
       (λ b. same_point (point_of b) (point_of new)) agents k d free small) world.apart)
       world.items_off_walls
 
-  -- agent a with the item of its cell in its hands, or out of them
-  pub IsWorld-handed : (a : ℕ) (agent : Agent) (carrying : Bool) → a < length agents
-      → agent ≡ get_or agents a agent
-      → IsWorld (furnished ground (set items (index_of ground (point_of agent)) (not carrying)) (set agents a (record agent { carrying = carrying })))
-  IsWorld-handed a agent carrying within at =
-      let new : Agent = record agent { carrying = carrying } in
-      let stands : IsStanding (furnished ground items agents) agent = subst
-      (IsStanding (furnished ground items agents)) (sym at) (world.standing a agent within) in
-      IsWorld-changed (set items (index_of ground (point_of agent)) (not carrying)) (set agents a new)
-      (length-set items (index_of ground (point_of agent)) (not carrying)) (length-set agents a new)
-      (All-set (IsStanding (furnished ground items agents)) agents a new
-      (record { column = stands.column; row = stands.row; no_wall = stands.no_wall }) world.standing)
-      (AreApart-set agents a new within (λ k d small other.
-      let here : get_or agents a d ≡ agent = get_or_default agents a d agent within ∙ sym at in
-      let others : ℕ → ℕ → Bool =
-      λ i j. same_point (point_of (get_or agents i d)) (point_of (get_or agents j d)) in
-      let there : same_point (point_of (get_or agents k d)) (point_of agent) ≡ others k a =
-      ap (λ b. same_point (point_of (get_or agents k d)) (point_of b)) (sym here) in
-      elim (cases_lt k a) [
-        | inl before ↦ there ∙ world.apart k a d before within
-        | inr behind ↦ there ∙ same_point-sym (point_of (get_or agents k d)) (point_of (get_or agents a d))
-            ∙ world.apart a k d (omega arith) small
-      ]) world.apart)
-      (λ p lies. elim (cases_eq (index_of ground p) (index_of ground (point_of agent))) [
-        | inl same ↦ (λ wall. stands.no_wall (ap (λ i. get_or ground.cells i Wall) (sym same) ∙ wall))
-        | inr differ ↦ world.items_off_walls p
-            (sym (get_or-set_other items (index_of ground (point_of agent)) (index_of ground p) (not carrying) false differ) ∙ lies)
-      ])
-
 -- what a step makes of a world
 module _ (ground : Grid) (items : List Bool) (agents : List Agent) (a : ℕ) (agent : Agent)
     (within : a < length agents) (at : agent ≡ get_or agents a agent) where
@@ -152,55 +122,6 @@ module _ (ground : Grid) (items : List Bool) (agents : List Agent) (a : ℕ) (ag
             else furnished ground items agents)
         go true = rw taken refl
         go false = refl
-
--- the number of a cell that is on the map
-pub index_of-Some : (g : Grid) (p : Point) (i : ℕ)
-    → Some i ≡ (if is_on_map g p then Some (index_of g p) else None) → i ≡ index_of g p
-index_of-Some g p i e = go (is_on_map g p) e
-  where
-    go : (b : Bool) → Some i ≡ (if b then Some (index_of g p) else None) → i ≡ index_of g p
-    go true e = cc
-    go false e = absurd (cc)
-
--- what taking and dropping make of a world, for an agent on the cell of a number
-module _ (ground : Grid) (items : List Bool) (agents : List Agent) (world : IsWorld (furnished ground items agents)) (a : ℕ)
-    (agent : Agent) (within : a < length agents) (at : agent ≡ get_or agents a agent)
-    (cell : ℕ) (numbered : cell ≡ index_of ground (point_of agent)) where
-  lies : (b : Bool) → get_or items cell false ≡ b
-      → has_item (furnished ground items agents) (point_of agent) ≡ b
-  lies b e = ap (λ i. get_or items i false) (sym numbered) ∙ e
-
-  handed-view : (carrying : Bool)
-      → furnished ground (set items cell (not carrying)) (set agents a (record agent { carrying = carrying }))
-      ≡ handed (furnished ground items agents) a carrying
-  handed-view carrying = rw (agent_of-at ground items agents a agent within at, numbered) refl
-
-  -- it has the item of the cell then, or has laid it there
-  pub IsWorld-after : (carrying : Bool)
-      → IsWorld (furnished ground (set items cell (not carrying)) (set agents a (record agent { carrying = carrying })))
-  IsWorld-after carrying =
-      subst (λ (i : ℕ). IsWorld (furnished ground (set items i (not carrying)) (set agents a (record agent { carrying = carrying }))))
-      (sym numbered) (IsWorld-handed ground items agents world a agent carrying within at)
-
-  pub taken : get_or items cell false ≡ true → agent.carrying ≡ false
-      → furnished ground (set items cell false) (set agents a (record agent { carrying = true }))
-      ≡ apply (furnished ground items agents) [] a Take
-  taken there empty = handed-view true
-      ∙ sym (rw (agent_of-at ground items agents a agent within at, empty, lies true there) refl)
-
-  pub not-taken : get_or items cell false ≡ false → agent.carrying ≡ false
-      → furnished ground items agents ≡ apply (furnished ground items agents) [] a Take
-  not-taken none empty = rw (agent_of-at ground items agents a agent within at, empty, lies false none) refl
-
-  pub dropped : get_or items cell false ≡ false → agent.carrying ≡ true
-      → furnished ground (set items cell true) (set agents a (record agent { carrying = false }))
-      ≡ apply (furnished ground items agents) [] a Drop
-  dropped none full = handed-view false
-      ∙ sym (rw (agent_of-at ground items agents a agent within at, full, lies false none) refl)
-
-  pub not-dropped : get_or items cell false ≡ true → agent.carrying ≡ true
-      → furnished ground items agents ≡ apply (furnished ground items agents) [] a Drop
-  not-dropped there full = rw (agent_of-at ground items agents a agent within at, full, lies true there) refl
 
 pub none_found : {X : Type 0} (o : Option X) → is_some o ≡ false → o ≡ None
 none_found None e = refl

@@ -1,16 +1,16 @@
 -- A row that is written over at the agents on it.
-use Rattle.std.proofs.Common.{◌&&◌, get_or-drop, length-drop, true≢false, lt-ltb, position, Option, Some, None, ◌≡◌, ℕ, ◌+◌, ◌-◌, ◌<◌, ◌≤◌, ◌==◌, ◌||◌, AllPairs, Bool, true, false, if◌then◌else◌, List, ◌∷◌, length, get_or, set, drop, take, refl, sym, ap, ◌∙◌, arith, inl, inr, eq-eqb, ne_eqb, get_or-set_same, get_or-set_other, get_or-take}
+use Rattle.std.proofs.Common.{◌&&◌, true≢false, lt-ltb, position, Option, Some, None, ◌≡◌, ℕ, ◌+◌, ◌<◌, ◌==◌, ◌||◌, Bool, true, false, if◌then◌else◌, List, ◌∷◌, length, get_or, set, refl, sym, ap, ◌∙◌, arith, inl, inr, eq-eqb, ne_eqb, get_or-set_same, get_or-set_other}
 use Rattle.std.specs.List.{list_any}
-use Rattle.std.proofs.lemmas.Bool.{cases_eq, cases_lt}
+use Rattle.std.proofs.lemmas.Bool.{cases_eq}
 use Rattle.std.specs.List.{position_or_len}
-use Rattle.std.proofs.lemmas.List.{get_or_default, take-append-drop, length-take}
+use Rattle.std.proofs.lemmas.List.{get_or_default}
 use Rattle.std.proofs.lemmas.List.Sums.{position_or_len_is}
 use Rattle.std.proofs.lemmas.List.Quantifiers.{position-Some}
 use Rattle.grid_world.specs.declared.cell.Agent.{Agent}
 use Rattle.grid_world.specs.Grid.{point_of, same_point}
 use Rattle.grid_world.specs.Glyphs.{content_glyph}
 use Rattle.grid_world.specs.World.{point, AreApart}
-use Rattle.std.proofs.lemmas.List.Folds.{list_any-append, list_any-from_Any}
+use Rattle.std.proofs.lemmas.List.Folds.{list_any-from_Any}
 
 -- a row that is written over at the agents of row y
 module _ (agents : List Agent) (y : ℕ) (base : ℕ → ℕ) (width : ℕ) where

@@ -1,14 +1,12 @@
 -- How a world is kept: its ground, which never changes, its items and its agents.
-use Rattle.std.specs.Prelude.{ℕ, ◌≡◌, ◌<◌, ◌≤◌, ◌==◌, Bool, true, false, List, [], All, AllPairs, Contains, length, map, replicate, position, Option, None, slice_index_or}
-use Rattle.std.specs.List.{list_any}
+use Rattle.std.specs.Prelude.{ℕ, ◌≡◌, ◌<◌, Bool, true, false, List, [], All, Contains, length, map, replicate, position, Option, None, slice_index_or}
 use Rattle.grid_world.specs.declared.cell.Agent.{Agent}
 use Rattle.grid_world.specs.declared.cell.Cell.{Cell}
 use Rattle.grid_world.specs.declared.cell.Cell.TheVariants.{Wall, Floor, Door, Spot}
 use Rattle.grid_world.specs.Grid.{Grid, is_spot}
 use Rattle.grid_world.specs.Open.{is_passable}
-use Rattle.grid_world.specs.Map.{count_up}
 use Rattle.grid_world.specs.Rows.{IsPlaced, lines}
-use Rattle.grid_world.specs.World.{IsSized, IsWorld}
+use Rattle.grid_world.specs.World.{IsSized}
 
 -- a ground with nothing on it
 abbrev pub bare : ℕ → ℕ → List Cell → Grid

@@ -1,8 +1,7 @@
-use Rattle.std.proofs.Common.{◌≡◌, ◌<◌, ◌≤◌, take, drop, ◌+◌, ◌-◌, ◌*◌, ◌++◌, ℕ, length, get_or, false, refl, subst, ap, ap₂, sym, ◌∙◌, arith, append-nil}
-use Rattle.grid_world.specs.Grid.{has_item}
+use Rattle.std.proofs.Common.{◌≡◌, ◌<◌, ◌≤◌, take, drop, ◌+◌, ◌-◌, ◌*◌, ◌++◌, length, refl, ap, ap₂, sym, ◌∙◌, arith, append-nil}
 use Rattle.grid_world.specs.Ground.{emptied}
 use Rattle.grid_world.specs.Rows.{lines}
-use Rattle.grid_world.specs.World.{point, row_glyphs}
+use Rattle.grid_world.specs.World.{row_glyphs}
 use Rattle.grid_world.proofs.Drawn.{row_glyphs-drawn_over, row_within, part_of_row}
 use Rattle.grid_world.proofs.Lined.{length-row_glyphs, lines-none, row_inside, row_read, row_written}
 use Rattle.grid_world.proofs.world.World.draw_rows.Goals as goal

@@ -1,4 +1,4 @@
-use Rattle.std.proofs.Common.{All, refl, map, ◌==◌, ◌≡◌, ◌≤◌, ap, ◌∙◌, sym, arith, length, subst}
+use Rattle.std.proofs.Common.{All, refl, map, ◌==◌, ◌≤◌, ap, ◌∙◌, sym, arith, length, subst}
 use Rattle.std.proofs.lemmas.List.{length-map}
 use Rattle.std.specs.Str.{chars}
 use Rattle.std.proofs.Common.{string_bytes}
