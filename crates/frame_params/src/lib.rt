@@ -5,6 +5,7 @@
 mod band_out;
 mod draw_task;
 mod gathered;
+mod kept_memory;
 mod logic_step;
 mod logic_task;
 mod params;

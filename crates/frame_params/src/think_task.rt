@@ -9,6 +9,7 @@ ghost use Rattle.bt_tick.specs.Outcome.{place_of};
 ghost use Rattle.bt_tick.specs.Thinking.{Thinking};
 ghost use Rattle.bt_tick.specs.declared.tick.Outcome.TheVariants.{Asks};
 
+use crate::kept_memory::KeptMemory;
 use crate::params::FrameParams;
 use crate::parked::Parked;
 use crate::stand::Stand;
@@ -201,7 +202,7 @@ impl<'t> ThinkTask<'t> {
                 arena,
                 self.session,
                 &view,
-                &memories[self.agent as usize],
+                memories[self.agent as usize].memory(),
             )?),
             Stand::Answered {
                 question: _,
@@ -230,8 +231,8 @@ impl<'t> ThinkTask<'t> {
     }
 
     /// Ticks the tree to its end or to its next question, in the world of the frame before, whatever other agents came
-    /// to. It works on a copy of the memory or of the tick that it has. A tick that asks nothing takes memory twice: for
-    /// its memory, and at once for all nodes that it opens.
+    /// to. It works on a copy of the memory or of the tick that it has. A tick that asks nothing takes memory three
+    /// times: for the agent's memory, for its being shared, and at once for all nodes that the tick opens.
     pub fn work(&self, alloc: Global) -> Result<ThinkStep<'t>, AllocError>
         ensures { IfOk result (λ step. IsThinkStep self.now step) }
     {
@@ -247,7 +248,7 @@ impl<'t> ThinkTask<'t> {
                 agent: self.agent,
                 questions: self.answered(),
                 status,
-                memory,
+                memory: KeptMemory::new(alloc, memory)?,
                 intent,
             })),
             Outcome::Asks { place: _, pending } => {
