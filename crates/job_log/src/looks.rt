@@ -4,7 +4,7 @@ ghost use Rattle.board_law.specs.Lists.{tally, first_place};
 ghost use Rattle.board_law.specs.Board.{holds};
 ghost use Rattle.board_law.specs.Pick.{pick};
 ghost use Rattle.job_log.specs.Logged.{setup_of, kept, reached};
-ghost use Rattle.job_log.specs.Looks.{Always, IsRunning, IsGivenTo, IsToShow, as_pick};
+ghost use Rattle.job_log.specs.Looks.{Always, IsRunning, IsGivenTo, IsToShow, IsPlace, as_pick};
 
 use super::fault::BoardFault;
 use super::jobs::JobLog;
@@ -34,6 +34,8 @@ impl JobLog {
         ensures given { Always self.now (IsGivenTo worker result) }
         ensures picked { IfOk result (λ given. (questions : ℕ → ℕ → ℕ) → IsLegalList (setup_of self.now questions) self.now.events
             → option_map as_pick given ≡ pick (tally not (kept self.now questions).seats.taken) (kept self.now questions).queues) }
+        ensures place { IfOk result (λ given. (questions : ℕ → ℕ → ℕ) → IsLegalList (setup_of self.now questions) self.now.events
+            → IsPlace (kept self.now questions) given) }
     {
         if self.machine.is_stopped() {
             return Err(BoardFault::Stopped);
@@ -78,10 +80,13 @@ impl JobLog {
 
     /// Whether the slot of a frame is free: so many frames are shown that there is one.
     pub fn has_slot(&self, frame: u32) -> bool
-        ensures yes { result ≡ true → (questions : ℕ → ℕ → ℕ) → frame ≤ (kept self.now questions).emitted + self.now.numbers.slots }
-        ensures no { result ≡ false → (questions : ℕ → ℕ → ℕ) → (kept self.now questions).emitted + self.now.numbers.slots < frame }
+        ensures yes { result ≡ true → Always self.now (λ s st. frame ≤ st.emitted + s.slots) }
+        ensures no { result ≡ false → Always self.now (λ s st. st.emitted + s.slots < frame) }
     {
-        frame.saturating_sub(self.settings.slots()) <= self.machine.emitted()
+        if frame.saturating_sub(self.settings.slots()) <= self.machine.emitted() {
+            return true;
+        }
+        false
     }
 
     /// Whether all frames are shown, and nothing was stopped.
