@@ -1,15 +1,16 @@
-ghost use Rattle.std.specs.Prelude.{◌≡◌, ◌≤◌, ◌<◌, ◌+◌, ℕ, IfOk, true, false, option_map, not};
-ghost use Rattle.job_core.specs.Core.{IsLegalList, IsComplete};
+ghost use Rattle.std.specs.Prelude.{◌≡◌, ◌≤◌, ◌<◌, ◌+◌, ℕ, IfOk, IfSome, None, true, false, option_map, not};
+ghost use Rattle.job_core.specs.Core.{Waits, IsIdle, IsLegal, IsLegalList};
 ghost use Rattle.board_law.specs.Lists.{tally, first_place};
 ghost use Rattle.board_law.specs.Board.{holds};
 ghost use Rattle.board_law.specs.Pick.{pick};
 ghost use Rattle.job_log.specs.Logged.{setup_of, kept, reached};
-ghost use Rattle.job_log.specs.Looks.{Always, IsRunning, IsGivenTo, IsToShow, IsPlace, as_pick};
+ghost use Rattle.job_log.specs.Looks.{Always, IsOn, IsRunning, IsGivenTo, IsToShow, IsPlace, as_pick};
 
 use super::fault::BoardFault;
 use super::jobs::JobLog;
 use super::next::Next;
-use job_machine::{Held, Pick};
+use job_core::names::{Event, JobName};
+use job_machine::{Fiber, Held, Pick, fibers_wanted};
 
 // What may happen next. None of these takes memory.
 impl JobLog {
@@ -59,6 +60,61 @@ impl JobLog {
                 Ok(Some(Next::Resume(fiber, held)))
             }
         }
+    }
+
+    // Whether a worker is there and idle, and nothing is stopped.
+    fn is_free(&self, worker: u32) -> bool
+        ensures yes { result ≡ true → Always self.now (λ s st. IsOn s st worker × IsIdle st worker) }
+        ensures no { result ≡ false → Always self.now (λ s st. IsOn s st worker → IsIdle st worker → ⊥) }
+    {
+        if self.machine.is_stopped() {
+            return false;
+        }
+        if worker >= self.settings.workers() {
+            return false;
+        }
+        if self.machine.runs(worker).is_some() {
+            return false;
+        }
+        true
+    }
+
+    /// Whether a worker may start this job.
+    pub fn may_start(&self, worker: u32, job: JobName) -> bool
+        ensures yes { result ≡ true → Always self.now (λ s st. IsLegal s st (Event.Start worker job)) }
+        ensures no { result ≡ false → Always self.now (λ s st. IsLegal s st (Event.Start worker job) → ⊥) }
+    {
+        if !self.is_free(worker) {
+            return false;
+        }
+        if !self.machine.is_queued(job) {
+            return false;
+        }
+        if fibers_wanted(job) > self.machine.free() {
+            return false;
+        }
+        true
+    }
+
+    /// The fiber on which a worker may go on with this job, and how far the job has come; None where it may not.
+    pub fn may_resume(&self, worker: u32, job: JobName) -> Option<(Fiber, Held)>
+        ensures some { IfSome result (λ next. Always self.now (λ s st. IsLegal s st (Event.Resume worker job) × (st.phase job ≡ Waits next.1.step))) }
+        ensures place { IfSome result (λ next. (questions : ℕ → ℕ → ℕ) → first_place (holds job) (kept self.now questions).seats.jobs ≡ next.0) }
+        ensures none { result ≡ None → Always self.now (λ s st. IsLegal s st (Event.Resume worker job) → ⊥) }
+    {
+        if !self.is_free(worker) {
+            return None;
+        }
+        let Some(fiber) = self.machine.holder(job) else {
+            return None;
+        };
+        if !self.machine.is_ready(fiber) {
+            return None;
+        }
+        let Some(held) = self.machine.held_by(fiber) else {
+            return None;
+        };
+        Some((fiber, held))
     }
 
     /// The frame that is shown next.

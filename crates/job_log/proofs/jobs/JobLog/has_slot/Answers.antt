@@ -1,5 +1,4 @@
-use Rattle.std.proofs.Common.{◌≤◌, ◌<◌, ◌-◌, nat_le, true, false, arith}
-use Rattle.job_core.proofs.ByCases.{by_le}
+use Rattle.std.proofs.Common.{arith}
 use Rattle.job_log.specs.contracts.jobs.JobLog.{the_view}
 use Rattle.job_log.proofs.Looked.{emitted_is}
 use Rattle.job_log.proofs.jobs.JobLog.has_slot.Goals as goal
