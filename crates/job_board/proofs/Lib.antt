@@ -1,3 +1,4 @@
 pub mod Parting
+pub mod Shelving
 pub mod Boarding
 pub mod Tasked

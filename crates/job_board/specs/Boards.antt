@@ -14,9 +14,11 @@ use Rattle.frame_params.specs.Names.{FrameOf}
 use Rattle.frame_params.specs.Contents.{bands_in}
 use Rattle.frame_params.specs.Tasks.{job_of, IsTaskAt}
 use Rattle.frame_params.specs.declared.task.Task.{Task}
-use Rattle.job_machine.specs.Numbers.{Numbers}
+use Rattle.board_law.specs.Stored.{stored_after}
+use Rattle.job_machine.specs.Numbers.{Numbers, IsWithinLimits}
 use Rattle.job_log.specs.Logged.{Logged, setup_of, with_event as jobs_with_event}
 use Rattle.job_log.specs.declared.fault.BoardFault.{BoardFault}
+use Rattle.job_board.specs.Shelf.{Shelved}
 use Rattle.job_log.specs.declared.fault.BoardFault.TheVariants.{Stopped, NoWorker, Busy, NotRunning, WrongResult, Illegal, OutOfMemory}
 
 -- the game, the numbers of the run, and the events so far
@@ -138,7 +140,8 @@ NoOther j k = ⊥
 
 -- ---- what a board keeps of itself
 
-pub record IsBoard (b : Played) (jobs : Logged) (shelf : Game) : Type 0 where
+pub record IsBoard (b : Played) (jobs : Logged) (shelf : Shelved) : Type 0 where
   pub jobs_are : jobs ≡ jobs_of b
-  pub shelf_is : shelf ≡ b.game
+  pub shelf_is : shelf ≡ record { game = b.game; stored = stored_after (setup_in b) b.events }
   pub lawful : IsLegalList (setup_in b) b.events
+  pub within : IsWithinLimits b.numbers.frames b.numbers.workers b.numbers.fibers b.numbers.slots

@@ -1,5 +1,6 @@
 pub mod Parts
 pub mod Shelf
+pub mod ShelfCode
 pub mod Boards
 pub mod BoardCode
 pub mod Dones

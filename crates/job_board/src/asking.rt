@@ -1,10 +1,10 @@
-ghost use Rattle.std.specs.Prelude.{◌≡◌, ◌+◌, IfOk, IfSome, Some, None};
-ghost use Rattle.game_rules.specs.Game.{Game};
+ghost use Rattle.std.specs.Prelude.{◌≡◌, IfSome, Some, None, true, false};
+ghost use Rattle.std.specs.Option.{IsSomeAnd};
+ghost use Rattle.board_law.specs.Stored.{asked};
+ghost use Rattle.frame_params.specs.Names.{question_of};
 
-use frame_params::{FrameParams, Parked, PathTask, ThinkTask, Way};
-use job_core::names::JobName;
+use frame_params::{Parked, Way};
 use level_text::Session;
-use std::alloc::{AllocError, Global};
 use std::marker::Model;
 
 /// The question at which an agent's thought stands in the frame under way, and the answer to it.
@@ -16,24 +16,22 @@ pub(crate) struct Asking<'t> {
 }
 
 impl<'t> Model for Asking<'t> {
-    ghost use Rattle.std.specs.Prelude.{◌≡◌, IfSome};
-    ghost use Rattle.game_rules.specs.Game.{Game};
-    ghost use Rattle.level_text.specs.GameCode.{game_code};
+    ghost use Rattle.std.specs.Prelude.{◌≡◌, Some, IfSome, is_some};
+    ghost use Rattle.job_board.specs.Shelf.{AskedOf, question_name};
+    ghost use Rattle.job_board.specs.ShelfCode.{asked_of_code};
 
-    ghost Value = { Game };
+    ghost Value = { AskedOf };
 
-    ghost coded = { game_code };
+    ghost coded = { asked_of_code };
 
-    ghost view = { λ a. a.session.now };
+    ghost view = { λ a. record { game = a.session.now; asked = question_name (is_some a.way) a.parked } };
 
-    ghost invariant = { λ a. IfSome a.parked (λ parked. parked.game ≡ a.session.now) × IfSome a.way (λ way. way.game ≡ a.session.now) };
+    ghost invariant = { λ a. IfSome a.parked (λ parked. parked.game ≡ a.session.now) × IfSome a.way (λ way. a.parked ≡ Some way) };
 }
 
 impl<'t> Asking<'t> {
-    ghost use Rattle.frame_params.specs.Names.{think_of, question_of};
-
     pub(crate) fn new(session: &'t Session) -> Asking<'t>
-        ensures { result ≡ session.now }
+        ensures { result ≡ record { game = session.now; asked = None } }
     {
         Asking {
             session,
@@ -43,99 +41,41 @@ impl<'t> Asking<'t> {
     }
 
     pub(crate) fn park(&mut self, parked: Parked<'t>)
-        requires { parked.game ≡ self.old }
-        ensures { self.new ≡ self.old }
+        requires { parked.game ≡ self.old.game }
+        ensures { self.new ≡ record self.old { asked = Some (asked parked.entry.frame parked.entry.agent parked.entry.question false) } }
     {
         self.parked = Some(parked);
         self.way = None;
     }
 
+    /// Keeps the answer to the question.
     pub(crate) fn answer(&mut self, way: Way<'t>)
-        requires { way.game ≡ self.old }
-        ensures { self.new ≡ self.old }
+        requires game { way.game ≡ self.old.game }
+        requires asked { self.old.asked ≡ Some (asked way.frame way.agent way.question false) }
+        ensures { self.new ≡ record self.old { asked = Some (asked way.entry.frame way.entry.agent way.entry.question true) } }
     {
         self.way = Some(way);
     }
 
-    /// The search for the answer, where this is the question.
-    pub(crate) fn path(
-        &self,
-        alloc: Global,
-        params: &FrameParams<'t>,
-        agent: u32,
-        question: u32,
-    ) -> Result<Option<PathTask<'t>>, AllocError>
-        requires { params.now.game ≡ self.now }
-        ensures { IfOk result (λ found. IfSome found (λ task. task ≡ question_of self.now params.now.frame agent question)) }
+    /// The thought that stands at the question.
+    pub(crate) fn parked(&self) -> &Parked<'t>
+        requires { IsSomeAnd self.now.asked (λ q. Unit {0}) }
+        ensures { IfSome self.now.asked (λ q. result.now ≡ question_of self.now.game q.frame q.agent q.question) }
     {
-        let Some(parked) = &self.parked else {
-            return Ok(None);
-        };
-        let JobName::Think { frame, agent: of } = parked.name() else {
-            return Ok(None);
-        };
-        if frame != params.frame() {
-            return Ok(None);
+        match &self.parked {
+            Some(parked) => parked,
+            None => unreachable!(),
         }
-        if of != agent {
-            return Ok(None);
-        }
-        if parked.index() != question {
-            return Ok(None);
-        }
-        Ok(Some(PathTask::of(alloc, params, parked)?))
     }
 
-    /// The thought that goes on with the answer, where so many questions are answered then.
-    pub(crate) fn think(
-        &self,
-        alloc: Global,
-        params: &FrameParams<'t>,
-        agent: u32,
-        answered: u32,
-    ) -> Result<Option<ThinkTask<'t>>, AllocError>
-        requires { params.now.game ≡ self.now }
-        ensures { IfOk result (λ found. IfSome found (λ task. task ≡ think_of self.now params.now.frame agent answered)) }
+    /// The answer to the question.
+    pub(crate) fn way(&self) -> &Way<'t>
+        requires { IsSomeAnd self.now.asked (λ q. q.answered ≡ true) }
+        ensures { IfSome self.now.asked (λ q. result.now ≡ question_of self.now.game q.frame q.agent q.question) }
     {
-        let Some(parked) = &self.parked else {
-            return Ok(None);
-        };
-        let Some(way) = &self.way else {
-            return Ok(None);
-        };
-        let JobName::Think { frame, agent: of } = parked.name() else {
-            return Ok(None);
-        };
-        if frame != params.frame() {
-            return Ok(None);
+        match &self.way {
+            Some(way) => way,
+            None => unreachable!(),
         }
-        if of != agent {
-            return Ok(None);
-        }
-        let question = parked.index();
-        if answered == 0 {
-            return Ok(None);
-        }
-        if question != answered - 1 {
-            return Ok(None);
-        }
-        let JobName::Path {
-            frame: way_frame,
-            agent: way_agent,
-            question: way_question,
-        } = way.name()
-        else {
-            return Ok(None);
-        };
-        if way_frame != frame {
-            return Ok(None);
-        }
-        if way_agent != agent {
-            return Ok(None);
-        }
-        if way_question != question {
-            return Ok(None);
-        }
-        Ok(Some(ThinkTask::resume(alloc, params, parked, way)?))
     }
 }

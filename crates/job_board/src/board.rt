@@ -23,6 +23,8 @@ use std::marker::Model;
 pub struct Board<'t> {
     pub(crate) session: &'t Session,
     pub(crate) alloc: Global,
+    // How many bands each frame has.
+    pub(crate) bands: u32,
     pub(crate) jobs: JobLog,
     pub(crate) shelf: Shelf<'t>,
 }
@@ -30,6 +32,8 @@ pub struct Board<'t> {
 impl<'t> Model for Board<'t> {
     ghost use Rattle.job_board.specs.Boards.{Played, IsBoard};
     ghost use Rattle.job_board.specs.BoardCode.{played_code};
+    ghost use Rattle.frame_params.specs.Contents.{bands_in};
+    ghost use Rattle.std.specs.Prelude.{◌≡◌};
 
     ghost Value = { Played };
 
@@ -37,7 +41,7 @@ impl<'t> Model for Board<'t> {
 
     ghost view = { λ b. record { game = b.session.now; numbers = b.jobs.numbers; events = b.jobs.events } };
 
-    ghost invariant = { λ b. IsBoard (record { game = b.session.now; numbers = b.jobs.numbers; events = b.jobs.events }) b.jobs b.shelf };
+    ghost invariant = { λ b. IsBoard (record { game = b.session.now; numbers = b.jobs.numbers; events = b.jobs.events }) b.jobs b.shelf × (b.bands ≡ bands_in b.session.now) };
 }
 
 impl<'t> Board<'t> {
@@ -56,9 +60,11 @@ impl<'t> Board<'t> {
             return Err(OutOfMemory);
         };
         let jobs = JobLog::new(alloc, settings, agents, bands)?;
+        settings.is_within_limits();
         Ok(Board {
             session,
             alloc,
+            bands,
             jobs,
             shelf,
         })
@@ -104,10 +110,7 @@ impl<'t> Board<'t> {
         ensures refused { IfErr result (IsTakeRefused self.old worker) }
         ensures unchanged { OnErr result (self.new ≡ self.old) }
     {
-        let Ok(found) = self.shelf.task(self.alloc, job, 0) else {
-            return Err(BoardFault::OutOfMemory);
-        };
-        let Some(task) = found else {
+        let Ok(task) = self.shelf.task(self.alloc, job, 0) else {
             return Err(BoardFault::OutOfMemory);
         };
         let Ok(()) = self.jobs.start(worker, job) else {
@@ -127,10 +130,7 @@ impl<'t> Board<'t> {
         ensures refused { IfErr result (IsTakeRefused self.old worker) }
         ensures unchanged { OnErr result (self.new ≡ self.old) }
     {
-        let Ok(found) = self.shelf.task(self.alloc, held.job, held.step) else {
-            return Err(BoardFault::OutOfMemory);
-        };
-        let Some(task) = found else {
+        let Ok(task) = self.shelf.task(self.alloc, held.job, held.step) else {
             return Err(BoardFault::OutOfMemory);
         };
         let Ok(()) = self.jobs.resume(worker, fiber, held.job) else {

@@ -1,7 +1,7 @@
-ghost use Rattle.std.specs.Prelude.{◌≡◌, ◌<◌, IfOk, IfErr, IfSome, Some, None, true};
-ghost use Rattle.game_rules.specs.Game.{Game};
+ghost use Rattle.std.specs.Prelude.{◌≡◌, ◌<◌, length, nat_lt, position, IfOk, Some, None, []};
+ghost use Rattle.board_law.specs.Stored.{nothing, turned, with_band, parts};
+ghost use Rattle.job_board.specs.Shelf.{part_name};
 
-use super::parts::are_bands;
 use super::shown::Shown;
 use frame_params::{BandOut, DrawTask, Turn};
 use job_core::names::JobName;
@@ -9,46 +9,46 @@ use level_text::Session;
 use std::alloc::{AllocError, Global};
 use std::marker::Model;
 
-/// What came of a frame that is not shown yet: its turn, and the bands that are drawn, by number.
+/// What came of a frame that is not shown yet: its turn, and the bands that are drawn, by number. There is room for
+/// all bands.
 #[derive(Drop)]
 pub(crate) struct Drawn<'t> {
     session: &'t Session,
-    count: u32,
     turn: Option<Turn<'t>>,
     bands: Vec<BandOut<'t>>,
 }
 
 impl<'t> Model for Drawn<'t> {
-    ghost use Rattle.std.specs.Prelude.{◌≡◌, IfSome};
-    ghost use Rattle.game_rules.specs.Game.{Game};
-    ghost use Rattle.level_text.specs.GameCode.{game_code};
+    ghost use Rattle.std.specs.Prelude.{◌≤◌, map, vec_capacity};
     ghost use Rattle.frame_params.specs.Contents.{bands_in};
     ghost use Rattle.job_board.specs.Parts.{AreOfGame};
+    ghost use Rattle.job_board.specs.Shelf.{DrawnOf, IsOfGame, part_name, frame_name};
+    ghost use Rattle.job_board.specs.ShelfCode.{drawn_of_code};
 
-    ghost Value = { Game };
+    ghost Value = { DrawnOf };
 
-    ghost coded = { game_code };
+    ghost coded = { drawn_of_code };
 
-    ghost view = { λ d. d.session.now };
+    ghost view = { λ d. record { game = d.session.now; drawn = record { turn = frame_name d.turn; bands = map part_name d.bands.items } } };
 
-    ghost invariant = { λ d. AreOfGame d.session.now d.bands.items × (d.count ≡ bands_in d.session.now)
-        × IfSome d.turn (λ turn. turn.game ≡ d.session.now) };
+    ghost invariant = { λ d. AreOfGame d.session.now d.bands.items × (bands_in d.session.now ≤ vec_capacity d.bands)
+        × IsOfGame d.session.now d.turn };
 }
 
-pub(crate) fn frame_of(turn: &Turn) -> u32
-    ensures { result ≡ turn.now.frame }
+fn band_of(drawn: &BandOut) -> u32
+    ensures { result ≡ drawn.now.number }
 {
-    match turn.name() {
-        JobName::Logic { frame } => frame,
-        JobName::Think { .. } | JobName::Path { .. } | JobName::Draw { .. } => unreachable!(),
-    }
-}
-
-fn band_of(drawn: &BandOut) -> u32 {
     match drawn.name() {
         JobName::Draw { frame: _, band } => band,
-        JobName::Logic { .. } | JobName::Think { .. } | JobName::Path { .. } => 0,
+        JobName::Logic { .. } | JobName::Think { .. } | JobName::Path { .. } => unreachable!(),
     }
+}
+
+// The first place of a band further down.
+fn place_after(bands: &Vec<BandOut>, number: u32) -> Option<usize>
+    ensures { result ≡ position (λ x. nat_lt number x.number) bands.now.items }
+{
+    bands.iter().position(|other| band_of(other) > number)
 }
 
 impl<'t> Drawn<'t> {
@@ -59,110 +59,69 @@ impl<'t> Drawn<'t> {
     pub(crate) fn new(
         alloc: Global,
         session: &'t Session,
-        count: u32,
+        bands: u32,
     ) -> Result<Drawn<'t>, AllocError>
-        requires { count ≡ bands_in session.now }
-        ensures { IfOk result (λ d. d ≡ session.now) }
+        requires { bands ≡ bands_in session.now }
+        ensures { IfOk result (λ d. d ≡ record { game = session.now; drawn = nothing }) }
     {
         Ok(Drawn {
             session,
-            count,
             turn: None,
-            bands: Vec::with_capacity(alloc, count as usize)?,
+            bands: Vec::with_capacity(alloc, bands as usize)?,
         })
     }
 
+    /// Keeps the turn of a frame of which nothing is there.
     pub(crate) fn turned(&mut self, turn: Turn<'t>)
-        requires { turn.game ≡ self.old }
-        ensures { self.new ≡ self.old }
+        requires game { turn.game ≡ self.old.game }
+        requires nothing { self.old.drawn ≡ nothing }
+        ensures { self.new ≡ record self.old { drawn = turned turn.entry.frame [] } }
     {
         self.turn = Some(turn);
     }
 
-    /// Makes room for one more band.
-    pub(crate) fn reserve(&mut self) -> Result<(), AllocError>
-        ensures { self.new ≡ self.old }
-    {
-        self.bands.reserve(1)
-    }
-
-    /// Keeps a band at its place. There has to be room.
+    /// Keeps a band at its place.
     pub(crate) fn keep(&mut self, band: BandOut<'t>)
-        requires { band.game ≡ self.old }
-        ensures { self.new ≡ self.old }
+        requires game { band.game ≡ self.old.game }
+        requires room { length self.old.drawn.bands < bands_in self.old.game }
+        ensures { self.new ≡ record self.old { drawn = with_band (part_name band.entry) self.old.drawn } }
     {
-        let number = band_of(&band);
-        let at = self
-            .bands
-            .iter()
-            .position(|other| band_of(other) > number)
-            .unwrap_or(self.bands.len());
-        let _ = self.bands.insert(at, band);
+        let at = place_after(&self.bands, band_of(&band)).unwrap_or(self.bands.len());
+        let Ok(()) = self.bands.insert(at, band) else {
+            unreachable!()
+        };
     }
 
-    /// The drawing of a band of a frame, where its turn is here.
+    /// The drawing of a band of the frame whose turn is here.
     pub(crate) fn draw(
         &self,
         alloc: Global,
         frame: u32,
         band: u32,
-    ) -> Result<Option<DrawTask<'t>>, AllocError>
-        ensures { IfOk result (λ found. IfSome found (λ task. task ≡ part_of self.now frame band)) }
+    ) -> Result<DrawTask<'t>, AllocError>
+        requires turn { self.now.drawn.turn ≡ Some frame }
+        requires band { band < bands_in self.now.game }
+        ensures { IfOk result (λ task. task ≡ part_of self.now.game frame band) }
     {
-        let Some(turn) = &self.turn else {
-            return Ok(None);
-        };
-        if frame_of(turn) != frame {
-            return Ok(None);
+        match &self.turn {
+            Some(turn) => DrawTask::of(alloc, turn, band),
+            None => unreachable!(),
         }
-        if band >= self.count {
-            return Ok(None);
-        }
-        Ok(Some(DrawTask::of(alloc, turn, band)?))
     }
 
-    /// The frame to show, where its turn and all its bands are here; else all of it comes back.
-    pub(crate) fn into_shown(self, frame: u32) -> Result<Shown<'t>, Drawn<'t>>
-        ensures shown { IfOk result (λ shown. shown ≡ frame_of self.entry frame) }
-        ensures back { IfErr result (λ back. back ≡ self.entry) }
+    /// The frame to show, with its turn and all its bands.
+    pub(crate) fn into_shown(self, frame: u32) -> Shown<'t>
+        requires { self.drawn ≡ turned frame (parts frame (bands_in self.game)) }
+        ensures { result ≡ frame_of self.entry.game frame }
     {
         let Drawn {
-            session,
-            count,
+            session: _,
             turn,
             bands,
         } = self;
-        let Some(turn) = turn else {
-            return Err(Drawn {
-                session,
-                count,
-                turn: None,
-                bands,
-            });
-        };
-        if frame_of(&turn) != frame || !are_bands(&bands, frame, count) {
-            return Err(Drawn {
-                session,
-                count,
-                turn: Some(turn),
-                bands,
-            });
-        }
-        Ok(Shown { turn, bands })
-    }
-
-    /// What came of a frame that was to be shown.
-    pub(crate) fn back(session: &'t Session, count: u32, shown: Shown<'t>) -> Drawn<'t>
-        requires game { shown.game ≡ session.now }
-        requires count { count ≡ bands_in session.now }
-        ensures { result ≡ session.now }
-    {
-        let Shown { turn, bands } = shown;
-        Drawn {
-            session,
-            count,
-            turn: Some(turn),
-            bands,
+        match turn {
+            Some(turn) => Shown { turn, bands },
+            None => unreachable!(),
         }
     }
 }

@@ -5,7 +5,6 @@ mod asking;
 mod board;
 mod done;
 mod drawn;
-mod parts;
 mod results;
 mod shelf;
 mod shown;

@@ -8,6 +8,7 @@ ghost use Rattle.job_board.specs.Parked.{IsOtherParked};
 use super::board::Board;
 use super::done::{Done, Refused, agent_of, is_parked_for};
 use super::drawn::Drawn;
+use super::shelf::next_of;
 use super::shown::Shown;
 use frame_params::Parked;
 use job_log::BoardFault;
@@ -76,7 +77,7 @@ impl<'t> Board<'t> {
                 value: done,
             });
         }
-        let Ok(next) = self.shelf.prepare(self.alloc, &done) else {
+        let Ok(next) = next_of(self.alloc, &done) else {
             return Err(Refused {
                 fault: BoardFault::OutOfMemory,
                 value: done,
@@ -102,25 +103,13 @@ impl<'t> Board<'t> {
             Ok(frame) => frame,
             Err(fault) => return Err(fault),
         };
-        let bands = self.shelf.bands();
-        let Ok(empty) = Drawn::new(self.alloc, self.session, bands) else {
+        let Ok(empty) = Drawn::new(self.alloc, self.session, self.bands) else {
             return Err(BoardFault::OutOfMemory);
-        };
-        let drawn = self.shelf.exchange(frame, empty);
-        let shown = match drawn.into_shown(frame) {
-            Ok(shown) => shown,
-            Err(drawn) => {
-                let _empty = self.shelf.exchange(frame, drawn);
-                return Err(BoardFault::OutOfMemory);
-            }
         };
         let Ok(()) = self.jobs.emit(frame) else {
-            let drawn = Drawn::back(self.session, bands, shown);
-            let _empty = self.shelf.exchange(frame, drawn);
             return Err(BoardFault::OutOfMemory);
         };
-        self.shelf.clear(frame);
-        Ok(shown)
+        Ok(self.shelf.show(frame, empty))
     }
 
     /// Nothing happens any more; a second call changes nothing.

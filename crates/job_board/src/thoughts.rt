@@ -1,40 +1,49 @@
-ghost use Rattle.std.specs.Prelude.{◌≡◌, length, true, IfOk, IfSome};
+ghost use Rattle.std.specs.Prelude.{◌≡◌, ◌<◌, length, nat_lt, position, [], true, IfOk};
+ghost use Rattle.board_law.specs.Stored.{parts, put_in};
+ghost use Rattle.job_board.specs.Shelf.{part_name};
 
-use super::parts::are_thoughts;
 use frame_params::{FrameParams, LogicTask, Thought};
 use job_core::names::JobName;
 use level_text::Session;
 use std::alloc::{AllocError, Global};
 use std::marker::Model;
 
-/// What the agents thought in the frame under way, by agent number.
+/// What the agents thought in the frame under way, by agent number. There is room for the thoughts of all agents.
 #[derive(Drop)]
 pub(crate) struct Thoughts<'t> {
     session: &'t Session,
-    agents: u32,
     all: Vec<Thought<'t>>,
 }
 
 impl<'t> Model for Thoughts<'t> {
-    ghost use Rattle.std.specs.Prelude.{◌≡◌, length};
-    ghost use Rattle.game_rules.specs.Game.{Game};
-    ghost use Rattle.level_text.specs.GameCode.{game_code};
+    ghost use Rattle.std.specs.Prelude.{◌≤◌, length, map, vec_capacity};
     ghost use Rattle.job_board.specs.Parts.{AreOfGame};
+    ghost use Rattle.job_board.specs.Shelf.{PartsOf, part_name};
+    ghost use Rattle.job_board.specs.ShelfCode.{parts_of_code};
 
-    ghost Value = { Game };
+    ghost Value = { PartsOf };
 
-    ghost coded = { game_code };
+    ghost coded = { parts_of_code };
 
-    ghost view = { λ t. t.session.now };
+    ghost view = { λ t. record { game = t.session.now; parts = map part_name t.all.items } };
 
-    ghost invariant = { λ t. AreOfGame t.session.now t.all.items × (t.agents ≡ length t.session.now.trees) };
+    ghost invariant = { λ t. AreOfGame t.session.now t.all.items × (length t.session.now.trees ≤ vec_capacity t.all) };
 }
 
-fn agent_of(thought: &Thought) -> u32 {
+fn agent_of(thought: &Thought) -> u32
+    ensures { result ≡ thought.now.number }
+{
     match thought.name() {
         JobName::Think { frame: _, agent } => agent,
-        JobName::Logic { .. } | JobName::Path { .. } | JobName::Draw { .. } => 0,
+        JobName::Logic { .. } | JobName::Path { .. } | JobName::Draw { .. } => unreachable!(),
     }
+}
+
+// The first place of a later agent's thought.
+fn place_after(thoughts: &Vec<Thought>, agent: u32) -> Option<usize>
+    ensures { result ≡ position (λ x. nat_lt agent x.number) thoughts.now.items }
+{
+    thoughts.iter().position(|other| agent_of(other) > agent)
 }
 
 impl<'t> Thoughts<'t> {
@@ -47,54 +56,42 @@ impl<'t> Thoughts<'t> {
         agents: u32,
     ) -> Result<Thoughts<'t>, AllocError>
         requires { agents ≡ length session.now.trees }
-        ensures { IfOk result (λ t. t ≡ session.now) }
+        ensures { IfOk result (λ t. t ≡ record { game = session.now; parts = [] }) }
     {
         Ok(Thoughts {
             session,
-            agents,
             all: Vec::with_capacity(alloc, agents as usize)?,
         })
     }
 
     pub(crate) fn clear(&mut self)
-        ensures { self.new ≡ self.old }
+        ensures { self.new ≡ record self.old { parts = [] } }
     {
         self.all.clear();
     }
 
-    /// Makes room for one more.
-    pub(crate) fn reserve(&mut self) -> Result<(), AllocError>
-        ensures { self.new ≡ self.old }
-    {
-        self.all.reserve(1)
-    }
-
-    /// Keeps a thought at its agent's place. There has to be room.
+    /// Keeps a thought at its agent's place.
     pub(crate) fn keep(&mut self, thought: Thought<'t>)
-        requires { thought.game ≡ self.old }
-        ensures { self.new ≡ self.old }
+        requires game { thought.game ≡ self.old.game }
+        requires room { length self.old.parts < length self.old.game.trees }
+        ensures { self.new ≡ record self.old { parts = put_in (part_name thought.entry) self.old.parts } }
     {
-        let agent = agent_of(&thought);
-        let at = self
-            .all
-            .iter()
-            .position(|other| agent_of(other) > agent)
-            .unwrap_or(self.all.len());
-        let _ = self.all.insert(at, thought);
+        let at = place_after(&self.all, agent_of(&thought)).unwrap_or(self.all.len());
+        let Ok(()) = self.all.insert(at, thought) else {
+            unreachable!()
+        };
     }
 
-    /// The logic of a frame, where the thoughts of all its agents are here.
+    /// The logic of a frame, with the thoughts of all its agents.
     pub(crate) fn logic(
         &self,
         alloc: Global,
         params: &FrameParams<'t>,
-    ) -> Result<Option<LogicTask<'t>>, AllocError>
-        requires { params.now.game ≡ self.now }
-        ensures { IfOk result (λ found. IfSome found (λ task. task ≡ logic_of self.now params.now.frame true)) }
+    ) -> Result<LogicTask<'t>, AllocError>
+        requires game { params.now.game ≡ self.now.game }
+        requires all { self.now.parts ≡ parts params.now.frame (length self.now.game.trees) }
+        ensures { IfOk result (λ task. task ≡ logic_of self.now.game params.now.frame true) }
     {
-        if !are_thoughts(&self.all, params.frame(), self.agents) {
-            return Ok(None);
-        }
-        Ok(Some(LogicTask::turn(alloc, params, &self.all)?))
+        LogicTask::turn(alloc, params, &self.all)
     }
 }

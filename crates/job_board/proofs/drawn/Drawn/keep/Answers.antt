@@ -1,0 +1,10 @@
+use Rattle.std.proofs.Common.{◌≡◌, length, map, nat_lt, position, unwrap_or, sym, ap, ◌∙◌, subst}
+use Rattle.job_board.specs.Shelf.{DrawnOf, part_name, frame_name}
+use Rattle.job_board.proofs.Parting.{put_at}
+use Rattle.job_board.proofs.drawn.Drawn.keep.Goals as goal
+
+pub returns : goal.returns
+returns c =
+    let at : c.unwrap_or-at.result ≡ unwrap_or (position (λ x. nat_lt c.args.band.number x.number) c.self.inside.bands.items) (length c.self.inside.bands.items) = search rules in
+    let put = ap (map part_name) c.in-Ok.ensures.items ∙ put_at c.args.band c.self.inside.bands.items c.unwrap_or-at.result at in
+    rw (← c.self.view_is) (ap (λ l. record { game = c.self.inside.session.now; drawn = record { turn = frame_name c.self.inside.turn; bands = l } }) put)
