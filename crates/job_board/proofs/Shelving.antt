@@ -3,7 +3,8 @@ use Rattle.std.proofs.Common.{◌≡◌, ◌<◌, ◌%◌, ◌==◌, ℕ, zero, 
 use Rattle.std.specs.List.{All}
 use Rattle.game_rules.specs.Game.{Game}
 use Rattle.frame_params.specs.Names.{FrameOf, frame_of}
-use Rattle.job_board.specs.Shelf.{IsOfGame, frame_name}
+use Rattle.board_law.specs.Stored.{Asked, Drawn}
+use Rattle.job_board.specs.Shelf.{AskedOf, PartsOf, DrawnOf, Shelved, IsOfGame, frame_name, stored_as}
 
 -- ---- lists under names
 
@@ -68,3 +69,32 @@ pub all_index : {X : Type 0} (P : X → Type 0) (xs : List X) (i : ℕ) (d : X) 
 all_index P [] i d l h = absurd (omega (arith, l))
 all_index P (x ∷ xs) zero d l h = h 0 x (omega arith)
 all_index P (x ∷ xs) (suc i) d l h = all_index P xs i d (omega (arith, l)) (λ k e m. h (suc k) e (omega (arith, m)))
+
+-- ---- a shelf with something put in
+
+set_named : {X Y : Type 0} (name : X → Y) (xs : List X) (i k : ℕ) (x : X) (y : Y) → i ≡ k → name x ≡ y → map name (slice_set xs i x) ≡ slice_set (map name xs) k y
+set_named name xs i k x y e h = map_set name xs i x ∙ ap₂ (λ a b. slice_set (map name xs) a b) e h
+
+module _ (g : Game) (next : Option FrameOf) (slots : List (Option FrameOf)) (asking : List AskedOf) (thoughts : PartsOf) (drawn : List DrawnOf) where
+  abbrev pub shelved : Shelved
+  shelved = record { game = g; stored = stored_as next slots asking thoughts drawn }
+
+  pub with_asked : (i k : ℕ) (x : AskedOf) (y : Option Asked) → i ≡ k → x.asked ≡ y
+      → record { game = g; stored = stored_as next slots (slice_set asking i x) thoughts drawn } ≡ record shelved { stored = record shelved.stored { asking = slice_set shelved.stored.asking k y } }
+  with_asked i k x y e h = ap (λ l. record shelved { stored = record shelved.stored { asking = l } }) (set_named (λ (a : AskedOf). a.asked) asking i k x y e h)
+
+  pub with_drawn : (i k : ℕ) (x : DrawnOf) (y : Drawn) → i ≡ k → x.drawn ≡ y
+      → record { game = g; stored = stored_as next slots asking thoughts (slice_set drawn i x) } ≡ record shelved { stored = record shelved.stored { drawn = slice_set shelved.stored.drawn k y } }
+  with_drawn i k x y e h = ap (λ l. record shelved { stored = record shelved.stored { drawn = l } }) (set_named (λ (d : DrawnOf). d.drawn) drawn i k x y e h)
+
+  pub with_turn : (later : Option FrameOf) (f i k : ℕ) (x : DrawnOf) (y : Drawn) → frame_name later ≡ Some f → i ≡ k → x.drawn ≡ y
+      → record { game = g; stored = stored_as later slots asking thoughts (slice_set drawn i x) } ≡ record shelved { stored = record shelved.stored { next = Some f; drawn = slice_set shelved.stored.drawn k y } }
+  with_turn later f i k x y n e h = ap₂ (λ m l. record shelved { stored = record shelved.stored { next = m; drawn = l } }) n (set_named (λ (d : DrawnOf). d.drawn) drawn i k x y e h)
+
+  pub with_frame : (p : FrameOf) (f i k : ℕ) (t : PartsOf) → p.frame ≡ f → i ≡ k → t.parts ≡ []
+      → record { game = g; stored = stored_as None (slice_set slots i (Some p)) asking t drawn } ≡ record shelved { stored = record shelved.stored { next = None; slots = slice_set shelved.stored.slots k (Some f); thoughts = [] } }
+  with_frame p f i k t n e h = ap₂ (λ l m. record shelved { stored = record shelved.stored { next = None; slots = l; thoughts = m } }) (set_named frame_name slots i k (Some p) (Some f) e (ap Some n)) h
+
+  pub shown : (i j k : ℕ) (x : DrawnOf) (y : Drawn) → i ≡ k → j ≡ k → x.drawn ≡ y
+      → record { game = g; stored = stored_as next (slice_set slots i None) asking thoughts (slice_set drawn j x) } ≡ record shelved { stored = record shelved.stored { slots = slice_set shelved.stored.slots k None; drawn = slice_set shelved.stored.drawn k y } }
+  shown i j k x y e d h = ap₂ (λ l m. record shelved { stored = record shelved.stored { slots = l; drawn = m } }) (set_named frame_name slots i k None None e refl) (set_named (λ (d : DrawnOf). d.drawn) drawn j k x y d h)

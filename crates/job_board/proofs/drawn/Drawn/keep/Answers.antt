@@ -1,4 +1,4 @@
-use Rattle.std.proofs.Common.{◌≡◌, length, map, nat_lt, position, unwrap_or, sym, ap, ◌∙◌, subst}
+use Rattle.std.proofs.Common.{rules, ◌≡◌, length, map, nat_lt, position, unwrap_or, sym, ap, ◌∙◌, subst}
 use Rattle.job_board.specs.Shelf.{DrawnOf, part_name, frame_name}
 use Rattle.job_board.proofs.Parting.{put_at}
 use Rattle.job_board.proofs.drawn.Drawn.keep.Goals as goal
