@@ -1,10 +1,12 @@
 -- What a shelf keeps, under its names.
-use Rattle.std.proofs.Common.{◌≡◌, ◌<◌, ◌%◌, ◌==◌, ℕ, zero, suc, Bool, true, false, List, [], ◌∷◌, Option, Some, None, length, map, replicate, slice_get, slice_set, slice_index_or, option_map, refl, sym, ap, ap₂, ◌∙◌, subst, arith}
+use Rattle.std.proofs.Common.{rules, ◌≡◌, ◌<◌, ◌%◌, ◌==◌, ℕ, zero, suc, Bool, true, false, List, [], ◌∷◌, Option, Some, None, length, map, replicate, slice_get, slice_set, slice_index_or, option_map, refl, sym, ap, ap₂, ◌∙◌, subst, arith}
 use Rattle.std.specs.List.{All}
 use Rattle.game_rules.specs.Game.{Game}
 use Rattle.frame_params.specs.Names.{FrameOf, frame_of}
-use Rattle.board_law.specs.Stored.{Asked, Drawn}
-use Rattle.job_board.specs.Shelf.{AskedOf, PartsOf, DrawnOf, Shelved, IsOfGame, frame_name, stored_as}
+use Rattle.board_law.specs.Stored.{Asked, Drawn, nothing, stored_first}
+use Rattle.board_law.proofs.Places.{length_replicate}
+use Rattle.frame_params.specs.Slots.{cleared}
+use Rattle.job_board.specs.Shelf.{AskedOf, PartsOf, DrawnOf, Shelved, IsOfGame, frame_name, stored_as, sizes}
 
 -- ---- lists under names
 
@@ -98,3 +100,22 @@ module _ (g : Game) (next : Option FrameOf) (slots : List (Option FrameOf)) (ask
   pub shown : (i j k : ℕ) (x : DrawnOf) (y : Drawn) → i ≡ k → j ≡ k → x.drawn ≡ y
       → record { game = g; stored = stored_as next (slice_set slots i None) asking thoughts (slice_set drawn j x) } ≡ record shelved { stored = record shelved.stored { slots = slice_set shelved.stored.slots k None; drawn = slice_set shelved.stored.drawn k y } }
   shown i j k x y e d h = ap₂ (λ l m. record shelved { stored = record shelved.stored { slots = l; drawn = m } }) (set_named frame_name slots i k None None e refl) (set_named (λ (d : DrawnOf). d.drawn) drawn j k x y d h)
+
+-- ---- the first of all, and a slot that is freed
+
+pub first_is : (g : Game) (slots agents : ℕ) → agents ≡ length g.trees
+    → stored_as (Some (frame_of g 1)) (replicate slots None) (replicate agents (record { game = g; asked = None })) (record { game = g; parts = [] }) (replicate slots (record { game = g; drawn = nothing }))
+    ≡ stored_first (sizes (record { game = g; stored = stored_as (Some (frame_of g 1)) (replicate slots None) (replicate agents (record { game = g; asked = None })) (record { game = g; parts = [] }) (replicate slots (record { game = g; drawn = nothing })) }))
+first_is g slots agents e =
+    let many : length (map frame_name (replicate slots None)) ≡ slots = map_length frame_name (replicate slots None) ∙ length_replicate slots None in
+    ap₂ (λ l (m : List (Option Asked) × List Drawn). record { next = Some 1; slots = l; asking = m.0; thoughts = []; drawn = m.1 })
+    (map_replicate frame_name slots None ∙ ap (λ n. replicate n None) (sym many))
+    (ap₂ (λ x y. (x, y))
+    (map_replicate (λ (a : AskedOf). a.asked) agents (record { game = g; asked = None }) ∙ ap (λ n. replicate n None) e)
+    (map_replicate (λ (d : DrawnOf). d.drawn) slots (record { game = g; drawn = nothing }) ∙ ap (λ n. replicate n nothing) (sym many)))
+
+pub cleared_is : (xs : List (Option FrameOf)) (g : Game) (f : ℕ) → All (IsOfGame g) xs → slice_get (map frame_name xs) (f % length (map frame_name xs)) ≡ Some (Some f) → cleared xs f ≡ slice_set xs (f % length xs) None
+cleared_is xs g f h e =
+    let s = slot_is xs (f % length xs) g f h (subst (λ n. slice_get (map frame_name xs) (f % n) ≡ Some (Some f)) (map_length frame_name xs) e) in
+    let same : (f == f) ≡ true = search rules in
+    rw (s, same) refl

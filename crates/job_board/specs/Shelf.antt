@@ -6,8 +6,8 @@ use Rattle.game_rules.specs.Game.{Game}
 use Rattle.job_core.specs.declared.names.Event.{Event}
 use Rattle.job_core.specs.declared.names.Event.TheVariants.{Finish}
 use Rattle.job_core.specs.Core.{Setup, State}
-use Rattle.board_law.specs.Stored.{Part, Asked, Drawn, Stored, part, asked, store}
-use Rattle.board_law.specs.Needed.{HasPlaces, IsThere}
+use Rattle.board_law.specs.Stored.{Part, Asked, Drawn, Stored, part, asked, nothing, store}
+use Rattle.board_law.specs.Needed.{IsAsked}
 use Rattle.frame_params.specs.Names.{FrameOf, PartOf, QuestionOf, frame_of}
 use Rattle.frame_params.specs.Contents.{bands_in}
 use Rattle.job_board.specs.Dones.{job_done}
@@ -79,14 +79,12 @@ pub record IsShelf (g : Game) (next : Option FrameOf) (slots : List (Option Fram
 abbrev pub Stores : (old new : Shelved) → State → Event → Type 0
 Stores old new st e = new ≡ record old { stored = store (sizes old) st old.stored e }
 
--- there is a place for what a job came to
-abbrev pub HasRoom : Shelved → Done → Type 0
-HasRoom k (Thought t) = length k.stored.thoughts < length k.game.trees
-HasRoom k (BandDrawn b) = IsSomeAnd (slice_get k.stored.drawn (b.frame % length k.stored.slots)) (λ d. length d.bands < bands_in k.game)
-HasRoom k done = Unit {0}
-
+-- what is kept of a job has its place, and that is free
 abbrev pub IsWanted : Shelved → Done → Type 0
-IsWanted k done = ((st : State) (w : ℕ) → IsThere (sizes k) st k.stored (Finish w (job_done done))) × HasRoom k done
+IsWanted k (Turned t) = slice_get k.stored.drawn (t.frame % length k.stored.slots) ≡ Some nothing
+IsWanted k (Thought t) = length k.stored.thoughts < length k.game.trees
+IsWanted k (Way w) = IsAsked k.stored w.frame w.agent w.question false
+IsWanted k (BandDrawn b) = IsSomeAnd (slice_get k.stored.drawn (b.frame % length k.stored.slots)) (λ d. length d.bands < bands_in k.game)
 
 -- the frame whose parameters are made of it
 abbrev pub next_done : Done → Option FrameOf

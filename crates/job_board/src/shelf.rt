@@ -4,7 +4,7 @@ ghost use Rattle.std.specs.Option.{IsSomeAnd};
 ghost use Rattle.job_core.specs.Core.{State};
 ghost use Rattle.job_core.specs.declared.names.Event.TheVariants.{Spread, Finish, Emit};
 ghost use Rattle.job_core.specs.declared.names.JobName.TheVariants.{Logic, Path, Draw};
-ghost use Rattle.board_law.specs.Stored.{stored_first, asked, nothing};
+ghost use Rattle.board_law.specs.Stored.{stored_first, asked, nothing, turned, parts};
 ghost use Rattle.board_law.specs.Needed.{HasParts, IsThere, IsInSlot, IsAsked};
 ghost use Rattle.frame_params.specs.Names.{frame_of};
 ghost use Rattle.frame_params.specs.Contents.{bands_in};
@@ -294,7 +294,8 @@ impl<'t> Shelf<'t> {
     /// Takes out a frame that is shown; nothing stands in its place.
     pub(crate) fn show(&mut self, frame: u32, empty: Drawn<'t>) -> Shown<'t>
         requires empty { empty ≡ record { game = self.old.game; drawn = nothing } }
-        requires there { (st : State) → IsThere (sizes self.old) st self.old.stored (Emit frame) }
+        requires slot { IsInSlot (sizes self.old) self.old.stored frame }
+        requires drawn { slice_get self.old.stored.drawn (frame % length self.old.stored.slots) ≡ Some (turned frame (parts frame (bands_in self.old.game))) }
         ensures shown { result ≡ frame_of self.old.game frame }
         ensures stored { (st : State) → Stores self.old self.new st (Emit frame) }
     {
