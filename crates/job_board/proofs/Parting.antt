@@ -1,5 +1,5 @@
 -- Parts by their names, and in the order of their numbers.
-use Rattle.std.proofs.Common.{◌≡◌, ◌<◌, ◌≤◌, ◌+◌, ℕ, zero, suc, Bool, not, cond, nat_lt, List, [], ◌∷◌, Some, None, length, map, get_or, position, unwrap_or, refl, sym, ap, ap₂, ◌∙◌, subst, arith}
+use Rattle.std.proofs.Common.{◌≡◌, ◌≤◌, ◌+◌, ℕ, zero, suc, Bool, not, cond, nat_lt, List, [], ◌∷◌, Some, None, length, map, get_or, position, unwrap_or, refl, sym, ap, ◌∙◌, arith}
 use Rattle.std.specs.List.{insert, position_or_len, range_with_len}
 use Rattle.job_core.proofs.ByCases.{by_lt}
 use Rattle.board_law.proofs.Kit.{by_bool}

@@ -1,5 +1,5 @@
 -- What a shelf keeps, under its names.
-use Rattle.std.proofs.Common.{rules, ◌≡◌, ◌<◌, ◌%◌, ◌==◌, ℕ, zero, suc, Bool, true, false, List, [], ◌∷◌, Option, Some, None, length, map, replicate, slice_get, slice_set, slice_index_or, option_map, refl, sym, ap, ap₂, ◌∙◌, subst, arith}
+use Rattle.std.proofs.Common.{rules, ◌≡◌, ◌<◌, ◌%◌, ◌==◌, ℕ, zero, suc, true, List, [], ◌∷◌, Option, Some, None, length, map, replicate, slice_get, slice_set, slice_index_or, refl, sym, ap, ap₂, ◌∙◌, subst, arith}
 use Rattle.std.specs.List.{All}
 use Rattle.game_rules.specs.Game.{Game}
 use Rattle.frame_params.specs.Names.{FrameOf, frame_of}

@@ -1,16 +1,14 @@
 -- What is kept of the frames under way: all of one game, and by the names that the board's law gives it.
-use Rattle.std.specs.Prelude.{◌≡◌, ◌≤◌, ◌<◌, ◌+◌, ◌%◌, ◌^◌, ℕ, zero, Bool, true, false, List, Option, Some, None, IfSome, length, map, option_map, is_some, slice_get}
+use Rattle.std.specs.Prelude.{◌≡◌, ◌<◌, ◌+◌, ◌%◌, ◌^◌, ℕ, Bool, false, List, Option, Some, None, IfSome, length, map, option_map, slice_get}
 use Rattle.std.specs.List.{All}
 use Rattle.std.specs.Option.{IsSomeAnd}
 use Rattle.game_rules.specs.Game.{Game}
 use Rattle.job_core.specs.declared.names.Event.{Event}
-use Rattle.job_core.specs.declared.names.Event.TheVariants.{Finish}
 use Rattle.job_core.specs.Core.{Setup, State}
 use Rattle.board_law.specs.Stored.{Part, Asked, Drawn, Stored, part, asked, nothing, store}
 use Rattle.board_law.specs.Needed.{IsAsked}
 use Rattle.frame_params.specs.Names.{FrameOf, PartOf, QuestionOf, frame_of}
 use Rattle.frame_params.specs.Contents.{bands_in}
-use Rattle.job_board.specs.Dones.{job_done}
 use Rattle.job_board.specs.declared.done.Done.{Done}
 use Rattle.job_board.specs.declared.done.Done.TheVariants.{Turned, Thought, Way, Drawn as BandDrawn}
 
