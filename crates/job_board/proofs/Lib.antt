@@ -2,3 +2,4 @@ pub mod Parting
 pub mod Shelving
 pub mod Boarding
 pub mod Tasked
+pub mod Sized
