@@ -25,13 +25,17 @@ use Rattle.frame_params.specs.Contents.{questions_in, seen, memory_before, world
 use Rattle.job_board.specs.Dones.{game_done, job_done, IsDoneAt}
 use Rattle.job_board.specs.declared.done.Done.{Done}
 use Rattle.job_board.specs.declared.done.Done.TheVariants.{Turned, Thought, Way, Drawn}
+use Rattle.board_law.specs.Stored.{store}
+use Rattle.job_machine.specs.Numbers.{IsWithinLimits}
+use Rattle.job_board.specs.Shelf.{Shelved, Stores, sizes}
+use Rattle.job_board.proofs.Sized.{shelf_of, stored_next}
 use Rattle.job_board.proofs.Tasked.{job_is}
 
 -- as a board sees itself
 abbrev pub seen_as : Game → Logged → Played
 seen_as g jobs = record { game = g; numbers = jobs.numbers; events = jobs.events }
 
-module _ (g : Game) (jobs : Logged) (shelf : Game) (k : IsBoard (seen_as g jobs) jobs shelf) where
+module _ (g : Game) (jobs : Logged) (shelf : Shelved) (k : IsBoard (seen_as g jobs) jobs shelf) where
   -- what the jobs tell of a state holds of the board's
   pub known : (fact : Setup → State → Type 0) → Always jobs fact → fact (setup_in (seen_as g jobs)) (state_in (seen_as g jobs))
   known fact a = subst (λ v. Always v fact) k.jobs_are a (asked_in g) k.lawful
@@ -40,12 +44,16 @@ module _ (g : Game) (jobs : Logged) (shelf : Game) (k : IsBoard (seen_as g jobs)
   next e l = subst (λ v. IsNext v e) (sym k.jobs_are) (record { questions = asked_in g; lawful = k.lawful; legal = l })
 
   module _ (e : Event) (l : IsLegal (setup_in (seen_as g jobs)) (state_in (seen_as g jobs)) e) (later : Logged) (j : later ≡ jobs_with_event jobs e) where
-    pub kept_after : (new : Game) → new ≡ shelf → IsBoard (seen_as g later) later new
+    pub kept_after : (new : Shelved) → Stores shelf new (state_in (seen_as g jobs)) e → IsBoard (seen_as g later) later new
     kept_after new s =
         record {
           jobs_are = j ∙ (ap (λ v. jobs_with_event v e) k.jobs_are ∙ ap (λ v. jobs_of (seen_as g v)) (sym j));
-          shelf_is = s ∙ k.shelf_is;
+          shelf_is =
+              s
+              ∙ (ap (λ v. record v { stored = store (sizes v) (state_in (seen_as g jobs)) v.stored e }) k.shelf_is
+              ∙ (stored_next (seen_as g jobs) k.lawful k.within.a_slot e ∙ ap (λ v. shelf_of (seen_as g v)) (sym j)));
           lawful = subst (λ v. IsLegalList (setup_in (seen_as g v)) v.events) (sym j) (legal_more (setup_in (seen_as g jobs)) jobs.events e k.lawful l);
+          within = subst (λ v. IsWithinLimits v.numbers.frames v.numbers.workers v.numbers.fibers v.numbers.slots) (sym j) k.within;
         }
 
     pub happens : Happens (seen_as g jobs) (seen_as g later) e
@@ -129,7 +137,7 @@ idle_or b w WrongResult h = absurd h
 idle_or b w Illegal h = absurd h
 idle_or b w OutOfMemory h = absurd h
 
-module _ (g : Game) (jobs : Logged) (shelf : Game) (k : IsBoard (seen_as g jobs) jobs shelf) where
+module _ (g : Game) (jobs : Logged) (shelf : Shelved) (k : IsBoard (seen_as g jobs) jobs shelf) where
   pub known_of : (fact : Logged → (ℕ → ℕ → ℕ) → Type 0) → ((q : ℕ → ℕ → ℕ) → IsLegalList (setup_of jobs q) jobs.events → fact jobs q) → fact (jobs_of (seen_as g jobs)) (asked_in g)
   known_of fact a = subst (λ v. (q : ℕ → ℕ → ℕ) → IsLegalList (setup_of v q) v.events → fact v q) k.jobs_are a (asked_in g) k.lawful
 

@@ -1,6 +1,7 @@
 ghost use Rattle.std.specs.Prelude.{◌≡◌, ℕ, IfOk, IfErr, OnOk, OnErr, true, false, []};
 ghost use Rattle.job_core.specs.declared.names.JobName.TheVariants.{Logic};
 ghost use Rattle.job_core.specs.declared.names.Event.TheVariants.{Spread, Hold};
+ghost use Rattle.frame_params.specs.Contents.{bands_in};
 ghost use Rattle.job_core.specs.Core.{IsLegalList, IsComplete};
 ghost use Rattle.job_core.specs.declared.names.Event.{Event};
 ghost use Rattle.job_core.specs.declared.names.JobName.{JobName};
@@ -23,8 +24,6 @@ use std::marker::Model;
 pub struct Board<'t> {
     pub(crate) session: &'t Session,
     pub(crate) alloc: Global,
-    // How many bands each frame has.
-    pub(crate) bands: u32,
     pub(crate) jobs: JobLog,
     pub(crate) shelf: Shelf<'t>,
 }
@@ -32,8 +31,6 @@ pub struct Board<'t> {
 impl<'t> Model for Board<'t> {
     ghost use Rattle.job_board.specs.Boards.{Played, IsBoard};
     ghost use Rattle.job_board.specs.BoardCode.{played_code};
-    ghost use Rattle.frame_params.specs.Contents.{bands_in};
-    ghost use Rattle.std.specs.Prelude.{◌≡◌};
 
     ghost Value = { Played };
 
@@ -41,7 +38,14 @@ impl<'t> Model for Board<'t> {
 
     ghost view = { λ b. record { game = b.session.now; numbers = b.jobs.numbers; events = b.jobs.events } };
 
-    ghost invariant = { λ b. IsBoard (record { game = b.session.now; numbers = b.jobs.numbers; events = b.jobs.events }) b.jobs b.shelf × (b.bands ≡ bands_in b.session.now) };
+    ghost invariant = { λ b. IsBoard (record { game = b.session.now; numbers = b.jobs.numbers; events = b.jobs.events }) b.jobs b.shelf };
+}
+
+// How many bands each frame has.
+pub(crate) fn bands_of(session: &Session) -> u32
+    ensures { result ≡ bands_in session.now }
+{
+    session.world().height().div_ceil(BAND_ROWS)
 }
 
 impl<'t> Board<'t> {
@@ -55,7 +59,7 @@ impl<'t> Board<'t> {
     {
         let world = session.world();
         let agents = world.agents().len() as u32;
-        let bands = world.height().div_ceil(BAND_ROWS);
+        let bands = bands_of(session);
         let Ok(shelf) = Shelf::new(alloc, session, settings.slots(), agents, bands) else {
             return Err(OutOfMemory);
         };
@@ -64,7 +68,6 @@ impl<'t> Board<'t> {
         Ok(Board {
             session,
             alloc,
-            bands,
             jobs,
             shelf,
         })

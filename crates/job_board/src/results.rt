@@ -5,7 +5,7 @@ ghost use Rattle.job_board.specs.Boards.{Happens, IsRefused, IsEmitRefused, IsSh
 ghost use Rattle.job_board.specs.Dones.{job_done, IsOtherDone};
 ghost use Rattle.job_board.specs.Parked.{IsOtherParked};
 
-use super::board::Board;
+use super::board::{Board, bands_of};
 use super::done::{Done, Refused, agent_of, is_parked_for};
 use super::drawn::Drawn;
 use super::shelf::next_of;
@@ -103,7 +103,7 @@ impl<'t> Board<'t> {
             Ok(frame) => frame,
             Err(fault) => return Err(fault),
         };
-        let Ok(empty) = Drawn::new(self.alloc, self.session, self.bands) else {
+        let Ok(empty) = Drawn::new(self.alloc, self.session, bands_of(self.session)) else {
             return Err(BoardFault::OutOfMemory);
         };
         let Ok(()) = self.jobs.emit(frame) else {

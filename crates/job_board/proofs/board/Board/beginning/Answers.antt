@@ -1,10 +1,9 @@
-use Rattle.std.proofs.Common.{◌≡◌, Ok, Err, ℕ, sym, ap, ◌∙◌, arith}
+use Rattle.std.proofs.Common.{◌≡◌, Ok, Err, sym, ap, ◌∙◌, arith}
 use Rattle.board_law.specs.Board.{Held}
 use Rattle.job_core.specs.declared.names.JobName.TheVariants.{Logic}
 use Rattle.job_core.specs.Core.{Runs}
 use Rattle.job_log.specs.Looks.{IsRunning}
-use Rattle.job_board.specs.Boards.{IsBeginning, state_in}
-use Rattle.job_board.specs.contracts.board.Board.{the_view}
+use Rattle.job_board.specs.Boards.{state_in}
 use Rattle.job_board.proofs.Boarding.{known, not_running, not_a_logic, not_at_start, seen_as}
 use Rattle.job_board.specs.Boards.{NoOther}
 use Rattle.job_board.proofs.board.Board.beginning.Goals as goal
