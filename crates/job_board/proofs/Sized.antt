@@ -18,7 +18,7 @@ same_parts : (s t : Setup) → s.slots ≡ t.slots → s.agents ≡ t.agents →
 same_parts s t x y z k (Logic f) zero h = tt
 same_parts s t x y z k (Logic f) (suc n) h = (subst (λ m. slice_get k.slots (f % m) ≡ Some (Some f)) x h.0, h.1 ∙ ap (parts f) y)
 same_parts s t x y z k (Think f a) zero h = (subst (λ m. slice_get k.slots (f % m) ≡ Some (Some f)) x h.0, subst (λ m. a < m) y h.1)
-same_parts s t x y z k (Think f a) (suc i) h = (subst (λ m. slice_get k.slots (f % m) ≡ Some (Some f)) x h.0, subst (λ m. a < m) y h.1.0, h.1.1)
+same_parts s t x y z k (Think f a) (suc i) h = (subst (λ m. slice_get k.slots (f % m) ≡ Some (Some f)) x h.0, subst (λ m. a < m) y h.1, h.2)
 same_parts s t x y z k (Path f a i) n h = (subst (λ m. slice_get k.slots (f % m) ≡ Some (Some f)) x h.0, h.1)
 same_parts s t x y z k (Draw f b) n h = (subst (λ m. IsSomeAnd (slice_get k.drawn (f % m)) (λ d. (d.turn ≡ Some f) × Unit {0})) x h.0, subst (λ m. b < m) z h.1)
 
@@ -51,7 +51,7 @@ module _ (b : Played) (lawful : IsLegalList (setup_in b) b.events) (some : 0 < b
   as_many_slots = (places_are (setup_in b) b.events some lawful).0
 
   pub as_many_asking : length (shelf_of b).stored.asking ≡ length b.game.trees
-  as_many_asking = (places_are (setup_in b) b.events some lawful).1.0
+  as_many_asking = (places_are (setup_in b) b.events some lawful).1
 
   pub needed : (e : Event) → IsLegal (setup_in b) (state_in b) e → IsThere (setup_in b) (state_in b) (shelf_of b).stored e
   needed e l = needed_is_there (setup_in b) b.events e some lawful l
