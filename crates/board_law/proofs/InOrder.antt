@@ -1,5 +1,5 @@
 -- The parts of a frame that are done, in the order of their numbers: where one more is put in, where none is, and where all are.
-use Rattle.std.proofs.Common.{◌≡◌, ◌≤◌, ◌<◌, ℕ, zero, suc, ◌+◌, Bool, true, false, ◌==◌, List, [], ◌∷◌, ◌++◌, if◌then◌else◌, map, refl, sym, ap, ap₂, ◌∙◌, subst, ⊎_elim, arith}
+use Rattle.std.proofs.Common.{◌≡◌, ◌≤◌, ◌<◌, ℕ, zero, suc, ◌+◌, Bool, true, false, ◌==◌, List, [], ◌∷◌, ◌++◌, if◌then◌else◌, length, map, refl, sym, ap, ap₂, ◌∙◌, subst, ⊎_elim, arith}
 use Rattle.std.specs.List.{range_with_len}
 use Rattle.std.proofs.lemmas.Bool.{cases_eq}
 use Rattle.std.proofs.lemmas.List.FromFn.{map-range_with_len_more}
@@ -109,3 +109,24 @@ among_missing f (suc n) a e z = has_append (λ p. p.number == a) (among f n e) (
     one : (m : ℕ) → e n ≡ m → has (λ p. p.number == a) (single m (part f n)) ≡ false
     one zero q = refl
     one (suc m) q = by_eq n a (λ b. (if b then true else false) ≡ false) (λ d. let x : e n ≡ 0 = ap e d ∙ z in absurd (omega arith)) (λ d. refl)
+
+-- ---- how many there are
+
+single_adds : (ps : List Part) (m : ℕ) (p : Part) → length (ps ++ single m p) ≤ suc (length ps)
+single_adds [] zero p = omega arith
+single_adds [] (suc m) p = omega arith
+single_adds (q ∷ ps) m p = let h = single_adds ps m p in omega arith
+
+among_within : (f n : ℕ) (e : ℕ → ℕ) → length (among f n e) ≤ n
+among_within f zero e = omega arith
+among_within f (suc n) e = let h = among_within f n e in let one = single_adds (among f n e) (e n) (part f n) in omega arith
+
+pub among_short : (f n a : ℕ) (e : ℕ → ℕ) → a < n → e a ≡ 0 → length (among f n e) < n
+among_short f zero a e l z = absurd (omega arith)
+among_short f (suc n) a e l z = ⊎_elim
+    (λ q. let none : e n ≡ 0 = ap e (sym q) ∙ z in
+    let short = among_within f n e in
+    let same : length (among f n e ++ single (e n) (part f n)) ≡ length (among f n e) = ap (λ m. length (among f n e ++ single m (part f n))) none ∙ ap length (append_nil (among f n e)) in
+    omega arith)
+    (λ ne. let short = among_short f n a e (omega arith) z in let one = single_adds (among f n e) (e n) (part f n) in omega arith)
+    (cases_eq a n)

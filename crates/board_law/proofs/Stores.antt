@@ -1,5 +1,5 @@
 -- What each legal event needs is stored, by induction on the log.
-use Rattle.std.proofs.Common.{◌≡◌, ◌<◌, ℕ, zero, suc, ◌-◌, ◌%◌, ◌∷◌, ◌++◌, List, [], Some, None, replicate, slice_get, slice_set, if◌then◌else◌, refl, sym, ap, ◌∙◌, subst, ⊎_elim, arith}
+use Rattle.std.proofs.Common.{◌≡◌, ◌<◌, ℕ, zero, suc, ◌-◌, ◌%◌, ◌∷◌, ◌++◌, List, [], Some, None, length, replicate, slice_get, slice_set, if◌then◌else◌, refl, sym, ap, ◌∙◌, subst, ⊎_elim, arith}
 use Rattle.std.proofs.lemmas.Bool.{cases_lt}
 use Rattle.std.proofs.Math.Nat.{mod-lt}
 use Rattle.std.specs.Option.{IsSomeAnd}
@@ -22,7 +22,7 @@ use Rattle.board_law.proofs.Fit.{step_fits}
 use Rattle.board_law.proofs.Needs.{slot_free}
 use Rattle.board_law.proofs.Opening.{opening_fits}
 use Rattle.board_law.proofs.Places.{length_replicate, get_first, get_at}
-use Rattle.board_law.proofs.InOrder.{among, among_all, among_missing}
+use Rattle.board_law.proofs.InOrder.{among, among_all, among_missing, among_short}
 use Rattle.board_law.proofs.Kept.{Kept, IsBefore, IsOpen, is_over, bands_in, drawn_once, drawn_in, open_of_think, open_of_wait, think_of_path, logic_of_draw, unshown_of_draw, open_shown, done_shown, in_slot}
 use Rattle.board_law.proofs.Storing.{starts, resumes, holds, stops, spreads, asks, path_ends, think_ends}
 use Rattle.board_law.proofs.Showing.{logic_ends, draw_ends, emits}
@@ -110,13 +110,17 @@ module _ (s : Setup) (st : State) (inv : Shape s st) (k : Stored) (g : Kept s k 
       g.drawn (f % s.slots) (mod-lt f p) ∙ ap Some (ap (drawn_in s st) (fit.full f (open_shown s st inv f (subst IsOpen (sym q) tt))) ∙ ap (λ n. drawn_once n f (bands_in s st f)) (ap ended q))
   event_there (Finish w (Think f a)) m free =
       let q : st.phase (Think f a) ≡ Runs w m.0 = m.1 in
-      subst (IsMissing a) (sym (g.thoughts f (open_of_think s st inv f a (λ y. cc) (λ y. cc)))) (among_missing f s.agents a (λ c. ended (st.phase (Think f c))) (ap ended q))
+      let v : IsJob s (Think f a) = there s st inv (Think f a) (λ y. cc) in
+      subst (λ ps. IsMissing a ps × (length ps < s.agents)) (sym (g.thoughts f (open_of_think s st inv f a (λ y. cc) (λ y. cc))))
+      (among_missing f s.agents a (λ c. ended (st.phase (Think f c))) (ap ended q), among_short f s.agents a (λ c. ended (st.phase (Think f c))) v.1 (ap ended q))
   event_there (Finish w (Path f a i)) m free =
       let q : st.phase (Path f a i) ≡ Runs w m.0 = m.1 in
       subst (λ x. IsAsked k f a i (is_over (ended x))) q (g.asking f a i (think_of_path s st inv f a i (λ y. cc) (λ y. cc)))
   event_there (Finish w (Draw f b)) m free =
       let q : st.phase (Draw f b) ≡ Runs w m.0 = m.1 in
-      has_turn f (IsMissing b) (logic_of_draw s st inv f b (λ y. cc)) (unshown_of_draw s st inv f b (λ y. cc) (λ y. cc)) (among_missing f s.bands b (λ c. ended (st.phase (Draw f c))) (ap ended q))
+      let v : IsJob s (Draw f b) = there s st inv (Draw f b) (λ y. cc) in
+      has_turn f (λ bands. IsMissing b bands × (length bands < s.bands)) (logic_of_draw s st inv f b (λ y. cc)) (unshown_of_draw s st inv f b (λ y. cc) (λ y. cc))
+      (among_missing f s.bands b (λ c. ended (st.phase (Draw f c))) (ap ended q), among_short f s.bands b (λ c. ended (st.phase (Draw f c))) v.1 (ap ended q))
   event_there (Emit f) m free =
       let l : st.emitted < f = let e : f ≡ suc st.emitted = m.0 in omega arith in (
         in_slot s st inv k fit f (done_shown s st inv f m.2 l),

@@ -41,9 +41,9 @@ IsThere s st k (Resume w j) = HasParts s k j (step_of (st.phase j))
 IsThere s st k (Spread w (Logic f)) = (k.next ≡ Some f) × (slice_get k.slots (f % s.slots) ≡ Some None)
 IsThere s st k (Ask w (Think f a)) = a < length k.asking
 IsThere s st k (Finish w (Logic f)) = slice_get k.drawn (f % s.slots) ≡ Some nothing
-IsThere s st k (Finish w (Think f a)) = IsMissing a k.thoughts
+IsThere s st k (Finish w (Think f a)) = IsMissing a k.thoughts × (length k.thoughts < s.agents)
 IsThere s st k (Finish w (Path f a i)) = IsAsked k f a i false
-IsThere s st k (Finish w (Draw f b)) = HasTurn s k f (IsMissing b)
+IsThere s st k (Finish w (Draw f b)) = HasTurn s k f (λ bands. IsMissing b bands × (length bands < s.bands))
 IsThere s st k (Emit f) = IsInSlot s k f × (slice_get k.drawn (f % s.slots) ≡ Some (turned f (parts f s.bands)))
 IsThere s st k _ = Unit {0}
 

@@ -1,15 +1,16 @@
-ghost use Rattle.std.specs.Prelude.{◌≡◌, ◌≤◌, ◌<◌, ◌+◌, ℕ, IfOk, true, false, option_map, not};
-ghost use Rattle.job_core.specs.Core.{IsLegalList, IsComplete};
+ghost use Rattle.std.specs.Prelude.{◌≡◌, ◌≤◌, ◌<◌, ◌+◌, ℕ, IfOk, IfSome, None, true, false, option_map, not};
+ghost use Rattle.job_core.specs.Core.{Waits, IsIdle, IsLegal, IsLegalList};
 ghost use Rattle.board_law.specs.Lists.{tally, first_place};
 ghost use Rattle.board_law.specs.Board.{holds};
 ghost use Rattle.board_law.specs.Pick.{pick};
 ghost use Rattle.job_log.specs.Logged.{setup_of, kept, reached};
-ghost use Rattle.job_log.specs.Looks.{Always, IsRunning, IsGivenTo, IsToShow, as_pick};
+ghost use Rattle.job_log.specs.Looks.{Always, IsOn, IsRunning, IsGivenTo, IsToShow, IsPlace, as_pick};
 
 use super::fault::BoardFault;
 use super::jobs::JobLog;
 use super::next::Next;
-use job_machine::{Held, Pick};
+use job_core::names::{Event, JobName};
+use job_machine::{Fiber, Held, Pick, fibers_wanted};
 
 // What may happen next. None of these takes memory.
 impl JobLog {
@@ -34,6 +35,8 @@ impl JobLog {
         ensures given { Always self.now (IsGivenTo worker result) }
         ensures picked { IfOk result (λ given. (questions : ℕ → ℕ → ℕ) → IsLegalList (setup_of self.now questions) self.now.events
             → option_map as_pick given ≡ pick (tally not (kept self.now questions).seats.taken) (kept self.now questions).queues) }
+        ensures place { IfOk result (λ given. (questions : ℕ → ℕ → ℕ) → IsLegalList (setup_of self.now questions) self.now.events
+            → IsPlace (kept self.now questions) given) }
     {
         if self.machine.is_stopped() {
             return Err(BoardFault::Stopped);
@@ -59,6 +62,61 @@ impl JobLog {
         }
     }
 
+    // Whether a worker is there and idle, and nothing is stopped.
+    fn is_free(&self, worker: u32) -> bool
+        ensures yes { result ≡ true → Always self.now (λ s st. IsOn s st worker × IsIdle st worker) }
+        ensures no { result ≡ false → Always self.now (λ s st. IsOn s st worker → IsIdle st worker → ⊥) }
+    {
+        if self.machine.is_stopped() {
+            return false;
+        }
+        if worker >= self.settings.workers() {
+            return false;
+        }
+        if self.machine.runs(worker).is_some() {
+            return false;
+        }
+        true
+    }
+
+    /// Whether a worker may start this job.
+    pub fn may_start(&self, worker: u32, job: JobName) -> bool
+        ensures yes { result ≡ true → Always self.now (λ s st. IsLegal s st (Event.Start worker job)) }
+        ensures no { result ≡ false → Always self.now (λ s st. IsLegal s st (Event.Start worker job) → ⊥) }
+    {
+        if !self.is_free(worker) {
+            return false;
+        }
+        if !self.machine.is_queued(job) {
+            return false;
+        }
+        if fibers_wanted(job) > self.machine.free() {
+            return false;
+        }
+        true
+    }
+
+    /// The fiber on which a worker may go on with this job, and how far the job has come; None where it may not.
+    pub fn may_resume(&self, worker: u32, job: JobName) -> Option<(Fiber, Held)>
+        ensures some { IfSome result (λ next. Always self.now (λ s st. IsLegal s st (Event.Resume worker job) × (st.phase job ≡ Waits next.1.step))) }
+        ensures place { IfSome result (λ next. (questions : ℕ → ℕ → ℕ) → first_place (holds job) (kept self.now questions).seats.jobs ≡ next.0) }
+        ensures none { result ≡ None → Always self.now (λ s st. IsLegal s st (Event.Resume worker job) → ⊥) }
+    {
+        if !self.is_free(worker) {
+            return None;
+        }
+        let Some(fiber) = self.machine.holder(job) else {
+            return None;
+        };
+        if !self.machine.is_ready(fiber) {
+            return None;
+        }
+        let Some(held) = self.machine.held_by(fiber) else {
+            return None;
+        };
+        Some((fiber, held))
+    }
+
     /// The frame that is shown next.
     pub fn to_show(&self) -> Result<u32, BoardFault>
         ensures { Always self.now (IsToShow result) }
@@ -78,10 +136,13 @@ impl JobLog {
 
     /// Whether the slot of a frame is free: so many frames are shown that there is one.
     pub fn has_slot(&self, frame: u32) -> bool
-        ensures yes { result ≡ true → (questions : ℕ → ℕ → ℕ) → frame ≤ (kept self.now questions).emitted + self.now.numbers.slots }
-        ensures no { result ≡ false → (questions : ℕ → ℕ → ℕ) → (kept self.now questions).emitted + self.now.numbers.slots < frame }
+        ensures yes { result ≡ true → Always self.now (λ s st. frame ≤ st.emitted + s.slots) }
+        ensures no { result ≡ false → Always self.now (λ s st. st.emitted + s.slots < frame) }
     {
-        frame.saturating_sub(self.settings.slots()) <= self.machine.emitted()
+        if frame.saturating_sub(self.settings.slots()) <= self.machine.emitted() {
+            return true;
+        }
+        false
     }
 
     /// Whether all frames are shown, and nothing was stopped.

@@ -1,0 +1,5 @@
+pub mod Parting
+pub mod Shelving
+pub mod Boarding
+pub mod Tasked
+pub mod Sized

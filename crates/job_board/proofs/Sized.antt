@@ -1,0 +1,64 @@
+-- What a board's events need of its shelf and what they store there, by the sizes of the shelf in place of the run's setup.
+use Rattle.std.proofs.Common.{◌≡◌, ◌<◌, ◌%◌, ◌++◌, ℕ, zero, suc, [], ◌∷◌, Some, None, length, slice_get, slice_set, unwrap_or, refl, sym, ap, ◌∙◌, subst}
+use Rattle.std.specs.Option.{IsSomeAnd}
+use Rattle.job_core.specs.declared.names.JobName.{JobName}
+use Rattle.job_core.specs.declared.names.JobName.TheVariants.{Logic, Think, Path, Draw}
+use Rattle.job_core.specs.declared.names.Event.{Event}
+use Rattle.job_core.specs.declared.names.Event.TheVariants.{Start, Resume, Ask, Spread, Hold, Finish, Emit, Stop}
+use Rattle.job_core.specs.Core.{Setup, State, IsLegal, IsLegalList}
+use Rattle.board_law.specs.Stored.{Stored, part, parts, nothing, turned, with_band, store, stored_after}
+use Rattle.board_law.specs.Needed.{HasParts, IsThere}
+use Rattle.board_law.proofs.Stores.{needed_is_there, places_are, stored_more}
+use Rattle.job_board.specs.Boards.{Played, setup_in, state_in}
+use Rattle.job_board.specs.Shelf.{Shelved, sizes}
+
+-- ---- setups of the same sizes
+
+same_parts : (s t : Setup) → s.slots ≡ t.slots → s.agents ≡ t.agents → s.bands ≡ t.bands → (k : Stored) (j : JobName) (n : ℕ) → HasParts s k j n → HasParts t k j n
+same_parts s t x y z k (Logic f) zero h = tt
+same_parts s t x y z k (Logic f) (suc n) h = (subst (λ m. slice_get k.slots (f % m) ≡ Some (Some f)) x h.0, h.1 ∙ ap (parts f) y)
+same_parts s t x y z k (Think f a) zero h = (subst (λ m. slice_get k.slots (f % m) ≡ Some (Some f)) x h.0, subst (λ m. a < m) y h.1)
+same_parts s t x y z k (Think f a) (suc i) h = (subst (λ m. slice_get k.slots (f % m) ≡ Some (Some f)) x h.0, subst (λ m. a < m) y h.1, h.2)
+same_parts s t x y z k (Path f a i) n h = (subst (λ m. slice_get k.slots (f % m) ≡ Some (Some f)) x h.0, h.1)
+same_parts s t x y z k (Draw f b) n h = (subst (λ m. IsSomeAnd (slice_get k.drawn (f % m)) (λ d. (d.turn ≡ Some f) × Unit {0})) x h.0, subst (λ m. b < m) z h.1)
+
+same_store : (s t : Setup) → s.slots ≡ t.slots → (st : State) (k : Stored) (e : Event) → store s st k e ≡ store t st k e
+same_store s t x st k (Spread w (Logic f)) = ap (λ m. record k { next = None; slots = slice_set k.slots (f % m) (Some f); thoughts = [] }) x
+same_store s t x st k (Finish w (Logic f)) = ap (λ m. record k { next = Some (suc f); drawn = slice_set k.drawn (f % m) (turned f []) }) x
+same_store s t x st k (Finish w (Draw f b)) = ap (λ m. record k { drawn = slice_set k.drawn (f % m) (with_band (part f b) (unwrap_or (slice_get k.drawn (f % m)) nothing)) }) x
+same_store s t x st k (Emit f) = ap (λ m. record k { slots = slice_set k.slots (f % m) None; drawn = slice_set k.drawn (f % m) nothing }) x
+same_store s t x st k (Ask w (Think f a)) = refl
+same_store s t x st k (Finish w (Think f a)) = refl
+same_store s t x st k (Finish w (Path f a i)) = refl
+same_store s t x st k (Start w j) = refl
+same_store s t x st k (Resume w j) = refl
+same_store s t x st k (Hold w j) = refl
+same_store s t x st k Stop = refl
+same_store s t x st k (Ask w (Logic f)) = refl
+same_store s t x st k (Ask w (Path f a i)) = refl
+same_store s t x st k (Ask w (Draw f b)) = refl
+same_store s t x st k (Spread w (Think f a)) = refl
+same_store s t x st k (Spread w (Path f a i)) = refl
+same_store s t x st k (Spread w (Draw f b)) = refl
+
+-- ---- a board's shelf
+
+abbrev pub shelf_of : Played → Shelved
+shelf_of b = record { game = b.game; stored = stored_after (setup_in b) b.events }
+
+module _ (b : Played) (lawful : IsLegalList (setup_in b) b.events) (some : 0 < b.numbers.slots) where
+  pub as_many_slots : length (shelf_of b).stored.slots ≡ b.numbers.slots
+  as_many_slots = (places_are (setup_in b) b.events some lawful).0
+
+  pub as_many_asking : length (shelf_of b).stored.asking ≡ length b.game.trees
+  as_many_asking = (places_are (setup_in b) b.events some lawful).1
+
+  pub needed : (e : Event) → IsLegal (setup_in b) (state_in b) e → IsThere (setup_in b) (state_in b) (shelf_of b).stored e
+  needed e l = needed_is_there (setup_in b) b.events e some lawful l
+
+  pub parts_there : (j : JobName) (n : ℕ) → HasParts (setup_in b) (shelf_of b).stored j n → HasParts (sizes (shelf_of b)) (shelf_of b).stored j n
+  parts_there j n h = same_parts (setup_in b) (sizes (shelf_of b)) (sym as_many_slots) refl refl (shelf_of b).stored j n h
+
+  -- what the shelf stores for an event is what is stored after the events with it
+  pub stored_next : (e : Event) → record (shelf_of b) { stored = store (sizes (shelf_of b)) (state_in b) (shelf_of b).stored e } ≡ shelf_of (record b { events = b.events ++ e ∷ [] })
+  stored_next e = ap (λ k. record (shelf_of b) { stored = k }) (same_store (sizes (shelf_of b)) (setup_in b) as_many_slots (state_in b) (shelf_of b).stored e ∙ sym (stored_more (setup_in b) b.events e))

@@ -1,0 +1,124 @@
+ghost use Rattle.std.specs.Prelude.{◌≡◌, IfOk, IfErr, OnOk, OnErr};
+ghost use Rattle.job_core.specs.declared.names.JobName.TheVariants.{Think};
+ghost use Rattle.job_core.specs.declared.names.Event.TheVariants.{Ask, Finish};
+ghost use Rattle.job_board.specs.Boards.{Happens, IsRefused, IsEmitRefused, IsShown, IsStopped};
+ghost use Rattle.job_board.specs.Dones.{job_done, IsOtherDone};
+ghost use Rattle.job_board.specs.Parked.{IsOtherParked};
+
+use super::board::{Board, bands_of};
+use super::done::{Done, Refused, agent_of, is_parked_for};
+use super::drawn::Drawn;
+use super::shelf::next_of;
+use super::shown::Shown;
+use frame_params::Parked;
+use job_log::BoardFault;
+
+// The calls that hand a result in, and those that hand one out.
+impl<'t> Board<'t> {
+    /// The worker's Think asks the question at which its tick stands.
+    pub fn ask(&mut self, worker: u32, parked: Parked<'t>) -> Result<(), Refused<Parked<'t>>>
+        ensures ok { OnOk result (Happens self.old self.new (Ask worker (Think parked.entry.frame parked.entry.agent))) }
+        ensures refused { IfErr result (λ r. IsRefused self.old worker (IsOtherParked parked.entry self.old.game) (Ask worker) r.fault) }
+        ensures back { IfErr result (λ r. r.value ≡ parked.entry) }
+        ensures unchanged { OnErr result (self.new ≡ self.old) }
+    {
+        let held = match self.jobs.running(worker) {
+            Ok(held) => held,
+            Err(fault) => {
+                return Err(Refused {
+                    fault,
+                    value: parked,
+                });
+            }
+        };
+        if !is_parked_for(&parked, self.session, held) {
+            return Err(Refused {
+                fault: BoardFault::WrongResult,
+                value: parked,
+            });
+        }
+        if held.step == u32::MAX {
+            return Err(Refused {
+                fault: BoardFault::OutOfMemory,
+                value: parked,
+            });
+        }
+        let (frame, agent) = agent_of(&parked);
+        let Ok(()) = self.jobs.ask(worker, frame, agent, held.step) else {
+            return Err(Refused {
+                fault: BoardFault::OutOfMemory,
+                value: parked,
+            });
+        };
+        self.shelf.park(agent, parked);
+        Ok(())
+    }
+
+    /// The worker's job is over, with what its work came to.
+    pub fn finish(&mut self, worker: u32, done: Done<'t>) -> Result<(), Refused<Done<'t>>>
+        ensures ok { OnOk result (Happens self.old self.new (Finish worker (job_done done.entry))) }
+        ensures refused { IfErr result (λ r. IsRefused self.old worker (IsOtherDone done.entry self.old.game) (Finish worker) r.fault) }
+        ensures back { IfErr result (λ r. r.value ≡ done.entry) }
+        ensures unchanged { OnErr result (self.new ≡ self.old) }
+    {
+        let held = match self.jobs.running(worker) {
+            Ok(held) => held,
+            Err(fault) => return Err(Refused { fault, value: done }),
+        };
+        if !done.is_for(self.session, held.job) {
+            return Err(Refused {
+                fault: BoardFault::WrongResult,
+                value: done,
+            });
+        }
+        if !done.is_at(held.step) {
+            return Err(Refused {
+                fault: BoardFault::Illegal,
+                value: done,
+            });
+        }
+        let Ok(next) = next_of(self.alloc, &done) else {
+            return Err(Refused {
+                fault: BoardFault::OutOfMemory,
+                value: done,
+            });
+        };
+        let Ok(()) = self.jobs.finish(worker, held.job) else {
+            return Err(Refused {
+                fault: BoardFault::OutOfMemory,
+                value: done,
+            });
+        };
+        self.shelf.keep(done, next);
+        Ok(())
+    }
+
+    /// Shows the next frame, once its logic and all its draws are over.
+    pub fn emit(&mut self) -> Result<Shown<'t>, BoardFault>
+        ensures ok { IfOk result (IsShown self.old self.new) }
+        ensures refused { IfErr result (IsEmitRefused self.old) }
+        ensures unchanged { OnErr result (self.new ≡ self.old) }
+    {
+        let frame = match self.jobs.to_show() {
+            Ok(frame) => frame,
+            Err(fault) => return Err(fault),
+        };
+        let Ok(empty) = Drawn::new(self.alloc, self.session, bands_of(self.session)) else {
+            return Err(BoardFault::OutOfMemory);
+        };
+        let Ok(()) = self.jobs.emit(frame) else {
+            return Err(BoardFault::OutOfMemory);
+        };
+        Ok(self.shelf.show(frame, empty))
+    }
+
+    /// Nothing happens any more; a second call changes nothing.
+    pub fn stop(&mut self)
+        ensures { IsStopped self.old self.new }
+    {
+        if self.jobs.is_stopped() {
+            return;
+        }
+        self.jobs.stop();
+    }
+}
