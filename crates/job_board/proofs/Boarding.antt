@@ -1,5 +1,5 @@
 -- A board that keeps itself, before an event and after it.
-use Rattle.std.proofs.Common.{◌≡◌, ◌≤◌, ◌<◌, ◌+◌, ◌-◌, ◌↔◌, ℕ, zero, suc, Err, Some, None, List, [], ◌∷◌, ◌++◌, length, replicate, refl, sym, ap, ap₂, ◌∙◌, subst, arith}
+use Rattle.std.proofs.Common.{◌≡◌, ◌≤◌, ◌<◌, ◌+◌, ◌-◌, ◌↔◌, ℕ, zero, suc, Err, Some, List, [], ◌∷◌, ◌++◌, length, refl, sym, ap, ◌∙◌, subst, arith}
 use Rattle.game_rules.specs.Game.{Game}
 use Rattle.job_core.specs.declared.names.Event.{Event}
 use Rattle.job_core.specs.Core.{Setup, State, IsJob, IsAtEnd, opening, Runs, Waits, IsLegal, IsLegalList}
@@ -23,13 +23,13 @@ use Rattle.frame_params.specs.Tasks.{IsTaskAt}
 use Rattle.frame_params.specs.declared.task.Task.{Task}
 use Rattle.job_board.specs.Boards.{Played, jobs_of, setup_in, state_in, with_event, Happens, IsStart, IsResume, Starts, Resumes, IsOn, IsBeginning, NeedsBeginning, IsRefused, IsTakeRefused, IsEmitRefused, NoOther, IsBoard}
 use Rattle.frame_params.specs.Names.{QuestionOf}
-use Rattle.frame_params.specs.Contents.{bands_in, questions_in, seen, memory_before, world_after, memories_after}
+use Rattle.frame_params.specs.Contents.{questions_in, seen, memory_before, world_after, memories_after}
 use Rattle.job_board.specs.Dones.{game_done, job_done, IsDoneAt}
 use Rattle.job_board.specs.declared.done.Done.{Done}
 use Rattle.job_board.specs.declared.done.Done.TheVariants.{Turned, Thought, Way, Drawn}
-use Rattle.board_law.specs.Stored.{nothing, store, stored_first}
+use Rattle.board_law.specs.Stored.{store}
 use Rattle.board_law.specs.Needed.{IsThere}
-use Rattle.job_machine.specs.Numbers.{Numbers, IsWithinLimits}
+use Rattle.job_machine.specs.Numbers.{IsWithinLimits}
 use Rattle.job_board.specs.Shelf.{Shelved, Stores, sizes}
 use Rattle.job_board.proofs.Sized.{shelf_of, there_of, stored_next}
 use Rattle.job_board.proofs.Tasked.{job_is}
@@ -37,18 +37,6 @@ use Rattle.job_board.proofs.Tasked.{job_is}
 -- as a board sees itself
 abbrev pub seen_as : Game → Logged → Played
 seen_as g jobs = record { game = g; numbers = jobs.numbers; events = jobs.events }
-
--- nothing has happened, and a first shelf
-pub first_board : (g : Game) (n : Numbers) (jobs : Logged) (shelf : Shelved)
-    → jobs ≡ record { numbers = n; agents = length g.trees; bands = bands_in g; events = [] } → IsWithinLimits n.frames n.workers n.fibers n.slots
-    → shelf.game ≡ g → (sizes shelf).slots ≡ n.slots → shelf.stored ≡ stored_first (sizes shelf) → IsBoard (seen_as g jobs) jobs shelf
-first_board g n jobs shelf j w e m s =
-    subst (λ v. IsBoard (seen_as g v) v shelf) (sym j) (record {
-      jobs_are = refl;
-      shelf_is = ap₂ {C = Shelved} (λ x y. record { game = x; stored = y }) e (s ∙ ap₂ (λ x y. record { next = Some 1; slots = replicate x None; asking = replicate y None; thoughts = []; drawn = replicate x nothing }) m (ap (λ (x : Game). length x.trees) e));
-      lawful = tt;
-      within = w;
-    })
 
 module _ (g : Game) (jobs : Logged) (shelf : Shelved) (k : IsBoard (seen_as g jobs) jobs shelf) where
   -- what the jobs tell of a state holds of the board's
