@@ -4,3 +4,4 @@ pub mod AtLeastOne
 pub mod WithinLimits
 pub mod MemoryBounds
 pub mod Alike
+pub mod SizeTables

@@ -1,7 +1,8 @@
--- What a walk over plain trees answers at a node of one of the kinds that list children.
+-- What a walk over plain trees answers at a node of one of the kinds that have children.
+use Rattle.std.specs.declared.boxed.Box.{Box}
 use Rattle.std.proofs.Common.{◌≡◌, ℕ, ◌⊎◌, inl, inr, Vec, rules, ap, ◌∙◌}
-use Rattle.bt_nodes.specs.Plain.{Plain, Composite, CompositeStar, Parallel, Sequence, Fallback, plain, plains}
-use Rattle.bt_nodes.specs.declared.node.Node.{Node, Seq, Fallback as FallbackNode, Par, SeqStar, FallbackStar, the_lemmas}
+use Rattle.bt_nodes.specs.Plain.{Plain, Composite, CompositeStar, Parallel, Invert, Tries, Ticks, Sequence, Fallback, plain, plains}
+use Rattle.bt_nodes.specs.declared.node.Node.{Node, Seq, Fallback as FallbackNode, Par, SeqStar, FallbackStar, Not, Tries as TriesNode, Ticks as TicksNode, the_lemmas}
 
 pub plain-Seq : {A : Type 0} → (v : Vec (Node A) A) → plain (Seq v) ≡ Composite Sequence (plains v.items)
 plain-Seq v = search (rules, the_lemmas)
@@ -49,3 +50,20 @@ listing f node v b seq fallback par seq_star fallback_star (inr (inr (inr (inl e
     ap (λ n. f (plain n)) e ∙ ap f (plain-SeqStar v) ∙ seq_star
 listing f node v b seq fallback par seq_star fallback_star (inr (inr (inr (inr e)))) =
     ap (λ n. f (plain n)) e ∙ ap f (plain-FallbackStar v) ∙ fallback_star
+
+pub plain-Not : {A : Type 0} → (b : Box (Node A) A) → plain (Not b) ≡ Invert (plain b.value)
+plain-Not b = search (rules, the_lemmas)
+
+pub plain-Tries : {A : Type 0} → (n : ℕ) (b : Box (Node A) A) → plain (TriesNode n b) ≡ Tries n (plain b.value)
+plain-Tries n b = search (rules, the_lemmas)
+
+pub plain-Ticks : {A : Type 0} → (n : ℕ) (b : Box (Node A) A) → plain (TicksNode n b) ≡ Ticks n (plain b.value)
+plain-Ticks n b = search (rules, the_lemmas)
+
+pub decorating : {A B : Type 0} → (f : Plain → B) (node : Node A) (b : Box (Node A) A) (r : B)
+    → f (Invert (plain b.value)) ≡ r → ((n : ℕ) → f (Tries n (plain b.value)) ≡ r) → ((n : ℕ) → f (Ticks n (plain b.value)) ≡ r)
+    → (node ≡ Not b) ⊎ (((n : ℕ) × (node ≡ TriesNode n b)) ⊎ ((n : ℕ) × (node ≡ TicksNode n b)))
+    → f (plain node) ≡ r
+decorating f node b r invert tries ticks (inl e) = ap (λ n. f (plain n)) e ∙ ap f (plain-Not b) ∙ invert
+decorating f node b r invert tries ticks (inr (inl (n, e))) = ap (λ n. f (plain n)) e ∙ ap f (plain-Tries n b) ∙ tries n
+decorating f node b r invert tries ticks (inr (inr (n, e))) = ap (λ n. f (plain n)) e ∙ ap f (plain-Ticks n b) ∙ ticks n

@@ -1,6 +1,6 @@
-ghost use Rattle.std.specs.Prelude.{◌≡◌, ◌≢◌, ◌≤◌, None, Some, IfOk, IfErr, true, false};
+ghost use Rattle.std.specs.Prelude.{◌≡◌, ◌≢◌, ◌≤◌, ◌<◌, None, Some, IfOk, IfErr, true, false, take, slice_index};
 ghost use Rattle.bt_nodes.specs.Plain.{plain};
-ghost use Rattle.bt_nodes.specs.Sizes.{size, depth};
+ghost use Rattle.bt_nodes.specs.Sizes.{size, depth, subtree_sizes};
 ghost use Rattle.bt_nodes.specs.Limits.{tree_fault};
 
 use crate::fault::TreeFault;
@@ -15,16 +15,19 @@ pub struct Tree<A: Allocator> {
     root: Node<A>,
     nodes: u64,
     levels: u64,
+    // the sizes of the trees that begin at its nodes, in preorder
+    subtrees: [u8; 255],
     ghost within: { tree_fault (plain root) ≡ None },
     ghost counted: { nodes ≡ size (plain root) },
     ghost measured: { levels ≡ depth (plain root) },
+    ghost listed: { take nodes subtrees ≡ subtree_sizes (plain root) },
 }
 
 impl<A: Allocator> Tree<A> {
     ghost use Rattle.bt_nodes.specs.Trees.{plain_of};
 
     /// The tree with this root, or the first limit that it breaks, with the root handed back. It takes no memory,
-    /// and walks over the nodes once for each limit.
+    /// and walks over the nodes once for each limit and once for the sizes of its subtrees.
     pub fn new(root: Node<A>) -> Result<Tree<A>, (TreeFault, Node<A>)>
         ensures ok { IfOk result (λ tree. (plain_of tree ≡ plain root) × (tree_fault (plain root) ≡ None)) }
         ensures err { IfErr result (λ e. (tree_fault (plain root) ≡ Some e.0) × (e.1 ≡ root)) }
@@ -46,10 +49,13 @@ impl<A: Allocator> Tree<A> {
         if !root.has_counts() {
             return Err((TreeFault::Count, root));
         }
+        let mut subtrees = [0u8; 255];
+        root.write_sizes(&mut subtrees, 0);
         Ok(Tree {
             root,
             nodes,
             levels,
+            subtrees,
         })
     }
 
@@ -69,6 +75,16 @@ impl<A: Allocator> Tree<A> {
         ensures most { result ≤ 32 }
     {
         self.levels
+    }
+
+    /// The number of nodes of the tree that begins at a node, which `new` counted. The root has the number 0, and each
+    /// other node the number of those before it in preorder.
+    pub fn size_at(&self, node: u64) -> u64
+        requires { node < size (plain_of self.now) }
+        ensures value { result ≡ slice_index (subtree_sizes (plain_of self.now)) node }
+        ensures most { result ≤ 255 }
+    {
+        u64::from(self.subtrees[node as usize])
     }
 
     pub fn root(&self) -> &Node<A>
@@ -95,6 +111,7 @@ impl<A: Allocator> Tree<A> {
             root: self.root.copy_in(&alloc)?,
             nodes: self.size(),
             levels: self.depth(),
+            subtrees: self.subtrees,
         })
     }
 }

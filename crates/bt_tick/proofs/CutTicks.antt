@@ -100,7 +100,7 @@ module _ (v : View) (p : Plain) (m : List ℕ) where
       (cases_lt i (questions v p m))
 
   -- a copy of a tick that stands stands as it does
-  pub thinking_copied : {T A : Type 0} (i : ℕ) (place : ℕ) (q r : Pending T A) → Thinking v p m i (Asks place q) → ((more : List Answer) → means v r more ≡ means v q more)
+  pub thinking_copied : {T A B : Type 0} (i : ℕ) (place : ℕ) (q : Pending T A) (r : Pending T B) → Thinking v p m i (Asks place q) → ((more : List Answer) → means v r more ≡ means v q more)
       → place_of r ≡ place_of q → tree_of r ≡ tree_of q → Thinking v p m i (Asks place r)
   thinking_copied i place q r t same at tree = record {
     places = t.places;

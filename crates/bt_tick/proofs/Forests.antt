@@ -1,15 +1,9 @@
 -- The children of a node beside the list of nodes that they stand for.
-use Rattle.std.proofs.Common.{◌≡◌, ℕ, zero, suc, ◌+◌, ◌<◌, List, [], ◌∷◌, length, get_or, take, drop, refl, sym, ap, ◌∙◌, arith}
+use Rattle.std.proofs.Common.{◌≡◌, ℕ, zero, suc, ◌+◌, ◌<◌, List, [], ◌∷◌, length, get_or, drop, refl, sym, ap, ◌∙◌, arith}
 use Rattle.std.specs.Prelude.{Option, Some, None, MatchOption}
 use Rattle.bt_nodes.specs.Plain.{Plain, tree, plain, plains}
-use Rattle.bt_nodes.specs.Sizes.{size, sizes}
 use Rattle.bt_nodes.specs.declared.node.Node.{Node}
-use Rattle.bt_tick.specs.Children.{children_of, from_child, child_number}
-
-pub from-drop : {T : Type 0} (xs : List (Node T)) (k : ℕ) → from_child k (plains xs) ≡ plains (drop k xs)
-from-drop xs zero = refl
-from-drop [] (suc k) = refl
-from-drop (x ∷ xs) (suc k) = from-drop xs k
+use Rattle.bt_tick.specs.Children.{children_of, from_child}
 
 child_in : {T : Type 0} (xs : List (Node T)) (k : ℕ) (d : Node T) → k < length xs → from_child k (plains xs) ≡ tree (plain (get_or xs k d)) (from_child (k + 1) (plains xs))
 child_in [] k d h = absurd (omega arith)
@@ -24,12 +18,6 @@ pub child_at : {T : Type 0} (p : Plain) (xs : List (Node T)) (k : ℕ) (c : Node
 child_at p xs k c e h is =
     ap (from_child k) e ∙ child_in xs k c h ∙ ap (λ n. tree (plain n) (from_child (k + 1) (plains xs))) (sym is)
     ∙ ap (λ cs. tree (plain c) (from_child (k + 1) cs)) (sym e)
-
--- the number of a child, by the sizes of those before it
-pub child_number-take : {T : Type 0} (xs : List (Node T)) (k at : ℕ) → child_number k (plains xs) at ≡ at + sizes (plains (take k xs))
-child_number-take xs zero at = omega arith
-child_number-take [] (suc k) at = omega arith
-child_number-take (x ∷ xs) (suc k) at = child_number-take xs k (at + size (plain x)) ∙ omega arith
 
 -- ---- the innermost frame
 

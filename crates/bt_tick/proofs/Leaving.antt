@@ -3,7 +3,6 @@ use Rattle.std.proofs.Common.{◌≡◌, ℕ, suc, ◌+◌, ◌≤◌, List, len
 use Rattle.bt_nodes.specs.declared.node.Status.{Status}
 use Rattle.bt_nodes.specs.Plain.{Plain, Kind, Composite, CompositeStar, Parallel, Forest, plains}
 use Rattle.bt_nodes.specs.Sizes.{size, count}
-use Rattle.bt_nodes.specs.Bounds.{bounds}
 use Rattle.bt_nodes.specs.Trees.{plain_of}
 use Rattle.bt_nodes.specs.declared.node.Node.{Node}
 use Rattle.bt_nodes.proofs.Forests.{count-plains}
@@ -12,7 +11,7 @@ use Rattle.game_rules.specs.Tick.{State, Result, gives, goes, put, verdict}
 use Rattle.bt_tick.specs.Children.{children_of}
 use Rattle.bt_tick.specs.Suspended.{Open, go_on, unwind}
 use Rattle.bt_tick.specs.Places.{Nested, Resting}
-use Rattle.bt_tick.specs.Machine.{opens, left_of, rest_of, with_parts, Keeps, bounds_of, Placed}
+use Rattle.bt_tick.specs.Machine.{opens, left_of, rest_of, with_parts, Keeps, whole_of, Placed}
 use Rattle.bt_tick.specs.declared.machine.Mode.{Mode}
 use Rattle.bt_tick.specs.declared.machine.Mode.TheVariants.{Up}
 use Rattle.bt_tick.specs.declared.machine.Machine.{Machine}
@@ -29,20 +28,20 @@ module _ {T A : Type 0} (old new : Machine T A) (mode : Mode T) (st : Status) (e
       ∙ ap (λ w. unwind v (opens (drop 1 old.stack)) (gives st (with_parts m w.items s))) wants
       ∙ ap (unwind v (opens (drop 1 old.stack))) (h s)
 
-  left_placed : new.tree ≡ old.tree → Nested (bounds_of old) e (opens (drop 1 old.stack)) → Placed new mode
+  left_placed : new.tree ≡ old.tree → Nested (whole_of old) e (opens (drop 1 old.stack)) → Placed new mode
   left_placed t n =
       subst (Placed new) (sym is) (record {
-        nested = subst (λ r. Nested (bounds (plain_of r.now)) e (opens new.stack)) (sym t) (subst (λ fs. Nested (bounds_of old) e (opens fs)) (sym left) n);
+        nested = subst (λ r. Nested (plain_of r.now) e (opens new.stack)) (sym t) (subst (λ fs. Nested (whole_of old) e (opens fs)) (sym left) n);
         stands = tt;
       })
 
   -- left where it gives its status to what is around it
-  pub stopped_placed : (f : Open) → e ≡ f.number + size f.node → Nested (bounds_of old) (f.number + size f.node) (opens (drop 1 old.stack)) → new.tree ≡ old.tree → Placed new mode
-  stopped_placed f at n t = left_placed t (subst (λ k. Nested (bounds_of old) k (opens (drop 1 old.stack))) (sym at) n)
+  pub stopped_placed : (f : Open) → e ≡ f.number + size f.node → Nested (whole_of old) (f.number + size f.node) (opens (drop 1 old.stack)) → new.tree ≡ old.tree → Placed new mode
+  stopped_placed f at n t = left_placed t (subst (λ k. Nested (whole_of old) k (opens (drop 1 old.stack))) (sym at) n)
 
   -- left where none of its children is left
-  pub ended_placed : (f : Open) → Resting (bounds_of old) e f (opens (drop 1 old.stack)) → count (children_of f.node) ≤ f.next → new.tree ≡ old.tree → Placed new mode
-  ended_placed f (r, n) h t = stopped_placed f (closed_at (bounds_of old) (suc f.next) e (length (opens (drop 1 old.stack))) f r h) n t
+  pub ended_placed : (f : Open) → Resting (whole_of old) e f (opens (drop 1 old.stack)) → count (children_of f.node) ≤ f.next → new.tree ≡ old.tree → Placed new mode
+  ended_placed f (r, n) h t = stopped_placed f (closed_at (whole_of old) (suc f.next) e (length (opens (drop 1 old.stack))) f r h) n t
 
 -- no child is left
 pub none_left : {T : Type 0} (f : Open) (nodes : List (Node T)) → children_of f.node ≡ plains nodes → length nodes ≤ f.next → count (children_of f.node) ≤ f.next

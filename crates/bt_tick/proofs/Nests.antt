@@ -1,13 +1,9 @@
 -- What opening a child, and leaving a node, keep of the open nodes.
-use Rattle.std.proofs.Common.{◌≡◌, ℕ, suc, ◌+◌, ◌*◌, ◌<◌, ◌≤◌, List, ◌∷◌, length, drop, sym, ap, ◌∙◌, subst, arith}
-use Rattle.bt_nodes.specs.Plain.{Plain, tree, plains}
+use Rattle.std.proofs.Common.{◌≡◌, ℕ, suc, ◌+◌, ◌*◌, ◌<◌, ◌≤◌, List, ◌∷◌, length, sym, ap, ◌∙◌, subst, arith}
+use Rattle.bt_nodes.specs.Plain.{Plain, tree}
 use Rattle.bt_nodes.specs.Sizes.{size, sizes, count}
-use Rattle.bt_nodes.specs.Bounds.{bounds}
 use Rattle.bt_nodes.specs.Trees.{plain_of}
-use Rattle.bt_nodes.specs.declared.node.Node.{Node}
 use Rattle.bt_nodes.specs.declared.tree.Tree.{Tree}
-use Rattle.bt_nodes.proofs.Forests.{count-plains}
-use Rattle.bt_nodes.proofs.MemoryBounds.{length-bounds}
 use Rattle.bt_nodes.proofs.WithinLimits.{tree_within}
 use Rattle.game_rules.specs.View.{View}
 use Rattle.game_rules.specs.Tick.{State, tick}
@@ -18,7 +14,6 @@ use Rattle.bt_tick.specs.Places.{Sits, Standing, Nested, Resting, limit_of, weig
 use Rattle.bt_tick.specs.Machine.{rest_of}
 use Rattle.bt_tick.proofs.Trees.{size-children, from_count, child_next, child_split, child_above, sits_child, sits_below, below_count}
 use Rattle.bt_tick.proofs.Steps.{go_on_next}
-use Rattle.bt_tick.proofs.Forests.{from-drop}
 
 -- an open node whose next child is begun
 abbrev pub begun : Open → Open
@@ -29,14 +24,14 @@ module _ (f : Open) (fs : List Open) (c : Plain) (at : ℕ) (there : from_child 
   entered_keeps v list e s =
       ap (unwind v fs) (ap (λ n. close_at v f.node f.number (f.next + 1) f.won f.lost (tick v c n s)) (sym e) ∙ sym (go_on_next v f.node list f.number f.next f.won f.lost c s there))
 
-  pub entered_sits : (bs : List ℕ) → Resting bs at f fs → Sits bs at (bounds c)
-  entered_sits bs (r, n) = subst (λ k. Sits bs k (bounds c)) r.following (sits_child bs f.node f.number f.next c _ there r.sits)
+  pub entered_sits : (whole : Plain) → Resting whole at f fs → Sits whole at c
+  entered_sits whole (r, n) = subst (λ k. Sits whole k c) r.following (sits_child whole f.node f.number f.next c _ there r.sits)
 
-  pub entered_deep : (bs : List ℕ) → Resting bs at f fs → suc (length fs) ≤ at
-  entered_deep bs (r, n) = omega (arith, r.deep, r.following, child_above (children_of f.node) f.next (f.number + 1))
+  pub entered_deep : (whole : Plain) → Resting whole at f fs → suc (length fs) ≤ at
+  entered_deep whole (r, n) = omega (arith, r.deep, r.following, child_above (children_of f.node) f.next (f.number + 1))
 
-  pub entered_nested : (bs : List ℕ) → Resting bs at f fs → Nested bs (at + size c) (begun f ∷ fs)
-  entered_nested bs (r, n) = (
+  pub entered_nested : (whole : Plain) → Resting whole at f fs → Nested whole (at + size c) (begun f ∷ fs)
+  entered_nested whole (r, n) = (
     record {
       sits = r.sits;
       some = omega arith;
@@ -52,22 +47,13 @@ module _ (f : Open) (fs : List Open) (c : Plain) (at : ℕ) (there : from_child 
   entered_falls = let e = ap sizes there in omega (arith, e)
 
 -- the number after the last node of an open node
-pub ended_at : (bs : List ℕ) (counting e around : ℕ) (f : Open) → Standing bs counting e around f → e + sizes (from_child f.next (children_of f.node)) ≡ f.number + size f.node
-ended_at bs counting e around f r = omega (arith, r.following, child_split (children_of f.node) f.next (f.number + 1), size-children f.node)
+pub ended_at : (whole : Plain) (counting e around : ℕ) (f : Open) → Standing whole counting e around f → e + sizes (from_child f.next (children_of f.node)) ≡ f.number + size f.node
+ended_at whole counting e around f r = omega (arith, r.following, child_split (children_of f.node) f.next (f.number + 1), size-children f.node)
 
 -- where no child is left it is the number of the next child
-pub closed_at : (bs : List ℕ) (counting e around : ℕ) (f : Open) → Standing bs counting e around f → count (children_of f.node) ≤ f.next → e ≡ f.number + size f.node
-closed_at bs counting e around f r h = let n = ap sizes (from_count (children_of f.node) f.next h) in omega (arith, n, ended_at bs counting e around f r)
-
--- and so the sizes of the nodes that are not ticked lead there
-pub stopped_at : {T : Type 0} (bs : List ℕ) (counting e around : ℕ) (f : Open) (nodes : List (Node T)) → Standing bs counting e around f → children_of f.node ≡ plains nodes
-    → e + sizes (plains (drop f.next nodes)) ≡ f.number + size f.node
-stopped_at bs counting e around f nodes r is =
-    let n = ap (λ cs. sizes (from_child f.next cs)) is ∙ ap sizes (from-drop nodes f.next) in omega (arith, n, ended_at bs counting e around f r)
+pub closed_at : (whole : Plain) (counting e around : ℕ) (f : Open) → Standing whole counting e around f → count (children_of f.node) ≤ f.next → e ≡ f.number + size f.node
+closed_at whole counting e around f r h = let n = ap sizes (from_count (children_of f.node) f.next h) in omega (arith, n, ended_at whole counting e around f r)
 
 -- the numbers of a node lie within its tree
-pub room : {T : Type 0} (t : Tree T) (p : Plain) (n : ℕ) → Sits (bounds (plain_of t)) n (bounds p) → n + size p ≤ 255
-room t p n s = omega (arith, sits_below (bounds (plain_of t)) p n s, length-bounds (plain_of t), (tree_within t).few)
-
-pub next_within : {T : Type 0} (bs : List ℕ) (counting e around : ℕ) (f : Open) (nodes : List (Node T)) → Standing bs counting e around f → children_of f.node ≡ plains nodes → f.next ≤ length nodes
-next_within bs counting e around f nodes r is = omega (arith, r.begun, ap count is, count-plains nodes)
+pub room : {T : Type 0} (t : Tree T) (p : Plain) (n : ℕ) → Sits (plain_of t) n p → n + size p ≤ 255
+room t p n s = omega (arith, sits_below (plain_of t) p n s, (tree_within t).few)

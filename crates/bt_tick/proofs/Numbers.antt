@@ -1,29 +1,17 @@
 -- The numbers that nodes write into a memory that fits.
 use Rattle.std.proofs.Common.{◌≡◌, ℕ, ◌+◌, ◌<◌, ◌≤◌, List, ◌∷◌, get_or, set, inl, inr, sym, ap, ◌∙◌, subst, arith, refl}
-use Rattle.std.specs.declared.boxed.Box.{Box}
-use Rattle.std.proofs.Common.{rules}
 use Rattle.std.proofs.lemmas.Bool.{cases_eq}
 use Rattle.std.proofs.lemmas.List.{get_or-set_same, get_or-set_other, length-set, set-set}
-use Rattle.bt_nodes.specs.Plain.{Plain, Kind, Sequence, Fallback, CompositeStar, Tries, Ticks, Invert, Forest, plain}
+use Rattle.bt_nodes.specs.Plain.{Plain, Kind, Sequence, Fallback, CompositeStar, Tries, Ticks, Forest}
 use Rattle.bt_nodes.specs.Sizes.{count}
 use Rattle.bt_nodes.specs.Bounds.{bounds, Fits}
-use Rattle.bt_nodes.specs.declared.node.Node.{Node, Not, Tries as TriesNode, Ticks as TicksNode, the_lemmas}
 use Rattle.game_rules.specs.View.{View}
 use Rattle.game_rules.specs.Tick.{State, gives, goes, put}
 use Rattle.bt_tick.specs.Children.{children_of}
 use Rattle.bt_tick.specs.Suspended.{Open, close, close_at, go_on}
-use Rattle.bt_tick.specs.Places.{Sits, Standing, limit_of}
+use Rattle.bt_tick.specs.Places.{Standing, limit_of}
 use Rattle.bt_tick.proofs.Trees.{bound_at}
 use Rattle.bt_tick.proofs.Steps.{go_on_star}
-
-pub plain-Not : {T : Type 0} (b : Box (Node T) T) → plain (Not b) ≡ Invert (plain b.value)
-plain-Not b = search (rules, the_lemmas)
-
-pub plain-Tries : {T : Type 0} (k : ℕ) (b : Box (Node T) T) → plain (TriesNode k b) ≡ Tries k (plain b.value)
-plain-Tries k b = search (rules, the_lemmas)
-
-pub plain-Ticks : {T : Type 0} (k : ℕ) (b : Box (Node T) T) → plain (TicksNode k b) ≡ Ticks k (plain b.value)
-plain-Ticks k b = search (rules, the_lemmas)
 
 -- a memory that fits still does where a number below its bound is written
 fits_set : (p : Plain) (m : List ℕ) (n v : ℕ) → Fits p m → v < get_or (bounds p) n 0 → Fits p (set m n v)
@@ -35,11 +23,11 @@ fits_set p m n v h l = record {
   ];
 }
 
-module _ (p : Plain) (m m' : List ℕ) (v : ℕ) (counting e around : ℕ) (f : Open) (fits : Fits p m) (stands : Standing (bounds p) counting e around f) (is : m' ≡ set m f.number v) where
+module _ (p : Plain) (m m' : List ℕ) (v : ℕ) (counting e around : ℕ) (f : Open) (fits : Fits p m) (stands : Standing p counting e around f) (is : m' ≡ set m f.number v) where
   -- by a node whose own bound is this
   wrote : (b : ℕ) (part : List ℕ) → bounds f.node ≡ b ∷ part → v < b → Fits p m'
   wrote b part own l =
-      let at : get_or (bounds p) f.number 0 ≡ b = bound_at (bounds p) f.number b part (subst (Sits (bounds p) f.number) own stands.sits) in
+      let at : get_or (bounds p) f.number 0 ≡ b = bound_at p f.node f.number b part own stands.sits in
       subst (Fits p) (sym is) (fits_set p m f.number v fits (omega (arith, at, l)))
 
   pub star_wrote : (kind : Kind) (cs : Forest) → f.node ≡ CompositeStar kind cs → v < count cs → Fits p m'
@@ -52,11 +40,11 @@ module _ (p : Plain) (m m' : List ℕ) (v : ℕ) (counting e around : ℕ) (f : 
   ticks_wrote k c node l = wrote _ _ (ap bounds node) (omega (arith, l))
 
 -- the number that was read at the opening of tries and ticks is below theirs
-pub tries_lost : (bs : List ℕ) (counting e around : ℕ) (f : Open) (k : ℕ) (c : Plain) → Standing bs counting e around f → f.node ≡ Tries k c → f.lost < k
-tries_lost bs counting e around f k c r is = let h = subst (λ p. f.won + f.lost < limit_of p counting) is r.counts in omega (arith, h)
+pub tries_lost : (whole : Plain) (counting e around : ℕ) (f : Open) (k : ℕ) (c : Plain) → Standing whole counting e around f → f.node ≡ Tries k c → f.lost < k
+tries_lost whole counting e around f k c r is = let h = subst (λ p. f.won + f.lost < limit_of p counting) is r.counts in omega (arith, h)
 
-pub ticks_lost : (bs : List ℕ) (counting e around : ℕ) (f : Open) (k : ℕ) (c : Plain) → Standing bs counting e around f → f.node ≡ Ticks k c → f.lost < k
-ticks_lost bs counting e around f k c r is = let h = subst (λ p. f.won + f.lost < limit_of p counting) is r.counts in omega (arith, h)
+pub ticks_lost : (whole : Plain) (counting e around : ℕ) (f : Open) (k : ℕ) (c : Plain) → Standing whole counting e around f → f.node ≡ Ticks k c → f.lost < k
+ticks_lost whole counting e around f k c r is = let h = subst (λ p. f.won + f.lost < limit_of p counting) is r.counts in omega (arith, h)
 
 -- the last child of a seq* or a fallback* has ended so that the node goes on
 pub end_star : (v : View) (f : Open) (kind : Kind) (cs : Forest) (s : State) → f.node ≡ CompositeStar kind cs → count (children_of f.node) ≤ f.next

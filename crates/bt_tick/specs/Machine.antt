@@ -1,9 +1,8 @@
 -- What a machine has left to do, where it stands in its tree, and how many steps are left.
 use Rattle.std.specs.Prelude.{◌≡◌, ◌≤◌, ℕ, ◌+◌, ◌*◌, List, length, map}
 use Rattle.grid_world.specs.declared.cell.Intent.{Intent}
-use Rattle.bt_nodes.specs.Plain.{plain}
+use Rattle.bt_nodes.specs.Plain.{Plain, plain}
 use Rattle.bt_nodes.specs.Sizes.{size}
-use Rattle.bt_nodes.specs.Bounds.{bounds}
 use Rattle.bt_nodes.specs.Trees.{plain_of}
 use Rattle.game_rules.specs.View.{View}
 use Rattle.game_rules.specs.Tick.{State, Result, gives, tick}
@@ -46,8 +45,9 @@ Keeps v now mode old frames left = (s : State) → through v now now.stack (left
 
 -- ---- where it stands
 
-abbrev pub bounds_of : {T A : Type 0} → Machine T A → List ℕ
-bounds_of m = bounds (plain_of m.tree.now)
+-- the whole tree
+abbrev pub whole_of : {T A : Type 0} → Machine T A → Plain
+whole_of m = plain_of m.tree.now
 
 -- the number after the last node of what is ticked, or gave its status
 abbrev pub end_of : {T : Type 0} → Mode T → ℕ
@@ -55,13 +55,13 @@ end_of (Down node n) = n + size (plain node.now)
 end_of (Up st at) = at
 
 -- a node to be ticked stands in the tree, in as many open nodes as are around it
-abbrev pub StandsAt : {T : Type 0} → List ℕ → ℕ → Mode T → Type 0
-StandsAt bs around (Down node n) = Sits bs n (bounds (plain node.now)) × (around ≤ n)
-StandsAt bs around (Up st at) = Unit {0}
+abbrev pub StandsAt : {T : Type 0} → Plain → ℕ → Mode T → Type 0
+StandsAt whole around (Down node n) = Sits whole n (plain node.now) × (around ≤ n)
+StandsAt whole around (Up st at) = Unit {0}
 
 pub record Placed {T A : Type 0} (m : Machine T A) (mode : Mode T) : Type 0 where
-  pub nested : Nested (bounds_of m) (end_of mode) (opens m.stack)
-  pub stands : StandsAt (bounds_of m) (length m.stack) mode
+  pub nested : Nested (whole_of m) (end_of mode) (opens m.stack)
+  pub stands : StandsAt (whole_of m) (length m.stack) mode
 
 -- ---- how many steps are left at most
 

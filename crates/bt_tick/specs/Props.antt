@@ -2,13 +2,14 @@
 use Rattle.std.proofs.Common.{ℕ, ◌+◌, List, [], ◌∷◌, length}
 use Rattle.std.specs.Coded.{×_prop, Unit-prop}
 use Rattle.std.proofs.Props.{props}
+use Rattle.bt_nodes.specs.Plain.{Plain}
 use Rattle.bt_nodes.specs.Sizes.{size}
 use Rattle.bt_tick.specs.Suspended.{Open}
 use Rattle.bt_tick.specs.Places.{Standing, Nested}
 
-Standing-prop : (bs : List ℕ) (counting e around : ℕ) (f : Open) → IsProp (Standing bs counting e around f)
-Standing-prop bs counting e around f = hlevel props
+Standing-prop : (whole : Plain) (counting e around : ℕ) (f : Open) → IsProp (Standing whole counting e around f)
+Standing-prop whole counting e around f = hlevel props
 
-pub Nested-prop : (bs : List ℕ) (e : ℕ) (fs : List Open) → IsProp (Nested bs e fs)
-Nested-prop bs e [] = Unit-prop
-Nested-prop bs e (f ∷ fs) = ×_prop (Standing-prop bs f.next e (length fs) f) (Nested-prop bs (f.number + size f.node) fs)
+pub Nested-prop : (whole : Plain) (e : ℕ) (fs : List Open) → IsProp (Nested whole e fs)
+Nested-prop whole e [] = Unit-prop
+Nested-prop whole e (f ∷ fs) = ×_prop (Standing-prop whole f.next e (length fs) f) (Nested-prop whole (f.number + size f.node) fs)

@@ -1,14 +1,13 @@
 // What an open node does by the status of its child.
 
 ghost use Rattle.std.specs.Prelude.{◌≡◌, ◌<◌, ◌≤◌, ◌+◌, ◌-◌, ◌*◌, ◌^◌, ◌∷◌, length, drop};
-ghost use Rattle.bt_nodes.specs.Plain.{plain, plains};
+ghost use Rattle.bt_nodes.specs.Plain.{plain};
 ghost use Rattle.bt_nodes.specs.Sizes.{size};
 ghost use Rattle.game_rules.specs.View.{View};
 ghost use Rattle.game_rules.specs.Tick.{gives};
-ghost use Rattle.bt_tick.specs.Children.{children_of};
 ghost use Rattle.bt_tick.specs.Suspended.{close};
-ghost use Rattle.bt_tick.specs.Places.{Standing, Nested, weight_of, weight_all};
-ghost use Rattle.bt_tick.specs.Machine.{opened, opens, Keeps, bounds_of, Placed, weight};
+ghost use Rattle.bt_tick.specs.Places.{Sits, Standing, Nested, weight_of, weight_all};
+ghost use Rattle.bt_tick.specs.Machine.{opened, opens, Keeps, whole_of, Placed, weight};
 
 use crate::machine::{Machine, Mode};
 use bt_nodes::{Node, Status};
@@ -16,36 +15,28 @@ use fiber_stack::Frame;
 use std::alloc::Allocator;
 
 impl<'t, T: Allocator, A: Allocator> Machine<'t, T, A> {
-    // Leaves the innermost open node before its children from the next one on are ticked. Only these are walked over,
-    // for the number of the node that follows.
+    // Leaves the innermost open node with children that are not ticked. None of them is walked over for the number that
+    // follows.
     #[inline(always)]
-    fn stop(
-        &mut self,
-        frame: Frame<'t, T>,
-        children: &'t [Node<T>],
-        status: Status,
-        at: u64,
-    ) -> Mode<'t, T>
-        requires stands { Standing (bounds_of self.old)
-            frame.next at (length (opens (drop 1 self.old.stack))) (opened frame) }
-        requires children { children_of (plain frame.node.now) ≡ plains children.now }
+    fn stop(&mut self, frame: Frame<'t, T>, status: Status) -> Mode<'t, T>
+        requires { Sits (whole_of self.old) frame.number (plain frame.node.now) }
         ensures mode { result ≡ Mode.Up status (frame.entry.number + size (plain frame.entry.node.now)) }
         ensures stack { self.new.stack ≡ drop 1 self.old.stack }
         ensures memory { self.new.memory ≡ self.old.memory }
         ensures wants { self.new.wants ≡ self.old.wants }
         ensures tree { self.new.tree ≡ self.old.tree }
     {
-        let passed = Node::sizes(&children[frame.next as usize..]);
-        self.leave(status, at + passed)
+        let after = self.number_after(frame.number);
+        self.leave(status, after)
     }
 
     // Hands a status to the innermost open node, whose next child has the number `at`.
     #[inline(always)]
     pub(crate) fn ascend(&mut self, frame: Frame<'t, T>, status: Status, at: u64) -> Mode<'t, T>
         requires some { 0 < length self.old.stack }
-        requires stands { Standing (bounds_of self.old)
+        requires stands { Standing (whole_of self.old)
             frame.next at (length (opens (drop 1 self.old.stack))) (opened frame) }
-        requires nested { Nested (bounds_of self.old)
+        requires nested { Nested (whole_of self.old)
             (frame.number + size (plain frame.node.now)) (opens (drop 1 self.old.stack)) }
         ensures keeps { (v : View) →
             Keeps v self.new result self.old (drop 1 self.old.stack)
@@ -56,15 +47,15 @@ impl<'t, T: Allocator, A: Allocator> Machine<'t, T, A> {
         ensures tree { self.new.tree ≡ self.old.tree }
     {
         match frame.node {
-            Node::Seq(children) => match status {
+            Node::Seq(_) => match status {
                 Status::Success => self.advance(frame, at),
-                Status::Failure => self.stop(frame, children, Status::Failure, at),
-                Status::Running => self.stop(frame, children, Status::Running, at),
+                Status::Failure => self.stop(frame, Status::Failure),
+                Status::Running => self.stop(frame, Status::Running),
             },
-            Node::Fallback(children) => match status {
+            Node::Fallback(_) => match status {
                 Status::Failure => self.advance(frame, at),
-                Status::Success => self.stop(frame, children, Status::Success, at),
-                Status::Running => self.stop(frame, children, Status::Running, at),
+                Status::Success => self.stop(frame, Status::Success),
+                Status::Running => self.stop(frame, Status::Running),
             },
             Node::Par(_, _) => match status {
                 Status::Success => self.advance(
@@ -94,9 +85,9 @@ impl<'t, T: Allocator, A: Allocator> Machine<'t, T, A> {
                 }
                 Status::Failure => {
                     self.memory.set(frame.number, 0);
-                    self.stop(frame, children, Status::Failure, at)
+                    self.stop(frame, Status::Failure)
                 }
-                Status::Running => self.stop(frame, children, Status::Running, at),
+                Status::Running => self.stop(frame, Status::Running),
             },
             Node::FallbackStar(children) => match status {
                 Status::Failure => {
@@ -109,9 +100,9 @@ impl<'t, T: Allocator, A: Allocator> Machine<'t, T, A> {
                 }
                 Status::Success => {
                     self.memory.set(frame.number, 0);
-                    self.stop(frame, children, Status::Success, at)
+                    self.stop(frame, Status::Success)
                 }
-                Status::Running => self.stop(frame, children, Status::Running, at),
+                Status::Running => self.stop(frame, Status::Running),
             },
             Node::Not(_) => match status {
                 Status::Success => self.leave(Status::Failure, at),

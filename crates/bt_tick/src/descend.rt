@@ -3,11 +3,10 @@
 ghost use Rattle.std.specs.Prelude.{◌≡◌, ◌<◌, ◌≤◌, ◌+◌, ◌*◌, ◌++◌, ◌∷◌, [], false, length, IfOk, if◌then◌else◌};
 ghost use Rattle.bt_nodes.specs.Plain.{plain};
 ghost use Rattle.bt_nodes.specs.Sizes.{size};
-ghost use Rattle.bt_nodes.specs.Bounds.{bounds};
 ghost use Rattle.game_rules.specs.Tick.{tick};
 ghost use Rattle.bt_tick.specs.Kinds.{is_move};
 ghost use Rattle.bt_tick.specs.Places.{Sits, Nested, weight_all};
-ghost use Rattle.bt_tick.specs.Machine.{opens, Keeps, bounds_of, Placed, weight};
+ghost use Rattle.bt_tick.specs.Machine.{opens, Keeps, whole_of, Placed, weight};
 ghost use Rattle.bt_tick.specs.Views.{view_of, IsInWorld};
 
 use crate::machine::{Machine, Mode};
@@ -51,9 +50,9 @@ impl<'t, T: Allocator, A: Allocator + Clone> Machine<'t, T, A> {
     ) -> Result<Mode<'t, T>, AllocError>
         requires view { IsInWorld view.now }
         requires no_move { is_move (plain node.now) ≡ false }
-        requires sits { Sits (bounds_of self.old) number (bounds (plain node.now)) }
+        requires sits { Sits (whole_of self.old) number (plain node.now) }
         requires deep { length self.old.stack ≤ number }
-        requires nested { Nested (bounds_of self.old) (number + size (plain node.now)) (opens self.old.stack) }
+        requires nested { Nested (whole_of self.old) (number + size (plain node.now)) (opens self.old.stack) }
         ensures keeps { IfOk result (λ m.
             Keeps (view_of view.now) self.new m self.old self.old.stack (tick (view_of view.now) (plain node.now) number)) }
         ensures placed { IfOk result (λ m. Placed self.new m) }
@@ -79,7 +78,7 @@ impl<'t, T: Allocator, A: Allocator + Clone> Machine<'t, T, A> {
             Node::Tries(most, child) => {
                 let failures = self.memory.number(number);
                 if failures >= *most {
-                    return Ok(Mode::Up(Status::Failure, after + child.size()));
+                    return Ok(Mode::Up(Status::Failure, self.number_after(number)));
                 }
                 self.open_only(
                     Frame {
@@ -94,7 +93,7 @@ impl<'t, T: Allocator, A: Allocator + Clone> Machine<'t, T, A> {
                 let past = self.memory.number(number);
                 if past >= *most {
                     self.memory.set(number, 0);
-                    return Ok(Mode::Up(Status::Failure, after + child.size()));
+                    return Ok(Mode::Up(Status::Failure, self.number_after(number)));
                 }
                 self.open_only(
                     Frame {

@@ -2,13 +2,14 @@
 // copy the frame that it takes.
 
 ghost use Rattle.std.specs.Prelude.{◌≡◌, ◌<◌, ◌≤◌, ◌+◌, ◌-◌, ◌*◌, ◌^◌, ◌∷◌, List, length, drop, IfOk};
-ghost use Rattle.bt_nodes.specs.Plain.{plain, plains};
+ghost use Rattle.bt_nodes.specs.Plain.{Plain, plain, plains};
+ghost use Rattle.bt_nodes.specs.Sizes.{size};
 ghost use Rattle.game_rules.specs.View.{View};
 ghost use Rattle.game_rules.specs.Tick.{verdict};
 ghost use Rattle.bt_tick.specs.Children.{children_of};
 ghost use Rattle.bt_tick.specs.Kinds.{HasList};
-ghost use Rattle.bt_tick.specs.Places.{Resting, weight_of, weight_all};
-ghost use Rattle.bt_tick.specs.Machine.{opened, opens, rest_of, Keeps, bounds_of, Placed, weight};
+ghost use Rattle.bt_tick.specs.Places.{Sits, Resting, weight_of, weight_all};
+ghost use Rattle.bt_tick.specs.Machine.{opened, opens, rest_of, Keeps, whole_of, Placed, weight};
 
 use crate::machine::{Machine, Mode};
 use bt_nodes::{Node, Status};
@@ -46,6 +47,15 @@ fn par_status(least: u64, count: u64, successes: u64, failures: u64) -> Status
 }
 
 impl<'t, T: Allocator, A: Allocator> Machine<'t, T, A> {
+    // The number after the last node of the tree that begins at a node.
+    #[inline(always)]
+    pub(crate) fn number_after(&self, number: u64) -> u64
+        requires { number < size (whole_of self.now) }
+        ensures { (p : Plain) → Sits (whole_of self.now) number p → result ≡ number + size p }
+    {
+        number + self.tree.size_at(number)
+    }
+
     // Leaves the innermost open node, which gives this status. The number is the one after its last node.
     #[inline(always)]
     pub(crate) fn leave(&mut self, status: Status, at: u64) -> Mode<'t, T>
@@ -63,7 +73,7 @@ impl<'t, T: Allocator, A: Allocator> Machine<'t, T, A> {
     #[inline(always)]
     fn enter(&mut self, frame: Frame<'t, T>, children: &'t [Node<T>], at: u64) -> Mode<'t, T>
         requires some { 0 < length self.old.stack }
-        requires rests { Resting (bounds_of self.old) at (opened frame) (opens (drop 1 self.old.stack)) }
+        requires rests { Resting (whole_of self.old) at (opened frame) (opens (drop 1 self.old.stack)) }
         requires list { HasList (plain frame.node.now) }
         requires children { children_of (plain frame.node.now) ≡ plains children.now }
         requires next { frame.next < length children.now }
@@ -87,7 +97,7 @@ impl<'t, T: Allocator, A: Allocator> Machine<'t, T, A> {
     #[inline(always)]
     pub(crate) fn advance(&mut self, frame: Frame<'t, T>, at: u64) -> Mode<'t, T>
         requires some { 0 < length self.old.stack }
-        requires rests { Resting (bounds_of self.old) at (opened frame) (opens (drop 1 self.old.stack)) }
+        requires rests { Resting (whole_of self.old) at (opened frame) (opens (drop 1 self.old.stack)) }
         requires list { HasList (plain frame.node.now) }
         ensures keeps { (v : View) →
             Keeps v self.new result self.old (drop 1 self.old.stack) (rest_of v (opened frame.entry)) }

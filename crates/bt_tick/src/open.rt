@@ -3,14 +3,13 @@
 ghost use Rattle.std.specs.Prelude.{◌≡◌, ◌<◌, ◌≤◌, ◌+◌, ◌-◌, ◌*◌, ◌^◌, ◌∷◌, length, IfOk};
 ghost use Rattle.bt_nodes.specs.Plain.{plain, plains, none, tree};
 ghost use Rattle.bt_nodes.specs.Sizes.{size};
-ghost use Rattle.bt_nodes.specs.Bounds.{bounds};
 ghost use Rattle.game_rules.specs.View.{View};
 ghost use Rattle.game_rules.specs.Tick.{tick};
 ghost use Rattle.bt_tick.specs.Children.{children_of};
 ghost use Rattle.bt_tick.specs.Kinds.{HasList, IsStarOf};
 ghost use Rattle.bt_tick.specs.Suspended.{close};
 ghost use Rattle.bt_tick.specs.Places.{Sits, Standing, Nested, Resting, weight_of, weight_all};
-ghost use Rattle.bt_tick.specs.Machine.{opened, opens, rest_of, Keeps, bounds_of, Placed, weight};
+ghost use Rattle.bt_tick.specs.Machine.{opened, opens, rest_of, Keeps, whole_of, Placed, weight};
 
 use crate::machine::{Machine, Mode};
 use bt_nodes::Node;
@@ -25,7 +24,7 @@ impl<'t, T: Allocator, A: Allocator + Clone> Machine<'t, T, A> {
         frame: Frame<'t, T>,
         at: u64,
     ) -> Result<Mode<'t, T>, AllocError>
-        requires rests { Resting (bounds_of self.old) at (opened frame) (opens self.old.stack) }
+        requires rests { Resting (whole_of self.old) at (opened frame) (opens self.old.stack) }
         requires list { HasList (plain frame.node.now) }
         ensures keeps { IfOk result (λ m. (v : View) →
             Keeps v self.new m self.old self.old.stack (rest_of v (opened frame.entry))) }
@@ -38,8 +37,8 @@ impl<'t, T: Allocator, A: Allocator + Clone> Machine<'t, T, A> {
         Ok(self.advance(frame, at))
     }
 
-    // Opens a node with memory, and begins the child that its number names. Only the children before that one are
-    // walked over, for its number.
+    // Opens a node with memory, and begins the child that its number names. The children before that one are passed
+    // over by their sizes, for its number.
     pub(crate) fn open_star(
         &mut self,
         node: &'t Node<T>,
@@ -47,9 +46,9 @@ impl<'t, T: Allocator, A: Allocator + Clone> Machine<'t, T, A> {
         number: u64,
     ) -> Result<Mode<'t, T>, AllocError>
         requires star { IsStarOf (plain node.now) (plains children.now) }
-        requires sits { Sits (bounds_of self.old) number (bounds (plain node.now)) }
+        requires sits { Sits (whole_of self.old) number (plain node.now) }
         requires deep { length self.old.stack ≤ number }
-        requires nested { Nested (bounds_of self.old) (number + size (plain node.now)) (opens self.old.stack) }
+        requires nested { Nested (whole_of self.old) (number + size (plain node.now)) (opens self.old.stack) }
         ensures keeps { IfOk result (λ m. (v : View) →
             Keeps v self.new m self.old self.old.stack (tick v (plain node.now) number)) }
         ensures placed { IfOk result (λ m. Placed self.new m) }
@@ -58,7 +57,10 @@ impl<'t, T: Allocator, A: Allocator + Clone> Machine<'t, T, A> {
         ensures tree { self.new.tree ≡ self.old.tree }
     {
         let next = self.memory.number(number);
-        let passed = Node::sizes(&children[..next as usize]);
+        let mut at = number + 1;
+        'passed: for _child in 0..next {
+            at = self.number_after(at);
+        }
         let frame = Frame {
             node,
             number,
@@ -66,7 +68,7 @@ impl<'t, T: Allocator, A: Allocator + Clone> Machine<'t, T, A> {
             successes: 0,
             failures: 0,
         };
-        self.open_list(frame, number + 1 + passed)
+        self.open_list(frame, at)
     }
 
     // Opens a node with one child, and begins it.
@@ -77,10 +79,10 @@ impl<'t, T: Allocator, A: Allocator + Clone> Machine<'t, T, A> {
         child: &'t Node<T>,
     ) -> Result<Mode<'t, T>, AllocError>
         requires only { children_of (plain frame.node.now) ≡ tree (plain child.now) none }
-        requires stands { Standing (bounds_of self.old)
+        requires stands { Standing (whole_of self.old)
             1 (frame.number + size (plain frame.node.now)) (length (opens self.old.stack)) (opened frame) }
         requires begun { frame.next ≡ 1 }
-        requires nested { Nested (bounds_of self.old)
+        requires nested { Nested (whole_of self.old)
             (frame.number + size (plain frame.node.now)) (opens self.old.stack) }
         ensures keeps { IfOk result (λ m. (v : View) →
             Keeps v self.new m self.old self.old.stack

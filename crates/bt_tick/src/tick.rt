@@ -1,6 +1,5 @@
 // Ticks that may stop at a path question.
 
-ghost use Rattle.bt_nodes.specs.Bounds.{bounds};
 ghost use Rattle.bt_nodes.specs.Trees.{plain_of};
 ghost use Rattle.bt_tick.specs.Places.{Nested};
 ghost use Rattle.bt_tick.specs.Machine.{opens};
@@ -19,7 +18,7 @@ pub struct Pending<'t, T: Allocator, A: Allocator> {
     pub(crate) place: Place,
     // the number after the `Move` that asks
     pub(crate) after: u64,
-    ghost nested: { Nested (bounds (plain_of machine.tree.now)) after (opens machine.stack) } by { Nested-prop (bounds (plain_of machine.tree.now)) after (opens machine.stack) },
+    ghost nested: { Nested (plain_of machine.tree.now) after (opens machine.stack) } by { Nested-prop (plain_of machine.tree.now) after (opens machine.stack) },
 }
 
 /// What a tick comes to.

@@ -5,6 +5,8 @@ use Rattle.clap.specs.Words.{App, Row, Rule, Text, first_of, new_app, new_rule, 
 use Rattle.clap.specs.Simple.{on_top}
 use Rattle.clap.specs.declared.builder.value_parser.ValueParser.TheVariants as parsers
 use Rattle.btworld.specs.declared.words.Words.{Words}
+use Rattle.btworld.specs.declared.words.WordsFault.{WordsFault}
+use Rattle.btworld.specs.declared.words.WordsFault.TheVariants.{Help}
 use Rattle.btworld.specs.declared.words.Words.TheVariants.{Piped, Play}
 
 -- a required option with a number in a range
@@ -47,3 +49,8 @@ IsReading words Piped = words ≡ []
 IsReading words (Play p) = (rows : List Row) × Enters words (codes "play") rows × IsText rows (codes "level") p.level
     × IsNumber (first_of (codes "frames") rows) p.frames × IsNumber (first_of (codes "workers") rows) p.workers
     × IsOptional rows (codes "script") p.script
+
+-- no help was asked for
+abbrev pub IsRefusal : WordsFault → Type 0
+IsRefusal (Help text) = ⊥
+IsRefusal _ = Unit {0}

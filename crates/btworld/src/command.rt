@@ -1,7 +1,8 @@
 // What the program does with its words.
-ghost use Rattle.std.specs.Prelude.{◌≡◌, ℕ, List, [], IfSome, IsSomeAnd, MatchOption, OnOk, OnErr};
+ghost use Rattle.std.specs.Prelude.{◌≡◌, ℕ, List, [], None, IfErr, IfSome, IsSomeAnd, MatchOption, OnOk, OnErr};
 ghost use Rattle.std.specs.Io.KnownBytes.{Appends, Keeps};
 ghost use Rattle.game_rules.specs.Text.{texts};
+ghost use Rattle.btworld.specs.Faults.{status_of};
 ghost use Rattle.btworld.specs.Games.{spelled_game};
 ghost use Rattle.serial_run.specs.Streams.{AppendsPart};
 
@@ -21,6 +22,8 @@ fn play_input<R: Read, W: Write>(alloc: Global, input: &mut R, out: &mut W) -> R
     ensures err { OnErr result (IfSome (R.remaining input.old) (λ bytes. MatchOption (spelled_game bytes [])
         (Keeps (W.contents out.old) (W.contents out.new))
         (λ g. AppendsPart (W.contents out.old) (W.contents out.new) (texts g 3)))) }
+    ensures refused { IfErr result (λ fault. IfSome (R.remaining input.old)
+        (λ bytes. status_of fault ≡ 2 → spelled_game bytes [] ≡ None)) }
 {
     let bytes = match read_whole(alloc, input) {
         Ok(bytes) => bytes,
@@ -86,6 +89,8 @@ pub fn command<H: Files, R: Read, W: Write, E: Write>(
     ensures part { words.now ≡ [] → IfSome (R.remaining input.old) (λ bytes. MatchOption (spelled_game bytes [])
         (Keeps (W.contents out.old) (W.contents out.new))
         (λ g. AppendsPart (W.contents out.old) (W.contents out.new) (texts g 3))) }
+    ensures refused { words.now ≡ [] → result ≡ 2 → IfSome (R.remaining input.old)
+        (λ bytes. spelled_game bytes [] ≡ None) }
 {
     match read_words(alloc, words) {
         Ok(Words::Piped) => match play_input(alloc, input, out) {

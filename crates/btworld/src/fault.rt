@@ -1,4 +1,5 @@
-ghost use Rattle.std.specs.Prelude.{◌≤◌};
+ghost use Rattle.std.specs.Prelude.{◌≡◌, ◌<◌, ◌+◌};
+ghost use Rattle.btworld.specs.Faults.{status_of, IsOfLevel, IsOfScript, IsOfRun, IsOfPlay};
 
 use crate::play::PlayFault;
 use bt_nodes::TreeFault;
@@ -54,11 +55,15 @@ fn limit_text(fault: TreeFault) -> &'static str {
 }
 
 /// The letter of an agent, counted from 0.
-fn letter_of(agent: u32) -> char {
+fn letter_of(agent: u32) -> char
+    ensures { agent < 26 → result ≡ agent + 65 }
+{
     char::from_u32(agent.saturating_add(65)).unwrap_or('?')
 }
 
 impl From<LevelFault> for Fault {
+    ghost from_gives = { λ given fault. IsOfLevel given fault };
+
     fn from(fault: LevelFault) -> Fault {
         match fault {
             LevelFault::OutOfMemory => Fault::OutOfMemory,
@@ -81,6 +86,8 @@ impl From<LevelFault> for Fault {
 }
 
 impl From<ScriptFault> for Fault {
+    ghost from_gives = { λ given fault. IsOfScript given fault };
+
     fn from(fault: ScriptFault) -> Fault {
         match fault {
             ScriptFault::OutOfMemory => Fault::OutOfMemory,
@@ -91,6 +98,8 @@ impl From<ScriptFault> for Fault {
 }
 
 impl From<SerialFault> for Fault {
+    ghost from_gives = { λ given fault. IsOfRun given fault };
+
     fn from(fault: SerialFault) -> Fault {
         match fault {
             SerialFault::OutOfMemory => Fault::OutOfMemory,
@@ -100,6 +109,8 @@ impl From<SerialFault> for Fault {
 }
 
 impl From<PlayFault> for Fault {
+    ghost from_gives = { λ given fault. IsOfPlay given fault };
+
     fn from(fault: PlayFault) -> Fault {
         match fault {
             PlayFault::Level(fault) => Fault::from(fault),
@@ -112,7 +123,7 @@ impl From<PlayFault> for Fault {
 impl Fault {
     /// The status with which the program ends.
     fn status(&self) -> u8
-        ensures { 1 ≤ result }
+        ensures { result ≡ status_of self.now }
     {
         match self {
             Fault::File(_) | Fault::Input | Fault::Write => 1,
@@ -123,7 +134,7 @@ impl Fault {
 
     /// Writes the line, and gives the status, also where the line can't be written. Takes no memory.
     pub fn report<E: Write>(&self, err: &mut E) -> u8
-        ensures { 1 ≤ result }
+        ensures { result ≡ status_of self.now }
     {
         let _ = writeln!(err, "{self}");
         self.status()

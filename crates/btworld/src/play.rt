@@ -1,8 +1,9 @@
 // Plays the game that a level's and a script's bytes spell.
-ghost use Rattle.std.specs.Prelude.{OnOk, OnErr, IsSomeAnd, MatchOption};
+ghost use Rattle.std.specs.Prelude.{OnOk, OnErr, IfErr, IsSomeAnd, MatchOption};
 ghost use Rattle.std.specs.Io.KnownBytes.{Appends, Keeps};
 ghost use Rattle.game_rules.specs.Text.{texts};
 ghost use Rattle.btworld.specs.Games.{spelled_game};
+ghost use Rattle.btworld.specs.Faults.{IsPlayFault};
 ghost use Rattle.serial_run.specs.Streams.{AppendsPart};
 
 use level_text::{LevelFault, ScriptFault, Session, read_level, read_script};
@@ -34,6 +35,7 @@ pub fn play_bytes<W: Write>(
     ensures err { OnErr result (MatchOption (spelled_game level.now script.now)
         (Keeps (W.contents out.old) (W.contents out.new))
         (λ g. AppendsPart (W.contents out.old) (W.contents out.new) (texts g frames))) }
+    ensures fault { IfErr result (IsPlayFault level.now script.now) }
 {
     let level = match read_level(alloc, level) {
         Ok(level) => level,

@@ -1,6 +1,7 @@
 // The words of the program, as clap reads them.
-ghost use Rattle.std.specs.Prelude.{◌≡◌, true, false, ℕ, List, [], Some, codes, option_map, map, string_bytes, IfOk};
-ghost use Rattle.btworld.specs.Program.{IsNumber, IsReading, Enters, word_rule, path_rule, number_rule, play, program};
+ghost use Rattle.std.specs.Prelude.{◌≡◌, true, false, ℕ, List, [], Some, codes, option_map, map, string_bytes, IfOk, IfErr};
+ghost use Rattle.btworld.specs.Program.{IsNumber, IsReading, Enters, word_rule, path_rule, number_rule, play, program, IsRefusal};
+ghost use Rattle.btworld.specs.declared.words.WordsFault.TheVariants.{OutOfMemory};
 ghost use Rattle.clap.specs.declared.builder.command.Command.TheViews.{out-Command};
 ghost use Rattle.clap.specs.Simple.{on_top};
 ghost use Rattle.clap.specs.Words.{app_of, new_app, with_rule, with_subcommand, first_of, found_of, rows_of, rule_of};
@@ -39,6 +40,8 @@ pub enum Words {
 }
 
 impl From<AllocError> for WordsFault {
+    ghost from_gives = { λ _ fault. fault ≡ OutOfMemory };
+
     fn from(_: AllocError) -> WordsFault {
         WordsFault::OutOfMemory
     }
@@ -117,7 +120,9 @@ fn fault_of(alloc: Global, error: &Error) -> WordsFault {
 }
 
 /// An entry that clap's reading doesn't have; clap refuses such words itself.
-fn missing(alloc: Global, name: &str) -> WordsFault {
+fn missing(alloc: Global, name: &str) -> WordsFault
+    ensures { IsRefusal result }
+{
     match String::from_str(alloc, name) {
         Ok(text) => WordsFault::Refused(text),
         Err(_) => WordsFault::OutOfMemory,
@@ -125,7 +130,8 @@ fn missing(alloc: Global, name: &str) -> WordsFault {
 }
 
 fn number_entry(alloc: Global, matches: &ArgMatches<'_>, name: &str) -> Result<u32, WordsFault>
-    ensures { IfOk result (λ n. IsNumber (first_of name.now (rows_of (found_of matches.now))) n) }
+    ensures number { IfOk result (λ n. IsNumber (first_of name.now (rows_of (found_of matches.now))) n) }
+    ensures refusal { IfErr result IsRefusal }
 {
     match matches.get_str(name) {
         Some(text) => match text.parse::<u32>() {
@@ -137,7 +143,8 @@ fn number_entry(alloc: Global, matches: &ArgMatches<'_>, name: &str) -> Result<u
 }
 
 fn text_entry(alloc: Global, matches: &ArgMatches<'_>, name: &str) -> Result<String, WordsFault>
-    ensures { IfOk result (λ t. first_of name.now (rows_of (found_of matches.now)) ≡ Some (string_bytes t)) }
+    ensures text { IfOk result (λ t. first_of name.now (rows_of (found_of matches.now)) ≡ Some (string_bytes t)) }
+    ensures refusal { IfErr result IsRefusal }
 {
     match matches.get_str(name) {
         Some(text) => Ok(String::from_str(alloc, text)?),
@@ -160,8 +167,9 @@ fn optional_entry(
 }
 
 fn play_words(alloc: Global, matches: &ArgMatches<'_>) -> Result<Words, WordsFault>
-    ensures { IfOk result (λ w. (ws : List (List ℕ))
+    ensures reading { IfOk result (λ w. (ws : List (List ℕ))
         → Enters ws (codes "play") (rows_of (found_of matches.now)) → IsReading ws w) }
+    ensures refusal { IfErr result IsRefusal }
 {
     Ok(Words::Play(Play {
         level: text_entry(alloc, matches, "level")?,

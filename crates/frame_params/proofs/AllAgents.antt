@@ -1,6 +1,7 @@
 -- When a list holds the parts of all agents, in order.
-use Rattle.std.proofs.Common.{◌≡◌, ◌<◌, ℕ, zero, suc, ◌+◌, List, [], ◌∷◌, length, map, get_or, refl, sym, ap, ap₂, ◌∙◌, arith}
+use Rattle.std.proofs.Common.{◌≡◌, ◌<◌, ◌≤◌, ℕ, zero, suc, ◌+◌, ◌-◌, List, [], ◌∷◌, ◌++◌, append_assoc, append-nil, length, map, get_or, refl, sym, ap, ap₂, ◌∙◌, arith}
 use Rattle.grid_world.specs.Map.{count_up}
+use Rattle.grid_world.proofs.CountUp.{count_up-left, count_up-none_left}
 use Rattle.game_rules.specs.Game.{Game}
 use Rattle.frame_params.specs.Names.{FrameOf, PartOf, part_of, AreOfAllAgents}
 
@@ -30,3 +31,14 @@ of_one p q e is = in_order p (q ∷ []) (sym e) one
     one : (i : ℕ) (d : PartOf) → i < 1 → get_or (q ∷ []) i d ≡ part_of p.game p.frame i
     one zero d l = is
     one (suc i) d l = absurd (omega (arith, l))
+
+-- one more, in a list that is built from the first agent on
+pub one_more : (g : Game) (f i n : ℕ) (done longer whole : List PartOf) (q : PartOf) → i < n → q ≡ part_of g f i → longer ≡ done ++ q ∷ []
+    → done ++ map (part_of g f) (count_up i (n - i)) ≡ whole → longer ++ map (part_of g f) (count_up (i + 1) (n - (i + 1))) ≡ whole
+one_more g f i n done longer whole q h is e w =
+    ap (λ l. l ++ map (part_of g f) (count_up (i + 1) (n - (i + 1)))) (e ∙ ap (λ x. done ++ x ∷ []) is)
+    ∙ append_assoc done (part_of g f i ∷ []) (map (part_of g f) (count_up (i + 1) (n - (i + 1))))
+    ∙ ap (λ l. done ++ map (part_of g f) l) (sym (count_up-left i n h)) ∙ w
+
+pub all_done : (g : Game) (f i n : ℕ) (done whole : List PartOf) → n ≤ i → done ++ map (part_of g f) (count_up i (n - i)) ≡ whole → done ≡ whole
+all_done g f i n done whole h w = sym (append-nil done) ∙ ap (λ l. done ++ map (part_of g f) l) (sym (count_up-none_left i n h)) ∙ w

@@ -48,15 +48,18 @@ unfolding questions_in
 few_asked g f a i p s = let asks = (asks_for g f a i p s).asks in let most = few (seen g f a) (tree_of g a) (memory_before g f a) in omega (arith, asks, most)
 
 module _ (g : Game) (f a i : ℕ) where
-  pub ended_all : (st : Status) (memory : List ℕ) (intent : Intent) → ThinksTo g f a i (Ended st memory intent) → i ≡ questions_in g f a
+  pub thinks_same : {A : Type 0} {o r : Outcome Global A} → o ≡ r → ThinksTo g f a i o → ThinksTo g f a i r
+  thinks_same e t = subst (λ x. ThinksTo g f a i x) e t
+
+  pub ended_all : {A : Type 0} (st : Status) (memory : List ℕ) (intent : Intent) → ThinksTo {A = A} g f a i (Ended st memory intent) → i ≡ questions_in g f a
   unfolding questions_in
   ended_all st memory intent t = ended_asks (seen g f a) (tree_of g a) (memory_before g f a) i st memory intent t
 
-  pub still_asked : (place : ℕ) (p : Pending Global Global) → ThinksTo g f a i (Asks place p) → i < questions_in g f a
+  pub still_asked : {A : Type 0} (place : ℕ) (p : Pending Global A) → ThinksTo g f a i (Asks place p) → i < questions_in g f a
   unfolding questions_in
   still_asked place p t = still_asks (seen g f a) (tree_of g a) (memory_before g f a) i place p t
 
-  pub ended_thought : (st : Status) (memory : List ℕ) (intent : Intent) → ThinksTo g f a i (Ended st memory intent)
+  pub ended_thought : {A : Type 0} (st : Status) (memory : List ℕ) (intent : Intent) → ThinksTo {A = A} g f a i (Ended st memory intent)
       → record { status = st; memory = memory; intent = intent } ≡ thought_in g f a
   unfolding thought_in
   ended_thought st memory intent t = thinking_ended (seen g f a) (tree_of g a) (memory_before g f a) i st memory intent t
@@ -92,12 +95,12 @@ module _ (g : Game) (f a : ℕ) (world : Grid) (on : List Bool) (sees : Sees g f
       on_with.way.way_is ∙ way_for g f a i (place_of p) (asks_for g f a i p on_with.stands)
       ∙ ap (λ v. way v.world v.signals (cell_of v) (place_of p)) (sym (sees_is g f a world on sees))
 
-  pub starts : (memory : List ℕ) (o : Outcome Global Global) → memory ≡ memory_before g f a → Thinking (view on world a) (tree_of g a) memory 0 o → ThinksTo g f a 0 o
+  pub starts : {A : Type 0} (memory : List ℕ) (o : Outcome Global A) → memory ≡ memory_before g f a → Thinking (view on world a) (tree_of g a) memory 0 o → ThinksTo g f a 0 o
   starts memory o e t =
       subst (λ v. Thinking v (tree_of g a) (memory_before g f a) 0 o) (sees_is g f a world on sees)
       (subst (λ m. Thinking (view on world a) (tree_of g a) m 0 o) e t)
 
-  pub goes_on : (i : ℕ) (p : Pending Global Global) (x : Answer) (o : Outcome Global Global) → GoesOn g f a i p x
+  pub goes_on : {A : Type 0} (i : ℕ) (p : Pending Global Global) (x : Answer) (o : Outcome Global A) → GoesOn g f a i p x
       → ((tree : Plain) (memory : List ℕ) (n : ℕ) → Thinking (view on world a) tree memory n (Asks (place_of p) p) → Thinking (view on world a) tree memory (n + 1) o)
       → ThinksTo g f a (i + 1) o
   goes_on i p x o on_with h =

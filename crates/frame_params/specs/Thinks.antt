@@ -26,7 +26,7 @@ pub record Sees (g : Game) (f a : ℕ) (world : Grid) (on : List Bool) : Type 0 
   pub signals_are : on ≡ signals_in g f
 
 -- what the tick of agent a's tree in frame f comes to with its first i answers
-abbrev pub ThinksTo : Game → (f a i : ℕ) → Outcome Global Global → Type 0
+abbrev pub ThinksTo : {A : Type 0} → Game → (f a i : ℕ) → Outcome Global A → Type 0
 ThinksTo g f a i outcome = Thinking (seen g f a) (tree_of g a) (memory_before g f a) i outcome
 
 -- that tick, where it stands at question i

@@ -3,9 +3,9 @@ ghost use Rattle.std.specs.Arc.{arc_value};
 ghost use Rattle.grid_world.specs.Intents.{apply_all};
 ghost use Rattle.frame_params.specs.Logic.{IsGathered};
 
+use crate::kept_memory::KeptMemory;
 use crate::turn::Turn;
 use bt_nodes::Status;
-use bt_tick::Memory;
 use grid_world::{Intent, ResolveFault, Signals, World, resolve};
 use level_text::Session;
 use std::alloc::{AllocError, Global};
@@ -18,7 +18,7 @@ pub(crate) struct Gathered {
     pub(crate) signals: Signals,
     pub(crate) intents: Vec<Intent>,
     pub(crate) statuses: Arc<Vec<Status>>,
-    pub(crate) memories: Arc<Vec<Memory>>,
+    pub(crate) memories: Arc<Vec<KeptMemory>>,
 }
 
 // The world after an intent of each agent.

@@ -5,11 +5,14 @@
 mod band_out;
 mod draw_task;
 mod gathered;
+mod kept_memory;
 mod logic_step;
 mod logic_task;
 mod params;
 mod parked;
 mod path_task;
+#[cfg(test)]
+mod play_tests;
 mod slots;
 mod stand;
 mod step;
@@ -18,6 +21,8 @@ mod task;
 mod tests;
 mod think_step;
 mod think_task;
+#[cfg(test)]
+mod think_tests;
 mod thought;
 mod turn;
 mod way;

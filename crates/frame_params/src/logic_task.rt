@@ -6,11 +6,11 @@ ghost use Rattle.frame_params.specs.Contents.{thought_for};
 ghost use Rattle.frame_params.specs.Logic.{AllFitOwn, IsLogicStep};
 
 use crate::gathered::Gathered;
+use crate::kept_memory::KeptMemory;
 use crate::logic_step::LogicStep;
 use crate::params::FrameParams;
 use crate::thought::Thought;
 use bt_nodes::Status;
-use bt_tick::Memory;
 use grid_world::Intent;
 use job_core::names::JobName;
 use level_text::Session;
@@ -64,13 +64,13 @@ fn statuses_of(alloc: Global, thoughts: &[Thought]) -> Result<Vec<Status>, Alloc
 }
 
 // Each agent's memory.
-fn memories_of(alloc: Global, thoughts: &[Thought]) -> Result<Vec<Memory>, AllocError>
+fn memories_of(alloc: Global, thoughts: &[Thought]) -> Result<Vec<KeptMemory>, AllocError>
     ensures value { IfOk result (λ v. v.items ≡ map (λ p. (thought_for p).memory) thoughts.now) }
     ensures fit { IfOk result (λ v. AllFitOwn thoughts.now v.items) }
 {
     let mut memories = Vec::with_capacity(alloc, thoughts.len())?;
     'thoughts: for thought in thoughts {
-        memories.push(thought.memory().copy(alloc)?)?;
+        memories.push(thought.memory().share()?)?;
     }
     Ok(memories)
 }
@@ -92,7 +92,8 @@ impl<'t> LogicTask<'t> {
         })
     }
 
-    /// The logic of a frame after all its thinks. The thoughts are those of all agents, in order.
+    /// The logic of a frame after all its thinks. The thoughts are those of all agents, in order; it shares their
+    /// memories, and takes memory five times at most, however many they are.
     pub fn turn(
         alloc: Global,
         params: &FrameParams<'t>,

@@ -3,6 +3,7 @@ ghost use Rattle.bt_nodes.specs.Bounds.{zero_memory, Fits};
 ghost use Rattle.game_jobs.specs.Instance.{tree_of};
 ghost use Rattle.frame_params.specs.Contents.{signals_in, world_after, memory_before, AllFit};
 
+use crate::kept_memory::KeptMemory;
 use crate::turn::Turn;
 use bt_tick::Memory;
 use grid_world::{Signals, World};
@@ -19,7 +20,7 @@ pub struct FrameParams<'t> {
     pub(crate) frame: u32,
     pub(crate) signals: Signals,
     pub(crate) world: Arc<World>,
-    pub(crate) memories: Arc<Vec<Memory>>,
+    pub(crate) memories: Arc<Vec<KeptMemory>>,
 }
 
 impl<'t> Model for FrameParams<'t> {
@@ -39,14 +40,15 @@ impl<'t> Model for FrameParams<'t> {
 }
 
 // A memory of zeros for each agent.
-fn zero_memories(alloc: Global, session: &Session) -> Result<Vec<Memory>, AllocError>
+fn zero_memories(alloc: Global, session: &Session) -> Result<Vec<KeptMemory>, AllocError>
     ensures zeros { IfOk result (λ memories. memories.items ≡ map zero_memory session.now.trees) }
     ensures fit { IfOk result (λ memories. AllFit session.now.trees memories.items) }
 {
     let count = session.world().agents().len();
     let mut memories = Vec::with_capacity(alloc, count)?;
     'agents: for agent in 0..count as u32 {
-        memories.push(Memory::zero(alloc, session.tree_of(agent))?)?;
+        let zero = Memory::zero(alloc, session.tree_of(agent))?;
+        memories.push(KeptMemory::new(alloc, zero)?)?;
     }
     Ok(memories)
 }
@@ -118,6 +120,6 @@ impl<'t> FrameParams<'t> {
         ensures value { result.now ≡ memory_before self.now.game self.now.frame agent }
         ensures fits { Fits (tree_of self.now.game agent) result.now }
     {
-        &self.memories[agent as usize]
+        self.memories[agent as usize].memory()
     }
 }

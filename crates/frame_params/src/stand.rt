@@ -1,4 +1,5 @@
-use bt_tick::{Memory, Pending};
+use crate::kept_memory::KeptMemory;
+use bt_tick::Pending;
 use grid_world::Answer;
 use std::alloc::Global;
 use std::sync::Arc;
@@ -8,7 +9,7 @@ use std::sync::Arc;
 #[derive(Drop)]
 pub(crate) enum Stand<'t> {
     Start {
-        memories: Arc<Vec<Memory>>,
+        memories: Arc<Vec<KeptMemory>>,
     },
     Answered {
         question: u32,

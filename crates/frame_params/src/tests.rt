@@ -7,11 +7,15 @@ use level_text::{Session, read_level, read_script};
 use std::alloc::Global;
 use std::test::Fail;
 
+// An agent two steps west of where it goes.
+pub(crate) const FIRST: &str =
+    "{\"map\":[\"A.0\"],\"agents\":[\"t\"],\"trees\":{\"t\":[\"move\",\"0\"]}}";
+
 // A map of 20 rows that nobody walks, with a door in the last.
 const EMPTY: &str =
     "{\"map\":[\".\",\".\",\".\",\".\",\".\",\".\",\".\",\".\",\".\",\".\",\".\",\".\",\".\",\".\",\".\",\".\",\".\",\".\",\".\",\"a\"],\"agents\":[],\"trees\":{}}";
 
-fn session_of(alloc: Global, level: &str, script: &str) -> Result<Session, Fail> {
+pub(crate) fn session_of(alloc: Global, level: &str, script: &str) -> Result<Session, Fail> {
     let level = read_level(alloc, level.as_bytes()).map_err(|_| "level")?;
     let script = read_script(alloc, script.as_bytes()).map_err(|_| "script")?;
     Ok(Session::new(level, script))

@@ -9,19 +9,27 @@ ghost use Rattle.bt_tick.specs.Outcome.{place_of};
 ghost use Rattle.bt_tick.specs.Thinking.{Thinking};
 ghost use Rattle.bt_tick.specs.declared.tick.Outcome.TheVariants.{Asks};
 
+use crate::kept_memory::KeptMemory;
 use crate::params::FrameParams;
 use crate::parked::Parked;
 use crate::stand::Stand;
 use crate::think_step::ThinkStep;
 use crate::thought::Thought;
 use crate::way::Way;
+use bt_nodes::Tree;
 use bt_tick::{Memory, Outcome, Pending, View, begin, resume};
+use bumpalo::Bump;
 use grid_world::{Answer, Signals, World};
 use job_core::names::JobName;
 use level_text::Session;
 use std::alloc::{AllocError, Global};
 use std::marker::Model;
 use std::sync::Arc;
+
+// Room in an arena for an open node, and for a want, with all lists that grow to hold it.
+const OPEN_BYTES: usize = 64;
+
+const WANT_BYTES: usize = 8;
 
 /// An agent's thought in a frame, at its start or with the answer to the question at which it stood.
 #[derive(Drop)]
@@ -50,39 +58,47 @@ impl<'t> Model for ThinkTask<'t> {
         × IsStand t.session.now t.frame t.agent t.stand };
 }
 
-// Begins the tick of the view's agent, with a copy of its memory.
-fn begun<'t>(
+// An arena with room for all nodes that a tick of the tree has open at a time, and for a want of each node.
+fn arena_for(alloc: Global, tree: &Tree<Global>) -> Result<Bump, AllocError> {
+    let open = tree.depth() as usize * OPEN_BYTES;
+    let wants = tree.size() as usize * WANT_BYTES;
+    Bump::try_with_capacity(alloc, open + wants)
+}
+
+// Begins the tick of the view's agent, with a copy of its memory. The nodes that it has open lie in the arena.
+fn begun<'t, 'a>(
     alloc: Global,
+    arena: &'a Bump,
     session: &'t Session,
     view: &View,
     memory: &Memory,
-) -> Result<Outcome<'t, Global, Global>, AllocError>
+) -> Result<Outcome<'t, Global, &'a Bump>, AllocError>
     requires there { view.now.agent < length session.now.trees }
     requires agent { IsInWorld view.now }
     requires fits { Fits (tree_of session.now view.now.agent) memory.now }
     ensures { IfOk result (λ o. Thinking (view_of view.now) (tree_of session.now view.now.agent) memory.now 0 o) }
 {
     let tree = session.tree_of(view.agent);
-    match begin(alloc, tree, view, memory.copy(alloc)?) {
+    match begin(arena, tree, view, memory.copy(alloc)?) {
         Ok(outcome) => Ok(outcome),
         Err(_) => Err(AllocError),
     }
 }
 
-// Goes on with a copy of a tick that stands, by the way to the place for which it asks.
-fn resumed<'t>(
-    alloc: Global,
+// Goes on with a copy in the arena of a tick that stands, by the way to the place for which it asks.
+fn resumed<'t, 'a>(
+    arena: &'a Bump,
     view: &View,
     pending: &Pending<'t, Global, Global>,
     answer: Answer,
-) -> Result<Outcome<'t, Global, Global>, AllocError>
+) -> Result<Outcome<'t, Global, &'a Bump>, AllocError>
     requires agent { IsInWorld view.now }
     requires way { answer ≡ way view.now.world.now view.now.signals (cell_of (view_of view.now)) (place_of pending.now) }
     ensures { IfOk result (λ o. (tree : Plain) (memory : List ℕ) (i : ℕ)
         → Thinking (view_of view.now) tree memory i (Asks (place_of pending.now) pending.now)
         → Thinking (view_of view.now) tree memory (i + 1) o) }
 {
-    match resume(alloc, pending.copy_in(alloc)?, view, answer) {
+    match resume(arena, pending.copy_in(arena)?, view, answer) {
         Ok(outcome) => Ok(outcome),
         Err(_) => Err(AllocError),
     }
@@ -167,7 +183,11 @@ impl<'t> ThinkTask<'t> {
     }
 
     // Ticks the tree from where it stands, to its end or to its next question.
-    fn ticked(&self, alloc: Global) -> Result<Outcome<'t, Global, Global>, AllocError>
+    fn ticked<'a>(
+        &self,
+        alloc: Global,
+        arena: &'a Bump,
+    ) -> Result<Outcome<'t, Global, &'a Bump>, AllocError>
         ensures there { self.now.agent < length self.now.game.trees }
         ensures thinks { IfOk result (λ o. ThinksTo self.now.game self.now.frame self.now.agent self.now.answered o) }
     {
@@ -179,24 +199,45 @@ impl<'t> ThinkTask<'t> {
         match &self.stand {
             Stand::Start { memories } => Ok(begun(
                 alloc,
+                arena,
                 self.session,
                 &view,
-                &memories[self.agent as usize],
+                memories[self.agent as usize].memory(),
             )?),
             Stand::Answered {
                 question: _,
                 pending,
                 answer,
-            } => Ok(resumed(alloc, &view, pending, *answer)?),
+            } => Ok(resumed(arena, &view, pending, *answer)?),
         }
     }
 
+    // A tick that stands at the next question, copied out of the arena.
+    fn parked(
+        &self,
+        alloc: Global,
+        pending: &Pending<'t, Global, &Bump>,
+    ) -> Result<Parked<'t>, AllocError>
+        requires { ThinksTo self.now.game self.now.frame self.now.agent self.now.answered (Asks (place_of pending.now) pending.now) }
+        ensures { IfOk result (λ p. p ≡ record { game = self.now.game; frame = self.now.frame; agent = self.now.agent; question = self.now.answered }) }
+    {
+        Ok(Parked {
+            session: self.session,
+            frame: self.frame,
+            agent: self.agent,
+            question: self.answered(),
+            pending: Arc::new(alloc, pending.copy_in(alloc)?)?,
+        })
+    }
+
     /// Ticks the tree to its end or to its next question, in the world of the frame before, whatever other agents came
-    /// to. It works on a copy of the memory or of the tick that it has.
+    /// to. It works on a copy of the memory or of the tick that it has. A tick that asks nothing takes memory three
+    /// times: for the agent's memory, for its being shared, and at once for all nodes that the tick opens.
     pub fn work(&self, alloc: Global) -> Result<ThinkStep<'t>, AllocError>
         ensures { IfOk result (λ step. IsThinkStep self.now step) }
     {
-        match self.ticked(alloc)? {
+        let arena = arena_for(alloc, self.session.tree_of(self.agent))?;
+        match self.ticked(alloc, &arena)? {
             Outcome::Ended {
                 status,
                 memory,
@@ -207,16 +248,12 @@ impl<'t> ThinkTask<'t> {
                 agent: self.agent,
                 questions: self.answered(),
                 status,
-                memory,
+                memory: KeptMemory::new(alloc, memory)?,
                 intent,
             })),
-            Outcome::Asks { place: _, pending } => Ok(ThinkStep::Asks(Parked {
-                session: self.session,
-                frame: self.frame,
-                agent: self.agent,
-                question: self.answered(),
-                pending: Arc::new(alloc, pending)?,
-            })),
+            Outcome::Asks { place: _, pending } => {
+                Ok(ThinkStep::Asks(self.parked(alloc, &pending)?))
+            }
         }
     }
 }

@@ -3,8 +3,8 @@ ghost use Rattle.bt_nodes.specs.Bounds.{Fits};
 ghost use Rattle.game_jobs.specs.Instance.{tree_of};
 ghost use Rattle.frame_params.specs.Contents.{thought_in, questions_in};
 
+use crate::kept_memory::KeptMemory;
 use bt_nodes::Status;
-use bt_tick::Memory;
 use grid_world::Intent;
 use job_core::names::JobName;
 use level_text::Session;
@@ -18,7 +18,7 @@ pub struct Thought<'t> {
     pub(crate) agent: u32,
     pub(crate) questions: u32,
     pub(crate) status: Status,
-    pub(crate) memory: Memory,
+    pub(crate) memory: KeptMemory,
     pub(crate) intent: Intent,
 }
 
@@ -79,7 +79,7 @@ impl<'t> Thought<'t> {
     }
 
     // The agent's memory after the tick.
-    pub(crate) fn memory(&self) -> &Memory
+    pub(crate) fn memory(&self) -> &KeptMemory
         ensures value { result.now ≡ (thought_in self.now.game self.now.frame self.now.number).memory }
         ensures fits { Fits (tree_of self.now.game self.now.number) result.now }
     {

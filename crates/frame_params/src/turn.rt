@@ -1,8 +1,8 @@
 ghost use Rattle.std.specs.Prelude.{◌≡◌, length};
 ghost use Rattle.frame_params.specs.Contents.{world_after, statuses_in, bands_in};
 
+use crate::kept_memory::KeptMemory;
 use bt_nodes::Status;
-use bt_tick::Memory;
 use draw_list::BAND_ROWS;
 use grid_world::World;
 use job_core::names::JobName;
@@ -17,7 +17,7 @@ pub struct Turn<'t> {
     pub(crate) frame: u32,
     // Shared with the parameters of the next frame and the draws of this one.
     pub(crate) world: Arc<World>,
-    pub(crate) memories: Arc<Vec<Memory>>,
+    pub(crate) memories: Arc<Vec<KeptMemory>>,
     pub(crate) statuses: Arc<Vec<Status>>,
 }
 

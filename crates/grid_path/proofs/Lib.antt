@@ -1,4 +1,5 @@
 pub mod Meeting
+pub mod Rounds
 pub mod Visits
 pub mod Finding
 pub mod Cells

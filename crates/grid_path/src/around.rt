@@ -9,10 +9,10 @@ use grid_world::Dir;
 /// Which of the four cells around a cell are open and not met yet.
 #[derive(Clone, Copy)]
 pub(crate) struct Around {
-    north: bool,
-    east: bool,
-    south: bool,
-    west: bool,
+    pub(crate) north: bool,
+    pub(crate) east: bool,
+    pub(crate) south: bool,
+    pub(crate) west: bool,
 }
 
 impl Around {

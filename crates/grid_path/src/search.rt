@@ -2,15 +2,25 @@
 ghost use Rattle.grid_path.specs.Bordered.{IsNext};
 ghost use Rattle.grid_path.specs.Levels.{at, IsBeside, Meets, IsFound};
 ghost use Rattle.grid_world.specs.declared.cell.Dir.{Dir};
-ghost use Rattle.std.specs.Prelude.{◌≡◌, ◌+◌, ◌<◌, ◌≤◌, ◌^◌, ℕ, true, length, count_by, slice_index};
+ghost use Rattle.std.specs.Prelude.{◌≡◌, ◌+◌, ◌<◌, ◌≤◌, ◌^◌, ℕ, true, length, count_by, slice_index, slice_set, if◌then◌else◌};
 
 use crate::around::Around;
 use grid_world::Answer;
 
-/// Queues a cell that is open and not met yet. Answers how many cells stand in the queue then.
-///
-/// It has no branch: what is met already is written behind the end of the queue, and does not count.
+/// Writes a cell behind the end of the queue, where it counts only if it is new. Answers how many cells stand in the queue
+/// then.
 #[inline]
+fn put(queue: &mut [u32], met: usize, cell: usize, is_new: bool) -> usize
+    requires number { cell < 2 ^ 32 }
+    requires room { met < length queue.old }
+    ensures queue { queue.new ≡ slice_set queue.old met cell }
+    ensures counts { result ≡ met + (if is_new then 1 else 0) }
+{
+    queue[met] = cell as u32;
+    met + usize::from(is_new)
+}
+
+/// Queues a cell that is open and not met yet. Answers how many cells stand in the queue then.
 fn meet(unmet: &mut [bool], queue: &mut [u32], met: usize, cell: usize) -> usize
     requires cell { cell < length unmet.old }
     requires number { cell < 2 ^ 32 }
@@ -21,14 +31,15 @@ fn meet(unmet: &mut [bool], queue: &mut [u32], met: usize, cell: usize) -> usize
 {
     let is_new = unmet[cell];
     unmet[cell] = false;
-    queue[met] = cell as u32;
-    met + usize::from(is_new)
+    put(queue, met, cell, is_new)
 }
 
 /// Meets the four cells around a cell.
+///
+/// It has no branch, and reads all four cells before it writes any: nothing that it reads waits for a write then.
 #[inline]
 fn expand(unmet: &mut [bool], queue: &mut [u32], stride: usize, met: usize, cell: usize) -> usize
-    requires above { (1 ≤ stride) × (stride ≤ cell) }
+    requires above { (2 ≤ stride) × (stride ≤ cell) }
     requires below { cell + stride < length unmet.old }
     requires numbers { length unmet.old ≤ 2 ^ 32 }
     requires room { count_by (λ c. c) unmet.old + met < length queue.old }
@@ -36,10 +47,15 @@ fn expand(unmet: &mut [bool], queue: &mut [u32], stride: usize, met: usize, cell
         (slice_index queue.old) (slice_index queue.new) met result }
     ensures counted { count_by (λ c. c) unmet.new + result ≡ count_by (λ c. c) unmet.old + met }
 {
-    let met = meet(unmet, queue, met, cell - stride);
-    let met = meet(unmet, queue, met, cell + 1);
-    let met = meet(unmet, queue, met, cell + stride);
-    meet(unmet, queue, met, cell - 1)
+    let new = Around::of(unmet, stride, cell);
+    unmet[cell - stride] = false;
+    unmet[cell + 1] = false;
+    unmet[cell + stride] = false;
+    unmet[cell - 1] = false;
+    let met = put(queue, met, cell - stride, new.north);
+    let met = put(queue, met, cell + 1, new.east);
+    let met = put(queue, met, cell + stride, new.south);
+    put(queue, met, cell - 1, new.west)
 }
 
 /// Expands the cells that stand in the queue from `head` on, before `end`.
@@ -51,7 +67,7 @@ fn expand_level(
     end: usize,
 ) -> usize
     requires order { head ≤ end }
-    requires stride { 1 ≤ stride }
+    requires stride { 2 ≤ stride }
     requires inner { (l : ℕ) → head ≤ l → l < end
         → (stride ≤ slice_index queue.old l) × (slice_index queue.old l + stride < length unmet.old) }
     requires numbers { length unmet.old ≤ 2 ^ 32 }
@@ -79,7 +95,7 @@ pub(crate) fn search(
     from: usize,
     goal: usize,
 ) -> Answer
-    requires stride { 1 ≤ stride }
+    requires stride { 2 ≤ stride }
     requires inner { (i : ℕ) → at unmet.old i ≡ true → (stride ≤ i) × (i + stride < length unmet.old) }
     requires from { (stride ≤ from) × (from + stride < length unmet.old) }
     requires goal { at unmet.old goal ≡ true }

@@ -1,5 +1,5 @@
 -- The glyphs of a cell and of a row.
-use Rattle.std.proofs.Common.{◌*◌, ◌==◌, eqb-true, refl, get_or-take, ◌∙◌, ap, map, take, length, get_or, ◌+◌, ◌<◌, ◌≤◌, arith, sym, length-take, ◌≡◌, ℕ, Bool, true, false, ◌&&◌, if◌then◌else◌, List, Option, Some, None}
+use Rattle.std.proofs.Common.{◌*◌, ◌==◌, eqb-true, refl, get_or-take, get_or-drop, drop, ◌-◌, ◌∙◌, ap, map, take, length, get_or, ◌+◌, ◌<◌, ◌≤◌, arith, sym, length-take, ◌≡◌, ℕ, Bool, true, false, ◌&&◌, if◌then◌else◌, List, Option, Some, None}
 use Rattle.std.proofs.lemmas.Grind.{same_number_lists}
 use Rattle.std.proofs.lemmas.List.{take_all}
 use Rattle.std.proofs.lemmas.List.Quantifiers.{position-Some}
@@ -7,12 +7,11 @@ use Rattle.grid_world.specs.declared.cell.Agent.{Agent}
 use Rattle.grid_world.specs.declared.cell.Cell.{Cell}
 use Rattle.grid_world.specs.declared.cell.Cell.TheVariants.{Wall, Floor, Door, Spot}
 use Rattle.grid_world.specs.Grid.{Grid, Point, agent_on, cell_at, has_item, is_on_map, point_of, same_point}
-use Rattle.grid_world.specs.Ground.{emptied, is_among, marked}
+use Rattle.grid_world.specs.Ground.{emptied}
 use Rattle.grid_world.specs.Glyphs.{base_glyph, content_glyph, glyph, glyph_of}
 use Rattle.grid_world.specs.Map.{count_up}
 use Rattle.grid_world.specs.World.{point, row_glyphs, IsWorld}
 use Rattle.grid_world.proofs.CountUp.{get_or-map-count_up, length-map-count_up}
-use Rattle.grid_world.proofs.Marked.{get_or-marked}
 use Rattle.grid_world.proofs.Lined.{glyph-emptied}
 use Rattle.grid_world.proofs.Rows.{and_parts}
 
@@ -81,31 +80,33 @@ over (Some a) item base = refl
 over None true base = refl
 over None false base = refl
 
+-- the cells of row y are cells of the map
+pub row_within : (w h y : ℕ) → y < h → y * w + w ≤ w * h
+row_within w h y inside = grind arith
+
+-- a cell of a part of a table
+pub part_of_row : (items : List Bool) (start wide x : ℕ) → x < wide
+    → get_or (take ((start + wide) - start) (drop start items)) x false ≡ get_or items (start + x) false
+part_of_row items start wide x column =
+    get_or-take ((start + wide) - start) (drop start items) x false (omega (arith, column)) ∙ get_or-drop start items x false
+
 -- a row of the ground drawn over by its items and its agents
-pub row_glyphs-drawn_over : (g : Grid) → IsWorld g → (signals : List Bool) (y : ℕ) (listed : List ℕ)
-    → g.items ≡ marked (length g.cells) listed → y < g.height
+pub row_glyphs-drawn_over : (g : Grid) → IsWorld g → (signals : List Bool) (y : ℕ) (items : List Bool)
+    → ((x : ℕ) → x < g.width → get_or items x false ≡ has_item g (point x y))
     → (ground row : List ℕ) → ground ≡ row_glyphs (emptied g) signals y → length row ≡ g.width
     → ((x : ℕ) → x < g.width → get_or row x 0
-    ≡ content_glyph (agent_on g (point x y)) (is_among listed (y * g.width + x)) (get_or ground x 0))
+    ≡ content_glyph (agent_on g (point x y)) (get_or items x false) (get_or ground x 0))
     → row ≡ row_glyphs g signals y
-row_glyphs-drawn_over g world signals y listed marks inside ground row bare long each =
+row_glyphs-drawn_over g world signals y items lie ground row bare long each =
     sym (take_all g.width row (omega (arith, long)))
     ∙ row_glyphs-from_each g signals y row (omega (arith, long)) (λ x column.
-    let small : y * g.width + x < length g.cells = omega
-    (arith, world.sized.all_cells, index_below x column) in
-    let lies : is_among listed (y * g.width + x) ≡ has_item g (point x y) =
-    sym (ap (λ ms. get_or ms (y * g.width + x) false) marks
-    ∙ get_or-marked (length g.cells) listed (y * g.width + x) small) in
     let zero_more : 0 + x ≡ x = omega arith in
     let shown : get_or ground x 0 ≡ glyph_of (cell_at g (point x y)) (base_glyph signals (cell_at g (point x y))) =
     ap (λ l. get_or l x 0) bare
     ∙ get_or-map-count_up (λ k. glyph (emptied g) signals (point k y)) 0 g.width x 0 column
     ∙ ap (λ k. glyph (emptied g) signals (point k y)) zero_more ∙ glyph-emptied g signals (point x y) in
     each x column
-    ∙ ap (λ b. content_glyph (agent_on g (point x y)) b (get_or ground x 0)) lies
+    ∙ ap (λ b. content_glyph (agent_on g (point x y)) b (get_or ground x 0)) (lie x column)
     ∙ ap (content_glyph (agent_on g (point x y)) (has_item g (point x y))) shown
     ∙ glyph-drawn_over signals (cell_at g (point x y)) (agent_on g (point x y)) (has_item g (point x y))
     (agent_on-Wall g world (point x y)) (has_item-Wall g world (point x y)))
-  where
-    index_below : (x : ℕ) → x < g.width → y * g.width + x < g.width * g.height
-    index_below x column = grind arith

@@ -12,7 +12,7 @@ use Rattle.grid_world.specs.declared.cell.Agent.{Agent}
 use Rattle.grid_world.specs.declared.cell.Cell.{Cell}
 use Rattle.grid_world.specs.declared.cell.Cell.TheVariants.{Wall, Floor, Door, Spot}
 use Rattle.grid_world.specs.Grid.{Point, cell_at, index_of, point_of, same_point}
-use Rattle.grid_world.specs.Ground.{bare, furnished, marked, IsKept, IsListed}
+use Rattle.grid_world.specs.Ground.{bare, furnished}
 use Rattle.grid_world.specs.Map.{agent_at, agent_in, cell_of, count_up, grid_of, is_between, marks_of, width_of}
 use Rattle.grid_world.specs.World.{IsSized, IsStanding, IsWorld}
 use Rattle.grid_world.proofs.Rows.{IsRectangle, and_parts}
@@ -185,24 +185,19 @@ IsSized-parts rows size width height kinds parts =
       all_cells = sized.all_cells;
     })
 
-pub furnished-parts : (rows : List (List ℕ)) (width height : ℕ) (kinds : List Cell) (listed : List ℕ)
+pub furnished-parts : (rows : List (List ℕ)) (width height : ℕ) (kinds : List Cell) (items : List Bool)
     (agents : List Agent) → AreParts rows width height kinds
-    → marked (length (marks_of rows)) listed ≡ map (λ c. c == 42) (marks_of rows)
+    → items ≡ map (λ c. c == 42) (marks_of rows)
     → agents ≡ filter_map (agent_in (width_of rows) (marks_of rows)) (count_up 0 26)
-    → furnished (bare width height kinds) listed agents ≡ grid_of rows
-furnished-parts rows width height kinds listed agents parts items stand =
-    rw (parts.wide, parts.high, parts.ground, stand, length-map (marks_of rows) cell_of, items) refl
+    → furnished (bare width height kinds) items agents ≡ grid_of rows
+furnished-parts rows width height kinds items agents parts lie stand =
+    rw (parts.wide, parts.high, parts.ground, stand, lie) refl
 
-pub IsKept-parts : (rows : List (List ℕ)) → IsRectangle rows
-    → (width height : ℕ) (kinds : List Cell) (listed : List ℕ) (agents : List Agent)
+pub IsWorld-parts : (rows : List (List ℕ)) → IsRectangle rows
+    → (width height : ℕ) (kinds : List Cell) (items : List Bool) (agents : List Agent)
     → AreParts rows width height kinds
-    → IsListed listed (length (marks_of rows))
-    → marked (length (marks_of rows)) listed ≡ map (λ c. c == 42) (marks_of rows)
+    → items ≡ map (λ c. c == 42) (marks_of rows)
     → agents ≡ filter_map (agent_in (width_of rows) (marks_of rows)) (count_up 0 26)
-    → IsKept (bare width height kinds) listed agents
-IsKept-parts rows size width height kinds listed agents parts listing items stand = record {
-  listing = subst (IsListed listed)
-      (sym (ap length parts.ground ∙ length-map (marks_of rows) cell_of)) listing;
-  world = subst IsWorld (sym (furnished-parts rows width height kinds listed agents parts items stand))
-      (IsWorld-grid_of rows size);
-}
+    → IsWorld (furnished (bare width height kinds) items agents)
+IsWorld-parts rows size width height kinds items agents parts lie stand =
+    subst IsWorld (sym (furnished-parts rows width height kinds items agents parts lie stand)) (IsWorld-grid_of rows size)

@@ -1,114 +1,16 @@
--- A row that is written over at the cells of a list.
-use Rattle.std.proofs.Common.{◌&&◌, get_or-drop, length-drop, true≢false, lt-ltb, position, Option, Some, None, ◌≡◌, ℕ, ◌+◌, ◌-◌, ◌<◌, ◌≤◌, ◌==◌, ◌||◌, AllPairs, Bool, true, false, if◌then◌else◌, List, ◌∷◌, length, get_or, set, drop, take, refl, sym, ap, ◌∙◌, arith, inl, inr, eq-eqb, ne_eqb, get_or-set_same, get_or-set_other, get_or-take}
+-- A row that is written over at the agents on it.
+use Rattle.std.proofs.Common.{◌&&◌, true≢false, lt-ltb, position, Option, Some, None, ◌≡◌, ℕ, ◌+◌, ◌<◌, ◌==◌, ◌||◌, Bool, true, false, if◌then◌else◌, List, ◌∷◌, length, get_or, set, refl, sym, ap, ◌∙◌, arith, inl, inr, eq-eqb, ne_eqb, get_or-set_same, get_or-set_other}
 use Rattle.std.specs.List.{list_any}
-use Rattle.std.proofs.lemmas.Bool.{cases_eq, cases_lt}
+use Rattle.std.proofs.lemmas.Bool.{cases_eq}
 use Rattle.std.specs.List.{position_or_len}
-use Rattle.std.proofs.lemmas.List.{get_or_default, take-append-drop, length-take}
+use Rattle.std.proofs.lemmas.List.{get_or_default}
 use Rattle.std.proofs.lemmas.List.Sums.{position_or_len_is}
 use Rattle.std.proofs.lemmas.List.Quantifiers.{position-Some}
 use Rattle.grid_world.specs.declared.cell.Agent.{Agent}
 use Rattle.grid_world.specs.Grid.{point_of, same_point}
 use Rattle.grid_world.specs.Glyphs.{content_glyph}
 use Rattle.grid_world.specs.World.{point, AreApart}
-use Rattle.std.proofs.lemmas.List.Folds.{list_any-append, list_any-from_Any}
-use Rattle.grid_world.specs.Ground.{is_among, IsCut, IsGap}
-use Rattle.grid_world.proofs.Listed.{is_among-none}
-
--- where a bound cuts a rising list
-pub IsCut-found : (xs : List ℕ) (bound i : ℕ) → AllPairs (λ i j. i < j) xs → i < length xs
-    → get_or xs i 0 ≡ bound → IsCut xs bound i
-IsCut-found xs bound i up within at = record {
-  within = omega arith;
-  below = λ k before. let low = up k i 0 before within in omega (arith, low, at);
-  above = λ k from inside. elim (cases_lt i k) [
-    | inl behind ↦ (let high = up i k 0 behind inside in omega (arith, high, at))
-    | inr here ↦ (let e : k ≡ i = omega arith in omega (arith, at, ap (λ j. get_or xs j 0) e))
-  ];
-}
-
-pub IsCut-gap : (xs : List ℕ) (bound i : ℕ) → IsGap xs bound i → IsCut xs bound i
-IsCut-gap xs bound i gap = record {
-  within = gap.within;
-  below = gap.below;
-  above =
-      λ k from inside. let high = gap.above k from inside in omega arith;
-}
-
-pub IsCut-far : (xs : List ℕ) (bound i : ℕ) → AllPairs (λ i j. i < j) xs → i < length xs
-    → bound ≤ get_or xs i 0 → ((k : ℕ) → k < i → get_or xs k 0 < bound) → IsCut xs bound i
-IsCut-far xs bound i up within far low = record {
-  within = omega arith;
-  below = low;
-  above = λ k from inside. elim (cases_lt i k) [
-    | inl behind ↦ (let high = up i k 0 behind inside in omega (arith, high, far))
-    | inr here ↦ (let e : k ≡ i = omega arith in omega (arith, far, ap (λ j. get_or xs j 0) e))
-  ];
-}
-
--- what lies before the cut matters to no number from the bound on
-pub is_among-cut : (xs : List ℕ) (bound i n : ℕ) → IsCut xs bound i → bound ≤ n
-    → is_among (drop i xs) n ≡ is_among xs n
-is_among-cut xs bound i n cut from =
-    let early : is_among (take i xs) n ≡ false = is_among-none (take i xs) n (λ k inside e.
-    let small : k < i = omega (arith, inside, length-take i xs) in
-    let low = cut.below k small in omega (arith, low, e, get_or-take i xs k 0 small)) in
-    sym (ap (λ ys. is_among ys n) (sym (take-append-drop i xs))
-    ∙ list_any-append (λ j. j == n) (take i xs) (drop i xs)
-    ∙ ap (λ b. b || is_among (drop i xs) n) early)
-
--- nothing is left among what lies behind a number
-pub is_among-far : (xs : List ℕ) (i n : ℕ) → AllPairs (λ i j. i < j) xs → i < length xs → n < get_or xs i 0
-    → is_among (drop i xs) n ≡ false
-is_among-far xs i n up within far = is_among-none (drop i xs) n (λ k inside e.
-    let there : get_or (drop i xs) k 0 ≡ get_or xs (i + k) 0 = get_or-drop i xs k 0 in
-    elim (cases_lt i (i + k)) [
-      | inl behind ↦ (let high = up i (i + k) 0 behind (omega (arith, inside, length-drop i xs)) in omega
-          (arith, high, there, e, far))
-      | inr here ↦ (let same : i + k
-          ≡ i = omega arith in omega (arith, far, there, e, ap (λ j. get_or xs j 0) same))
-    ])
-
-module _ (target : ℕ → ℕ) (start width : ℕ) where
-  -- the cells that are left will be written, all others are right
-  abbrev pub IsWritten : List ℕ → List ℕ → Type 0
-  IsWritten left row = (x : ℕ) → x < width
-      → (if is_among left (start + x) then target x else get_or row x 0) ≡ target x
-
-  pub IsWritten-one : (cell : ℕ) (left row : List ℕ) (glyph : ℕ) → start ≤ cell → cell < start + width
-      → width ≤ length row → glyph ≡ target (cell - start)
-      → IsWritten (cell ∷ left) row → IsWritten left (set row (cell - start) glyph)
-  IsWritten-one cell left row glyph from below room right before x column = elim (cases_eq x (cell - start)) [
-    | inl here ↦ (let now : get_or (set row (cell - start) glyph) x 0 ≡ target x =
-        ap (λ i. get_or (set row (cell - start) glyph) i 0) here
-        ∙ get_or-set_same row (cell - start) glyph 0 (omega arith) ∙ right ∙ ap target (sym here) in
-        both (is_among left (start + x)) now)
-    | inr other ↦ ap (λ g. if is_among left (start + x) then target x else g)
-        (get_or-set_other row (cell - start) x glyph 0 other)
-        ∙ sym (ap (λ b. if b || is_among left (start + x) then target x else get_or row x 0)
-        (ne_eqb cell (start + x) (λ e. other (omega arith)))) ∙ before x column
-  ]
-    where
-      both : (b : Bool) {g : ℕ} → g ≡ target x → (if b then target x else g) ≡ target x
-      both true e = refl
-      both false e = e
-
-  pub IsWritten-all : (left row : List ℕ) → ((x : ℕ) → x < width → is_among left (start + x) ≡ false)
-      → IsWritten left row → (x : ℕ) → x < width → get_or row x 0 ≡ target x
-  IsWritten-all left row none before x column = sym
-      (ap (λ b. if b then target x else get_or row x 0) (none x column)) ∙ before x column
-
--- before the first item is written
-pub IsWritten-first : (listed row : List ℕ) (start width i : ℕ) → IsCut listed start i
-    → IsWritten (λ x. if is_among listed (start + x) then 42 else get_or row x 0) start width
-    (drop i listed) row
-IsWritten-first listed row start width i cut x column = ap
-    (λ b. if b then (if is_among listed (start + x) then 42 else get_or row x 0) else get_or row x 0)
-    (is_among-cut listed start i (start + x) cut (omega arith)) ∙ twice (is_among listed (start + x))
-  where
-    twice : (b : Bool) → (if b then (if b then 42 else get_or row x 0) else get_or row x 0)
-        ≡ (if b then 42 else get_or row x 0)
-    twice true = refl
-    twice false = refl
+use Rattle.std.proofs.lemmas.List.Folds.{list_any-from_Any}
 
 -- a row that is written over at the agents of row y
 module _ (agents : List Agent) (y : ℕ) (base : ℕ → ℕ) (width : ℕ) where

@@ -1,14 +1,12 @@
--- How a world is kept: its ground, which never changes, and the cells on which an item lies.
-use Rattle.std.specs.Prelude.{ℕ, ◌≡◌, ◌<◌, ◌≤◌, ◌==◌, Bool, true, false, List, [], All, AllPairs, Contains, length, map, replicate, position, Option, None, slice_index_or}
-use Rattle.std.specs.List.{list_any}
+-- How a world is kept: its ground, which never changes, its items and its agents.
+use Rattle.std.specs.Prelude.{ℕ, ◌≡◌, ◌<◌, Bool, true, false, List, [], All, Contains, length, map, replicate, position, Option, None, slice_index_or}
 use Rattle.grid_world.specs.declared.cell.Agent.{Agent}
 use Rattle.grid_world.specs.declared.cell.Cell.{Cell}
 use Rattle.grid_world.specs.declared.cell.Cell.TheVariants.{Wall, Floor, Door, Spot}
 use Rattle.grid_world.specs.Grid.{Grid, is_spot}
 use Rattle.grid_world.specs.Open.{is_passable}
-use Rattle.grid_world.specs.Map.{count_up}
 use Rattle.grid_world.specs.Rows.{IsPlaced, lines}
-use Rattle.grid_world.specs.World.{IsSized, IsWorld}
+use Rattle.grid_world.specs.World.{IsSized}
 
 -- a ground with nothing on it
 abbrev pub bare : ℕ → ℕ → List Cell → Grid
@@ -21,9 +19,6 @@ emptied g = bare g.width g.height g.cells
 -- the table has the number of each place's cell
 abbrev pub ListsSpots : List (Option ℕ) → Grid → Type 0
 ListsSpots table g = (p : ℕ) → p < 10 → slice_index_or table p None ≡ position (is_spot p) g.cells
-
-abbrev pub is_among : List ℕ → ℕ → Bool
-is_among numbers i = list_any (λ j. j == i) numbers
 
 abbrev pub no_signals : List Bool
 no_signals = replicate 26 false
@@ -48,32 +43,7 @@ pub record IsGround (g : Grid) (floor : List Bool) (doors : List ℕ) (spots : L
   pub listing : ListsSpots spots g
   pub drawn : text ≡ lines g no_signals 0 g.height
 
--- for each of n cells whether it is among those listed
-abbrev pub marked : ℕ → List ℕ → List Bool
-marked n listed = map (is_among listed) (count_up 0 n)
-
--- a ground with items on the cells listed, and with agents
-abbrev pub furnished : Grid → List ℕ → List Agent → Grid
-furnished ground listed agents =
-    record { width = ground.width; height = ground.height; cells = ground.cells; items = marked (length ground.cells) listed; agents = agents }
-
--- cells are listed by rising number, and only those of the map
-pub record IsListed (listed : List ℕ) (n : ℕ) : Type 0 where
-  pub rising : AllPairs (λ i j. i < j) listed
-  pub on_map : All (λ i. i < n) listed
-
--- the numbers below a bound stand before place i, the others from there on
-pub record IsCut (listed : List ℕ) (bound i : ℕ) : Type 0 where
-  pub within : i ≤ length listed
-  pub below : (k : ℕ) → k < i → slice_index_or listed k 0 < bound
-  pub above : (k : ℕ) → i ≤ k → k < length listed → bound ≤ slice_index_or listed k 0
-
--- where a number that is not listed would stand
-pub record IsGap (listed : List ℕ) (number i : ℕ) : Type 0 where
-  pub within : i ≤ length listed
-  pub below : (k : ℕ) → k < i → slice_index_or listed k 0 < number
-  pub above : (k : ℕ) → i ≤ k → k < length listed → number < slice_index_or listed k 0
-
-pub record IsKept (ground : Grid) (listed : List ℕ) (agents : List Agent) : Type 0 where
-  pub listing : IsListed listed (length ground.cells)
-  pub world : IsWorld (furnished ground listed agents)
+-- a ground with items, told for each cell, and with agents
+abbrev pub furnished : Grid → List Bool → List Agent → Grid
+furnished g items agents =
+    record { width = g.width; height = g.height; cells = g.cells; items = items; agents = agents }

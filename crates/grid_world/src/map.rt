@@ -4,7 +4,6 @@ ghost use Rattle.std.specs.List.{cons_option, filter_map};
 ghost use Rattle.std.specs.Str.{chars};
 ghost use Rattle.grid_world.specs.Map.{agent_in, cell_of, count_up, marks_of, width_of};
 ghost use Rattle.grid_world.specs.MapFaults.{digit_fits, has_letters, has_size, is_letter, is_mark, letter_fits, rows_of};
-ghost use Rattle.grid_world.specs.Ground.{IsListed, marked};
 
 use crate::cell::{Agent, Cell};
 use crate::place::Place;
@@ -183,17 +182,9 @@ pub fn cells_in(alloc: Global, marks: &[char]) -> Result<Vec<Cell>, AllocError>
     marks.iter().map(|c| cell_in(*c)).collect(alloc)
 }
 
-// The numbers of the cells on which an item lies, in rising order.
-pub fn item_cells_in(alloc: Global, marks: &[char]) -> Result<Vec<u32>, AllocError>
-    requires { length marks.now ≤ 16384 }
-    ensures listed { IfOk result (λ cells. IsListed cells.items (length marks.now)) }
-    ensures marked { IfOk result (λ cells. marked (length marks.now) cells.items ≡ map (λ c. c == 42) marks.now) }
+// For each cell whether an item lies on it.
+pub fn items_in(alloc: Global, marks: &[char]) -> Result<Vec<bool>, AllocError>
+    ensures { IfOk result (λ items. items.items ≡ map (λ c. c == 42) marks.now) }
 {
-    let mut cells = Vec::new(alloc);
-    'marks: for (i, mark) in marks.iter().enumerate() {
-        if *mark == '*' {
-            cells.push(i as u32)?;
-        }
-    }
-    Ok(cells)
+    marks.iter().map(|c| *c == '*').collect(alloc)
 }

@@ -3,14 +3,14 @@ ghost use Rattle.grid_world.specs.Grid.{is_on_map, cell_at, place_of, point_of, 
 ghost use Rattle.grid_world.specs.Open.{is_open, is_passable};
 ghost use Rattle.grid_world.specs.Glyphs.{glyph};
 ghost use Rattle.grid_world.specs.World.{IsWorld, point};
-ghost use Rattle.grid_world.specs.Ground.{is_among, IsGap, ListsDoors, no_signals};
+ghost use Rattle.grid_world.specs.Ground.{ListsDoors, no_signals};
 
 use crate::cell::{Agent, Cell};
 use crate::fault::MapFault;
 use crate::glyph::glyph_of;
 use crate::ground::{Ground, doors_in, floor_in, text_in};
 use crate::map::{
-    agents_in, cells_in, first_width, has_letters, has_size, item_cells_in, marks_in, strange_mark,
+    agents_in, cells_in, first_width, has_letters, has_size, items_in, marks_in, strange_mark,
 };
 use crate::place::Place;
 use crate::signal::Signals;
@@ -29,30 +29,13 @@ pub use changes::resolve;
 /// A world: its cells, the items that lie on them, and the agents.
 ///
 /// What never changes is shared by all worlds that come from one map; a world of its own holds only
-/// its agents and a list of the cells with an item.
+/// its agents and a table of the cells with an item.
 #[derive(Drop)]
 pub struct World {
     ground: Arc<Ground>,
-    item_cells: Vec<u32>,
+    // for each cell whether an item lies there
+    has_item: Vec<bool>,
     crew: Vec<Agent>,
-}
-
-// The place of a number in a rising list, or where it would stand.
-fn find(listed: &[u32], number: u32) -> Result<usize, usize>
-    requires { AllPairs (λ i j. i < j) listed.now }
-    ensures { MatchResult result
-        (λ i. (i < length listed.now) × (slice_index listed.now i ≡ number))
-        (λ i. IsGap listed.now number i) }
-{
-    listed.binary_search(&number)
-}
-
-// Whether a number is among those of a rising list.
-fn is_listed(listed: &[u32], number: u32) -> bool
-    requires { AllPairs (λ i j. i < j) listed.now }
-    ensures { result ≡ is_among listed.now number }
-{
-    find(listed, number).is_ok()
 }
 
 // The number of the agent on a cell.
@@ -66,13 +49,14 @@ fn agent_on(agents: &[Agent], x: u32, y: u32) -> Option<usize>
 impl Model for World {
     ghost use Rattle.std.specs.Arc.{arc_value};
     ghost use Rattle.grid_world.specs.Grid.{Grid};
-    ghost use Rattle.grid_world.specs.Ground.{furnished, IsKept};
+    ghost use Rattle.grid_world.specs.Ground.{furnished};
+    ghost use Rattle.grid_world.specs.World.{IsWorld};
 
     ghost Value = { Grid };
 
-    ghost view = { λ w. furnished (arc_value w.ground) w.item_cells.items w.crew.items };
+    ghost view = { λ w. furnished (arc_value w.ground) w.has_item.items w.crew.items };
 
-    ghost invariant = { λ w. IsKept (arc_value w.ground) w.item_cells.items w.crew.items };
+    ghost invariant = { λ w. IsWorld (furnished (arc_value w.ground) w.has_item.items w.crew.items) };
 }
 
 impl World {
@@ -106,7 +90,7 @@ impl World {
             return Err(MapFault::Letters);
         }
         let kinds = cells_in(alloc, &marks)?;
-        let item_cells = item_cells_in(alloc, &marks)?;
+        let has_item = items_in(alloc, &marks)?;
         let crew = agents_in(alloc, columns, &marks)?;
         let floor = floor_in(alloc, &kinds)?;
         let doors = doors_in(alloc, &kinds)?;
@@ -115,7 +99,7 @@ impl World {
         match Arc::new(alloc, ground) {
             Ok(ground) => Ok(World {
                 ground,
-                item_cells,
+                has_item,
                 crew,
             }),
             Err(_) => Err(MapFault::OutOfMemory),
@@ -124,22 +108,13 @@ impl World {
 }
 
 impl World {
-    /// The same world. Its ground is shared, so this costs what its agents and items cost.
+    /// The same world. Its ground is shared, so this costs a byte for each cell, and the agents.
     pub fn copy(&self, alloc: Global) -> Result<World, AllocError>
         ensures { IfOk result (λ w. w ≡ self.now) }
     {
-        self.copy_with_room(alloc, 0)
-    }
-
-    // The same world, with room for further items.
-    fn copy_with_room(&self, alloc: Global, room: usize) -> Result<World, AllocError>
-        ensures { IfOk result (λ w. w ≡ self.now) }
-    {
-        let mut item_cells = Vec::with_capacity(alloc, self.item_cells.len().saturating_add(room))?;
-        item_cells.extend_from_slice(&self.item_cells)?;
         Ok(World {
             ground: Arc::try_clone(&self.ground)?,
-            item_cells,
+            has_item: Vec::from_slice(alloc, &self.has_item)?,
             crew: Vec::from_slice(alloc, &self.crew)?,
         })
     }
@@ -182,12 +157,12 @@ impl World {
         self.ground.cell(x, y)
     }
 
-    /// Whether an item lies on a cell; not so off the map. Takes logarithmic time in the number of items.
+    /// Whether an item lies on a cell; not so off the map. Takes constant time.
     pub fn has_item(&self, x: u32, y: u32) -> bool
         ensures { result ≡ (is_on_map self.now (point x y) && has_item self.now (point x y)) }
     {
         match self.ground.index_of(x, y) {
-            Some(i) => is_listed(&self.item_cells, i),
+            Some(i) => self.has_item[i as usize],
             None => false,
         }
     }

@@ -28,7 +28,7 @@ impl Machine {
         ensures { result ≡ on_fiber self.now.seats (at self.now.seats.workers worker) }
     {
         let fiber = entry(&self.workers, worker)?;
-        entry(&self.jobs, fiber.0)
+        self.held_by(fiber)
     }
 
     /// The job that a fiber holds, if it holds one.

@@ -3,3 +3,4 @@ pub mod Frames
 pub mod Crew
 pub mod Turns
 pub mod BandList
+pub mod Outcomes

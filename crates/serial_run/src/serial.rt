@@ -14,6 +14,7 @@ use crate::thought::Thought;
 use crate::writing::write_whole;
 use bt_nodes::Status;
 use bt_tick::Memory;
+use bumpalo::Bump;
 use grid_world::{Signals, World, resolve};
 use level_text::Session;
 use std::alloc::{AllocError, Global};
@@ -74,9 +75,10 @@ fn turned(
     }
 }
 
-/// Plays one frame from the world and the memories after the frame before.
+/// Plays one frame from the world and the memories after the frame before. The agents think over the arena.
 fn play_frame(
     alloc: Global,
+    arena: &mut Bump,
     session: &Session,
     frame: u32,
     world: &World,
@@ -94,7 +96,7 @@ fn play_frame(
     ensures fit { IfOk result (λ p. AllFit session.now.trees p.memories.items) }
 {
     let signals = session.script().signals(frame);
-    let thoughts = think_all(alloc, session, world, signals, memories)?;
+    let thoughts = think_all(alloc, arena, session, world, signals, memories)?;
     let world = turned(alloc, world, signals, &thoughts)?;
     let statuses = statuses_of(alloc, &thoughts)?;
     let text = draw_frame(alloc, frame, &world, signals, &statuses)?;
@@ -120,8 +122,9 @@ pub fn play_serially<W: Write>(
 {
     let mut world = session.world().copy(alloc)?;
     let mut memories = first_memories(alloc, session)?;
+    let mut arena = Bump::new(alloc);
     'frames: for done in 0..frames {
-        let played = play_frame(alloc, session, done + 1, &world, memories)?;
+        let played = play_frame(alloc, &mut arena, session, done + 1, &world, memories)?;
         let Played {
             world: after,
             memories: kept,

@@ -11,6 +11,7 @@ ghost use Rattle.serial_run.specs.Thoughts.{plain_thought};
 use crate::thought::Thought;
 use bt_nodes::Tree;
 use bt_tick::{Memory, Outcome, View, begin, resume};
+use bumpalo::Bump;
 use grid_path::Searcher;
 use grid_world::{Answer, Place};
 use std::alloc::{AllocError, Global};
@@ -28,9 +29,10 @@ fn way_to(view: &View, searcher: &mut Searcher, place: Place) -> Result<Answer, 
     searcher.way((here.x, here.y), place)
 }
 
-/// Ticks an agent's tree, and answers each question that the tick asks.
+/// Ticks an agent's tree, and answers each question that the tick asks. The nodes that the tick has open lie in the arena,
+/// which is emptied first.
 pub fn think(
-    alloc: Global,
+    arena: &mut Bump,
     view: &View,
     searcher: &mut Searcher,
     tree: &Tree<Global>,
@@ -45,7 +47,10 @@ pub fn think(
     ensures world { searcher.new.world ≡ searcher.old.world }
     ensures signals { searcher.new.signals ≡ searcher.old.signals }
 {
-    let Ok(begun) = begin(alloc, tree, view, memory) else {
+    // Where the arena isn't emptied, it only grows.
+    let _ = arena.reset();
+    let arena = &*arena;
+    let Ok(begun) = begin(arena, tree, view, memory) else {
         return Err(AllocError);
     };
     let mut outcome = begun;
@@ -64,7 +69,7 @@ pub fn think(
             }
             Outcome::Asks { place, pending } => {
                 let answer = way_to(view, searcher, place)?;
-                let Ok(resumed) = resume(alloc, pending, view, answer) else {
+                let Ok(resumed) = resume(arena, pending, view, answer) else {
                     return Err(AllocError);
                 };
                 outcome = resumed;

@@ -7,14 +7,16 @@ ghost use Rattle.serial_run.specs.Thoughts.{plain_thought, AllFit};
 use crate::think::think;
 use crate::thought::Thought;
 use bt_tick::{Memory, View};
+use bumpalo::Bump;
 use grid_path::Searcher;
 use grid_world::{Signals, World};
 use level_text::Session;
 use std::alloc::{AllocError, Global};
 
-/// The thoughts of all agents, each in the same world.
+/// The thoughts of all agents, each in the same world, and each over the same arena.
 pub fn think_all(
     alloc: Global,
+    arena: &mut Bump,
     session: &Session,
     world: &World,
     signals: Signals,
@@ -35,7 +37,7 @@ pub fn think_all(
             signals,
             agent,
         };
-        thoughts.push(think(alloc, &view, &mut searcher, session.tree_of(agent), memory)?)?;
+        thoughts.push(think(arena, &view, &mut searcher, session.tree_of(agent), memory)?)?;
         agent += 1;
     }
     Ok(thoughts)

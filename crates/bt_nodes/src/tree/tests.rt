@@ -224,3 +224,32 @@ fn trees_differ_in_kind_number_and_order(rt: HostRuntime) -> Result<(), Fail> {
     assert!(rt; !nested(alloc, 2)?.is_same(&nested(alloc, 3)?));
     Ok(())
 }
+
+fn subtree_sizes<A: Allocator>(alloc: Global, tree: &Tree<A>) -> Result<Vec<u64>, AllocError> {
+    let mut sizes = Vec::new(alloc);
+    for node in 0..tree.size() {
+        sizes.push(tree.size_at(node))?;
+    }
+    Ok(sizes)
+}
+
+#[test]
+fn subtrees_have_their_sizes_in_preorder(rt: HostRuntime) -> Result<(), Fail> {
+    let alloc = rt.alloc();
+    let par = Node::Par(1, list(alloc, 2)?);
+    let Ok(tree) = Tree::new(pair(alloc, nested(alloc, 2)?, par)?) else {
+        return Err("refused".into());
+    };
+    let copy = tree.copy_in(alloc)?;
+    let sizes = subtree_sizes(alloc, &tree)?;
+    assert_eq!(rt;
+        format!(in alloc; "{sizes:?}")?.as_str(),
+        "[7, 3, 2, 1, 3, 1, 1]"
+    );
+    let copied = subtree_sizes(alloc, &copy)?;
+    assert_eq!(rt;
+        format!(in alloc; "{copied:?}")?.as_str(),
+        "[7, 3, 2, 1, 3, 1, 1]"
+    );
+    Ok(())
+}

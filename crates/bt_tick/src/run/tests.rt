@@ -54,8 +54,13 @@ fn numbers(alloc: Global, memory: &Memory, nodes: u64) -> Result<Vec<u64>, Fail>
     Ok(numbers)
 }
 
-/// The letters of the statuses of so many ticks, one after another, of a tree that asks nothing.
-fn statuses(alloc: Global, root: Node<Global>, rows: &[&str], ticks: u64) -> Result<String, Fail> {
+/// The letters of the statuses of so many ticks, one after another, of a tree that asks nothing, and its memory then.
+fn ticked(
+    alloc: Global,
+    root: Node<Global>,
+    rows: &[&str],
+    ticks: u64,
+) -> Result<(String, Memory), Fail> {
     let tree = tree(root)?;
     let world = world(alloc, rows)?;
     if world.agents().is_empty() {
@@ -87,6 +92,11 @@ fn statuses(alloc: Global, root: Node<Global>, rows: &[&str], ticks: u64) -> Res
             _ => return Err("the tick doesn't end".into()),
         }
     }
+    Ok((letters, kept))
+}
+
+fn statuses(alloc: Global, root: Node<Global>, rows: &[&str], ticks: u64) -> Result<String, Fail> {
+    let (letters, _) = ticked(alloc, root, rows, ticks)?;
     Ok(letters)
 }
 
@@ -324,6 +334,34 @@ fn statuses_of_ticks_one_after_another(rt: HostRuntime) -> Result<(), Fail> {
     assert_eq!(rt;
         statuses(alloc, Node::Near(2), &["A.", ".B"], 1)?.as_str(),
         "S"
+    );
+    Ok(())
+}
+
+/// A tree whose ticks pass over nodes: behind a child that fails, before the child at which a `SeqStar` stands, and below
+/// a `Tries` and a `Ticks` whose number is reached.
+fn passing(alloc: Global) -> Result<Node<Global>, Fail> {
+    let deep = Node::Seq(pair(alloc, Node::Carrying, Node::Carrying)?);
+    let first = Node::Not(in_box(alloc, Node::Carrying)?);
+    let tried = Node::Seq(pair(alloc, Node::Carrying, Node::Carrying)?);
+    let timed = Node::Not(in_box(alloc, Node::Wait(5))?);
+    let mut nodes = Vec::new(alloc);
+    nodes.push(Node::Seq(pair(alloc, Node::Carrying, deep)?))?;
+    nodes.push(Node::SeqStar(pair(alloc, first, Node::Wait(5))?))?;
+    nodes.push(Node::Tries(1, in_box(alloc, tried)?))?;
+    nodes.push(Node::Ticks(1, in_box(alloc, timed)?))?;
+    nodes.push(Node::Wait(7))?;
+    Ok(Node::Par(1, nodes))
+}
+
+#[test]
+fn nodes_that_are_passed_over_are_counted(rt: HostRuntime) -> Result<(), Fail> {
+    let alloc = rt.alloc();
+    let (letters, memory) = ticked(alloc, passing(alloc)?, &["A"], 2)?;
+    assert_eq!(rt; letters.as_str(), "RR");
+    assert_eq!(rt;
+        numbers(alloc, &memory, 30)?.as_slice(),
+        [0, 0, 0, 0, 0, 0, 1, 0, 0, 2, 1, 0, 0, 0, 0, 0, 1, 2].as_slice()
     );
     Ok(())
 }

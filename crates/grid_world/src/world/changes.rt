@@ -1,5 +1,5 @@
 // How the intents of a frame change a world.
-ghost use Rattle.std.specs.Prelude.{[], ◌≡◌, ◌≢◌, ◌↔◌, ◌<◌, length, option_map, Err, IfOk, OnOk};
+ghost use Rattle.std.specs.Prelude.{[], ◌≡◌, ◌≢◌, ◌↔◌, ◌<◌, length, option_map, Err, IfOk};
 ghost use Rattle.grid_world.specs.Grid.{agent_of, point_of};
 ghost use Rattle.grid_world.specs.Intents.{apply, apply_all, moved};
 ghost use Rattle.grid_world.specs.Walks.{next};
@@ -7,18 +7,18 @@ ghost use Rattle.grid_world.specs.World.{point};
 ghost use Rattle.grid_world.specs.declared.cell.Intent.TheVariants.{Take, Drop};
 ghost use Rattle.grid_world.specs.declared.fault.ResolveFault.TheVariants.{Count};
 
-use super::{World, agent_on, find};
+use super::{World, agent_on};
 use crate::cell::{Agent, Dir, Intent};
 use crate::fault::ResolveFault;
 use crate::signal::Signals;
-use std::alloc::{AllocError, Global};
+use std::alloc::Global;
 
 /// The world after a frame's intents, one for each agent by number, each applied to the world as changed so far.
 ///
 /// A move leads to an open cell on which no agent stands at that point; an agent takes an item of its
 /// cell with empty hands, and drops its item where none lies. What can't be done changes nothing.
-/// Takes time linear in the number of items for each agent that takes or drops, else in the numbers of
-/// agents and items: the ground is shared with `world`.
+/// Takes time linear in the number of agents, and copies a byte for each cell: the ground is shared with
+/// `world`.
 pub fn resolve(
     alloc: Global,
     world: &World,
@@ -32,9 +32,9 @@ pub fn resolve(
     if intents.len() != world.agents().len() {
         return Err(ResolveFault::Count);
     }
-    let mut after = world.copy_with_room(alloc, intents.len())?;
+    let mut after = world.copy(alloc)?;
     'agents: for (number, intent) in intents.iter().enumerate() {
-        after.apply(signals, number, *intent)?;
+        after.apply(signals, number, *intent);
     }
     Ok(after)
 }
@@ -53,17 +53,16 @@ fn neighbour(dir: Dir, x: u32, y: u32) -> Option<(u32, u32)>
 }
 
 impl World {
-    fn apply(&mut self, signals: Signals, number: usize, intent: Intent) -> Result<(), AllocError>
+    fn apply(&mut self, signals: Signals, number: usize, intent: Intent)
         requires { number < length self.old.agents }
-        ensures { OnOk result (self.new ≡ apply self.old signals number intent) }
+        ensures { self.new ≡ apply self.old signals number intent }
     {
         match intent {
             Intent::Stay => {}
             Intent::Move(dir) => self.step(signals, number, dir),
             Intent::Take => self.take_item(number),
-            Intent::Drop => self.drop_item(number)?,
+            Intent::Drop => self.drop_item(number),
         }
-        Ok(())
     }
 
     fn step(&mut self, signals: Signals, number: usize, dir: Dir)
@@ -87,8 +86,8 @@ impl World {
             return;
         }
         if let Some(cell) = self.ground.index_of(agent.x, agent.y) {
-            if let Ok(i) = find(&self.item_cells, cell) {
-                self.item_cells.remove(i);
+            if self.has_item[cell as usize] {
+                self.has_item[cell as usize] = false;
                 self.crew[number] = Agent {
                     carrying: true,
                     ..agent
@@ -97,23 +96,22 @@ impl World {
         }
     }
 
-    fn drop_item(&mut self, number: usize) -> Result<(), AllocError>
+    fn drop_item(&mut self, number: usize)
         requires { number < length self.old.agents }
-        ensures { OnOk result (self.new ≡ apply self.old [] number Drop) }
+        ensures { self.new ≡ apply self.old [] number Drop }
     {
         let agent = self.crew[number];
         if !agent.carrying {
-            return Ok(());
+            return;
         }
         if let Some(cell) = self.ground.index_of(agent.x, agent.y) {
-            if let Err(i) = find(&self.item_cells, cell) {
-                self.item_cells.insert(i, cell)?;
+            if !self.has_item[cell as usize] {
+                self.has_item[cell as usize] = true;
                 self.crew[number] = Agent {
                     carrying: false,
                     ..agent
                 };
             }
         }
-        Ok(())
     }
 }

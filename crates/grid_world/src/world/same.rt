@@ -18,11 +18,11 @@ fn are_same_agents(agents: &[Agent], others: &[Agent]) -> bool
     agents == others
 }
 
-fn are_same_numbers(numbers: &[u32], others: &[u32]) -> bool
-    ensures same { result ≡ true → numbers.now ≡ others.now }
-    ensures differs { result ≡ false → numbers.now ≢ others.now }
+fn are_same_items(items: &[bool], others: &[bool]) -> bool
+    ensures same { result ≡ true → items.now ≡ others.now }
+    ensures differs { result ≡ false → items.now ≢ others.now }
 {
-    numbers == others
+    items == others
 }
 
 impl World {
@@ -38,7 +38,7 @@ impl World {
         if !are_same_agents(&self.crew, &other.crew) {
             return false;
         }
-        if !are_same_numbers(&self.item_cells, &other.item_cells) {
+        if !are_same_items(&self.has_item, &other.has_item) {
             return false;
         }
         are_same_cells(self.cells(), other.cells())

@@ -13,4 +13,4 @@ returns-in-Some-clause-reading c =
     let h = c.in-Some.ensures in
     IfOk-weaker c.play_words.result (λ w. (ws : List Text) → Enters ws (codes "play") (rows_of (found_of c.in-Some.play.now)) → IsReading ws w) _
     (λ w f. f words (enters _ words c.in-Ok.matches _ _ c.in_ok-command.ensures c.in-Ok.ensures.matches some (h.found.0 refl) h.rows))
-    c.play_words.ensures
+    c.play_words.ensures.reading

@@ -12,7 +12,7 @@ thoughts-preserved c =
     let thoughts = c.args.thoughts.now in
     let i = c.thoughts.thought-index in
     let done = c.thoughts.memories.items in
-    let m = c.in_ok-copy.field-0 in
+    let m = c.in_ok-share.field-0 in
     record {
       rest = grind (arith, common_steps);
       count = ap length c.in_ok-push.ensures.items ∙ length-append done (m ∷ []) ∙ ap (λ n. n + 1) c.thoughts.invariant.count;
@@ -21,5 +21,5 @@ thoughts-preserved c =
           let e : get_or thoughts i d ≡ c.thought-item.result = get_or_default thoughts i d c.thought-item.result (omega arith) ∙ sym c.thought-item.is in
           let P : PartOf → Type 0 = λ q. Fits (tree_of q.game q.number) m in
           let Q : List ℕ → Type 0 = λ l. Fits (tree_of c.thought-item.result.game c.thought-item.result.number) l in
-          subst P (sym e) (subst Q (sym c.in_ok-copy.ensures) c.memory.ensures.fits)));
+          subst P (sym e) (subst Q (sym c.in_ok-share.ensures) c.memory.ensures.fits)));
     }

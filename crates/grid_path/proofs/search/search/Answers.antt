@@ -14,7 +14,7 @@ returns-in-Some c =
       found (at c.args.unmet.now) c.args.stride c.args.goal (at c.loop-head.unmet) (slice_index c.loop-head.queue) c.args.from
           (side c.of-before.result) (side c.of.result) c.of-before.ensures c.of.ensures
           c.loop-head.head c.loop-head.met c.loop-head.steps v.level v.far
-          (neighbour c.args.stride c.args.from c.requires.stride c.requires.from.0)
+          (neighbour c.args.stride c.args.from (omega (arith, c.requires.stride)) c.requires.from.0)
           c.in-Some.dir c.in-Some.ensures.some c.in-Some.ensures.first,
     )
 

@@ -1,10 +1,8 @@
-use Rattle.std.proofs.Common.{refl, subst, arith, ◌∙◌}
-use Rattle.std.specs.declared.alloc.Global.{Global}
+use Rattle.std.proofs.Common.{refl, arith, ◌∙◌}
 use Rattle.bt_nodes.specs.Trees.{plain_of}
 use Rattle.bt_tick.specs.Views.{view_of}
-use Rattle.bt_tick.specs.declared.tick.Outcome.{Outcome}
-use Rattle.bt_tick.specs.Thinking.{Thinking}
 use Rattle.bt_tick.proofs.CutTicks.{thinking_begun, thinking_resumed, thinking_ended, thinking_ends}
+use Rattle.serial_run.proofs.Outcomes.{thinking_of}
 use Rattle.serial_run.proofs.think.think.Goals as goal
 
 pub questions-init : goal.questions-init
@@ -20,7 +18,7 @@ questions-preserved c =
     let p = plain_of c.args.tree.now in
     record {
       thinking = thinking_resumed v p c.args.memory c.questions._asked c.in-Asks.place c.in-Asks.pending c.in_ok-answer-in-Asks.answer c.in-Ok-resume.resumed
-          (subst (λ (o : Outcome Global Global). Thinking v p c.args.memory c.questions._asked o) c.in-Asks.is c.questions.invariant.thinking)
+          (thinking_of v p c.args.memory c.questions._asked c.in-Asks.is c.questions.invariant.thinking)
           c.in_ok-answer-in-Asks.ensures.way c.in-Ok-resume.ensures.comes c.in-Ok-resume.ensures.tree;
       world = c.way_to.ensures.world ∙ c.questions.invariant.world;
       signals = c.way_to.ensures.signals ∙ c.questions.invariant.signals;
@@ -31,13 +29,13 @@ returns-in-Ended-clause-thought c =
     let v = view_of c.args.view.now in
     let p = plain_of c.args.tree.now in
     thinking_ended v p c.args.memory c.questions._asked c.in-Ended.status c.in-Ended.memory c.in-Ended.intent
-    (subst (λ (o : Outcome Global Global). Thinking v p c.args.memory c.questions._asked o) c.in-Ended.is c.questions.invariant.thinking)
+    (thinking_of v p c.args.memory c.questions._asked c.in-Ended.is c.questions.invariant.thinking)
 
 pub returns-in-Ended-clause-fits : goal.returns-in-Ended-clause-fits
 returns-in-Ended-clause-fits c =
     let v = view_of c.args.view.now in
     let p = plain_of c.args.tree.now in
-    let t = subst (λ (o : Outcome Global Global). Thinking v p c.args.memory c.questions._asked o) c.in-Ended.is c.questions.invariant.thinking in
+    let t = thinking_of v p c.args.memory c.questions._asked c.in-Ended.is c.questions.invariant.thinking in
     t.tree
 
 pub unreachable-requires : goal.unreachable-requires

@@ -2,7 +2,7 @@ use Rattle.std.proofs.Common.{◌+◌, ap, sym, ◌∙◌, arith}
 use Rattle.std.specs.Prelude.{slice_set}
 use Rattle.bt_nodes.specs.Plain.{plain, plains, Sequence, Fallback}
 use Rattle.bt_nodes.specs.Trees.{plain_of}
-use Rattle.bt_nodes.proofs.Views.{plain-SeqStar, plain-FallbackStar}
+use Rattle.bt_nodes.proofs.Views.{plain-SeqStar, plain-FallbackStar, plain-Tries, plain-Ticks}
 use Rattle.bt_nodes.proofs.Forests.{count-plains}
 use Rattle.game_rules.specs.Tick.{gives}
 use Rattle.bt_tick.specs.Children.{children_of}
@@ -10,7 +10,7 @@ use Rattle.bt_tick.specs.Suspended.{close}
 use Rattle.bt_tick.specs.Machine.{opened, with_parts}
 use Rattle.bt_tick.proofs.Nests.{closed_at}
 use Rattle.bt_tick.proofs.Leaving.{left_keeps, stopped_placed, none_left}
-use Rattle.bt_tick.proofs.Numbers.{plain-Tries, plain-Ticks, star_wrote, tries_wrote, ticks_wrote, tries_lost, ticks_lost, end_star}
+use Rattle.bt_tick.proofs.Numbers.{star_wrote, tries_wrote, ticks_wrote, tries_lost, ticks_lost, end_star}
 use Rattle.bt_tick.proofs.machine.Machine.ascend.Goals as goal
 
 pub invariant_of-self : goal.invariant_of-self

@@ -1,16 +1,14 @@
-use Rattle.std.proofs.Common.{◌≡◌, ◌+◌, ◌<◌, ap, sym, ◌∙◌, subst, arith, refl}
+use Rattle.std.proofs.Common.{◌+◌, ◌<◌, ap, sym, ◌∙◌, subst, arith, refl}
 use Rattle.std.proofs.lemmas.List.{length-map}
 use Rattle.bt_nodes.specs.Plain.{Fallback, CompositeStar, none, tree, plain, plains}
-use Rattle.bt_nodes.specs.Sizes.{size}
-use Rattle.bt_nodes.proofs.Views.{plain-Seq, plain-Fallback, plain-Par, plain-FallbackStar}
+use Rattle.bt_nodes.proofs.Views.{plain-Seq, plain-Fallback, plain-Par, plain-FallbackStar, plain-Not, plain-Tries, plain-Ticks}
 use Rattle.bt_tick.specs.Children.{children_of}
 use Rattle.bt_tick.specs.Kinds.{HasList}
-use Rattle.bt_tick.specs.Places.{Nested, limit_of}
+use Rattle.bt_tick.specs.Places.{limit_of}
 use Rattle.bt_tick.specs.Views.{view_of}
-use Rattle.bt_tick.specs.Machine.{opened, opens, bounds_of}
+use Rattle.bt_tick.specs.Machine.{opened, opens, whole_of}
 use Rattle.bt_tick.proofs.Nests.{room}
-use Rattle.bt_tick.proofs.Numbers.{plain-Not, plain-Tries, plain-Ticks}
-use Rattle.bt_tick.proofs.Opening.{if_ok, first_rests, only_after, only_stands}
+use Rattle.bt_tick.proofs.Opening.{if_ok, first_rests, only_stands}
 use Rattle.bt_tick.proofs.machine.Machine.descend.Goals as goal
 
 pub overflow_add-after : goal.overflow_add-after
@@ -18,17 +16,17 @@ overflow_add-after g c = omega (arith, room c.args.self.now.tree.now (plain c.ar
 
 pub open_list-requires-clause-rests : goal.open_list-requires-clause-rests
 open_list-requires-clause-rests g c =
-    first_rests (bounds_of c.args.self.now) (plain c.args.node.now) c.args.number (opens c.args.self.now.stack) (subst HasList (sym (ap plain c.in-Seq.is ∙ plain-Seq c.in-Seq.field-0)) tt) c.requires.sits
+    first_rests (whole_of c.args.self.now) (plain c.args.node.now) c.args.number (opens c.args.self.now.stack) (subst HasList (sym (ap plain c.in-Seq.is ∙ plain-Seq c.in-Seq.field-0)) tt) c.requires.sits
     (omega (arith, c.requires.deep, length-map c.args.self.now.stack opened)) c.requires.nested
 
 pub open_list-requires-in-Fallback-clause-rests : goal.open_list-requires-in-Fallback-clause-rests
 open_list-requires-in-Fallback-clause-rests g c =
-    first_rests (bounds_of c.args.self.now) (plain c.args.node.now) c.args.number (opens c.args.self.now.stack) (subst HasList (sym (ap plain c.in-Fallback.is ∙ plain-Fallback c.in-Fallback.field-0)) tt) c.requires.sits
+    first_rests (whole_of c.args.self.now) (plain c.args.node.now) c.args.number (opens c.args.self.now.stack) (subst HasList (sym (ap plain c.in-Fallback.is ∙ plain-Fallback c.in-Fallback.field-0)) tt) c.requires.sits
     (omega (arith, c.requires.deep, length-map c.args.self.now.stack opened)) c.requires.nested
 
 pub open_list-requires-in-Par-clause-rests : goal.open_list-requires-in-Par-clause-rests
 open_list-requires-in-Par-clause-rests g c =
-    first_rests (bounds_of c.args.self.now) (plain c.args.node.now) c.args.number (opens c.args.self.now.stack) (subst HasList (sym (ap plain c.in-Par.is ∙ plain-Par c.in-Par.field-0 c.in-Par.field-1)) tt) c.requires.sits
+    first_rests (whole_of c.args.self.now) (plain c.args.node.now) c.args.number (opens c.args.self.now.stack) (subst HasList (sym (ap plain c.in-Par.is ∙ plain-Par c.in-Par.field-0 c.in-Par.field-1)) tt) c.requires.sits
     (omega (arith, c.requires.deep, length-map c.args.self.now.stack opened)) c.requires.nested
 
 pub open_star-requires-in-FallbackStar-clause-star : goal.open_star-requires-in-FallbackStar-clause-star
@@ -43,39 +41,15 @@ returns-in-FallbackStar-clause-keeps g c = if_ok c.open_star-in-FallbackStar.res
 
 pub open_only-requires-clause-stands : goal.open_only-requires-clause-stands
 open_only-requires-clause-stands g c =
-    only_stands (bounds_of c.args.self.now) (record { node = plain c.args.node.now; number = c.args.number; next = 1; won = 0; lost = 0 }) (plain c.deref-in-Not.result.now) _ (ap children_of (ap plain c.in-Not.is ∙ plain-Not c.in-Not.child) ∙ ap (λ n. tree (plain n) none) (sym c.deref-in-Not.ensures)) c.requires.sits refl
+    only_stands (whole_of c.args.self.now) (record { node = plain c.args.node.now; number = c.args.number; next = 1; won = 0; lost = 0 }) (plain c.deref-in-Not.result.now) _ (ap children_of (ap plain c.in-Not.is ∙ plain-Not c.in-Not.child) ∙ ap (λ n. tree (plain n) none) (sym c.deref-in-Not.ensures)) c.requires.sits refl
     (subst (λ p. 0 + 0 < limit_of p 1) (sym (ap plain c.in-Not.is ∙ plain-Not c.in-Not.child)) (omega arith)) (omega (arith, c.requires.deep, length-map c.args.self.now.stack opened))
 
 pub open_only-requires-in-Tries-clause-stands : goal.open_only-requires-in-Tries-clause-stands
 open_only-requires-in-Tries-clause-stands g c =
-    only_stands (bounds_of c.args.self.now) (record { node = plain c.args.node.now; number = c.args.number; next = 1; won = 0; lost = c.number-failures.result }) (plain c.deref-in-Tries.result.now) _ (ap children_of (ap plain c.in-Tries.is ∙ plain-Tries c.in-Tries.most c.in-Tries.child) ∙ ap (λ n. tree (plain n) none) (sym c.deref-in-Tries.ensures)) c.requires.sits refl
+    only_stands (whole_of c.args.self.now) (record { node = plain c.args.node.now; number = c.args.number; next = 1; won = 0; lost = c.number-failures.result }) (plain c.deref-in-Tries.result.now) _ (ap children_of (ap plain c.in-Tries.is ∙ plain-Tries c.in-Tries.most c.in-Tries.child) ∙ ap (λ n. tree (plain n) none) (sym c.deref-in-Tries.ensures)) c.requires.sits refl
     (subst (λ p. 0 + c.number-failures.result < limit_of p 1) (sym (ap plain c.in-Tries.is ∙ plain-Tries c.in-Tries.most c.in-Tries.child)) (omega (arith, c.if-failures-most.false))) (omega (arith, c.requires.deep, length-map c.args.self.now.stack opened))
 
 pub open_only-requires-in-Ticks-clause-stands : goal.open_only-requires-in-Ticks-clause-stands
 open_only-requires-in-Ticks-clause-stands g c =
-    only_stands (bounds_of c.args.self.now) (record { node = plain c.args.node.now; number = c.args.number; next = 1; won = 0; lost = c.number-past.result }) (plain c.deref-in-Ticks.result.now) _ (ap children_of (ap plain c.in-Ticks.is ∙ plain-Ticks c.in-Ticks.most c.in-Ticks.child) ∙ ap (λ n. tree (plain n) none) (sym c.deref-in-Ticks.ensures)) c.requires.sits refl
+    only_stands (whole_of c.args.self.now) (record { node = plain c.args.node.now; number = c.args.number; next = 1; won = 0; lost = c.number-past.result }) (plain c.deref-in-Ticks.result.now) _ (ap children_of (ap plain c.in-Ticks.is ∙ plain-Ticks c.in-Ticks.most c.in-Ticks.child) ∙ ap (λ n. tree (plain n) none) (sym c.deref-in-Ticks.ensures)) c.requires.sits refl
     (subst (λ p. 0 + c.number-past.result < limit_of p 1) (sym (ap plain c.in-Ticks.is ∙ plain-Ticks c.in-Ticks.most c.in-Ticks.child)) (omega (arith, c.if-past-most.false))) (omega (arith, c.requires.deep, length-map c.args.self.now.stack opened))
-
-pub overflow_add-result : goal.overflow_add-result
-overflow_add-result g c =
-    omega (arith, c.size.ensures, only_after (plain c.args.node.now) (plain c.deref-then-failures-most.result.now) c.args.number (ap children_of (ap plain c.in-Tries.is ∙ plain-Tries c.in-Tries.most c.in-Tries.child) ∙ ap (λ n. tree (plain n) none) (sym c.deref-then-failures-most.ensures)), room c.args.self.now.tree.now (plain c.args.node.now) c.args.number c.requires.sits)
-
-pub returns-then-failures-most-clause-placed : goal.returns-then-failures-most-clause-placed
-returns-then-failures-most-clause-placed g c =
-    let e : c.args.number + 1 + c.size.result ≡ c.args.number + size (plain c.args.node.now) = omega (arith, c.size.ensures, only_after (plain c.args.node.now) (plain c.deref-then-failures-most.result.now) c.args.number (ap children_of (ap plain c.in-Tries.is ∙ plain-Tries c.in-Tries.most c.in-Tries.child) ∙ ap (λ n. tree (plain n) none) (sym c.deref-then-failures-most.ensures)), room c.args.self.now.tree.now (plain c.args.node.now) c.args.number c.requires.sits) in
-    record {
-      nested = subst (λ k. Nested (bounds_of c.args.self.now) k (opens c.args.self.now.stack)) (sym e) c.requires.nested;
-      stands = tt;
-    }
-
-pub overflow_add-result-then-past-most : goal.overflow_add-result-then-past-most
-overflow_add-result-then-past-most g c =
-    omega (arith, c.size-then-past-most.ensures, only_after (plain c.args.node.now) (plain c.deref-then-past-most.result.now) c.args.number (ap children_of (ap plain c.in-Ticks.is ∙ plain-Ticks c.in-Ticks.most c.in-Ticks.child) ∙ ap (λ n. tree (plain n) none) (sym c.deref-then-past-most.ensures)), room c.args.self.now.tree.now (plain c.args.node.now) c.args.number c.requires.sits)
-
-pub returns-then-past-most-clause-placed : goal.returns-then-past-most-clause-placed
-returns-then-past-most-clause-placed g c =
-    let e : c.args.number + 1 + c.size-then-past-most.result ≡ c.args.number + size (plain c.args.node.now) = omega (arith, c.size-then-past-most.ensures, only_after (plain c.args.node.now) (plain c.deref-then-past-most.result.now) c.args.number (ap children_of (ap plain c.in-Ticks.is ∙ plain-Ticks c.in-Ticks.most c.in-Ticks.child) ∙ ap (λ n. tree (plain n) none) (sym c.deref-then-past-most.ensures)), room c.args.self.now.tree.now (plain c.args.node.now) c.args.number c.requires.sits) in
-    record {
-      nested = subst (λ k. Nested (bounds_of c.args.self.now) k (opens c.args.self.now.stack)) (sym e) c.requires.nested;
-      stands = tt;
-    }

@@ -5,7 +5,7 @@ use Rattle.bt_nodes.specs.Sizes.{size}
 use Rattle.game_rules.specs.Tick.{tick}
 use Rattle.bt_tick.specs.Suspended.{unwind}
 use Rattle.bt_tick.specs.Places.{Nested, weight_of, weight_all}
-use Rattle.bt_tick.specs.Machine.{opens, opened, bounds_of, with_parts}
+use Rattle.bt_tick.specs.Machine.{opens, opened, whole_of, with_parts}
 use Rattle.bt_tick.proofs.Forests.{child_at, replaced}
 use Rattle.bt_tick.proofs.Nests.{entered_keeps, entered_sits, entered_deep, entered_nested, entered_falls}
 use Rattle.bt_tick.proofs.machine.Machine.enter.Goals as goal
@@ -26,8 +26,8 @@ returns-clause-placed g c =
     let f = opened c.args.frame in
     let p = plain c.index-children-next.result in
     record {
-      nested = subst (λ fs. Nested (bounds_of c.args.self.now) (c.args.at + size p) (opens fs)) (sym e) (entered_nested f (opens rest) p c.args.at there (bounds_of c.args.self.now) c.requires.rests);
-      stands = (entered_sits f (opens rest) p c.args.at there (bounds_of c.args.self.now) c.requires.rests, omega (arith, entered_deep f (opens rest) p c.args.at there (bounds_of c.args.self.now) c.requires.rests, length-map rest opened, ap length e));
+      nested = subst (λ fs. Nested (whole_of c.args.self.now) (c.args.at + size p) (opens fs)) (sym e) (entered_nested f (opens rest) p c.args.at there (whole_of c.args.self.now) c.requires.rests);
+      stands = (entered_sits f (opens rest) p c.args.at there (whole_of c.args.self.now) c.requires.rests, omega (arith, entered_deep f (opens rest) p c.args.at there (whole_of c.args.self.now) c.requires.rests, length-map rest opened, ap length e));
     }
 
 pub returns-clause-falls : goal.returns-clause-falls

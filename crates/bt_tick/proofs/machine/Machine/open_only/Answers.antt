@@ -1,7 +1,7 @@
 use Rattle.std.proofs.Common.{◌+◌, ◌∷◌, arith}
 use Rattle.std.proofs.lemmas.List.{length-map}
 use Rattle.bt_nodes.specs.Plain.{plain}
-use Rattle.bt_tick.specs.Machine.{opened, opens, bounds_of}
+use Rattle.bt_tick.specs.Machine.{opened, opens, whole_of}
 use Rattle.bt_tick.specs.declared.machine.Mode.TheVariants.{Down}
 use Rattle.bt_tick.proofs.Nests.{room}
 use Rattle.bt_tick.proofs.Opening.{placed_by, only_nested, only_sits}
@@ -17,7 +17,7 @@ overflow_add-result g c = omega (arith, room c.args.self.now.tree.now (plain c.a
 
 pub returns-clause-placed : goal.returns-clause-placed
 returns-clause-placed g c =
-    let bs = bounds_of c.args.self.now in
+    let bs = whole_of c.args.self.now in
     let f = opened c.args.frame in
     let p = plain c.args.child.now in
     placed_by c.args.self.now c.open.new.self (Down c.args.child (c.args.frame.number + 1)) (c.args.frame ∷ c.args.self.now.stack) c.in_ok-open.ensures.tree c.in_ok-open.ensures.stack

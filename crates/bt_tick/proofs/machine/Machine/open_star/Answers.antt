@@ -1,39 +1,39 @@
-use Rattle.std.proofs.Common.{◌≡◌, ◌<◌, ap, ◌∙◌, arith, length, take, refl}
-use Rattle.std.proofs.lemmas.List.{length-map, length-take-le}
+use Rattle.std.proofs.Common.{◌≡◌, ◌+◌, ap, ◌∙◌, arith, refl}
+use Rattle.std.proofs.lemmas.List.{length-map}
 use Rattle.bt_nodes.specs.Plain.{plain, plains}
-use Rattle.bt_nodes.specs.Sizes.{sizes}
 use Rattle.bt_nodes.specs.Trees.{plain_of}
-use Rattle.bt_nodes.proofs.MemoryBounds.{length-bounds}
-use Rattle.bt_nodes.proofs.WithinLimits.{tree_within}
+use Rattle.bt_tick.specs.Children.{children_of, child_number}
 use Rattle.bt_tick.specs.Suspended.{Open, unwind}
 use Rattle.bt_tick.specs.Machine.{opened, opens, with_parts}
 use Rattle.bt_tick.proofs.Nests.{room}
-use Rattle.bt_tick.proofs.Opening.{if_ok, star_next, star_room, star_rests, star_falls, star_begins}
+use Rattle.bt_tick.proofs.Opening.{child_within, child_passed, if_ok, star_next, star_rests, star_falls, star_begins}
 use Rattle.bt_tick.proofs.machine.Machine.open_star.Goals as goal
 
-pub slice_bounds-sizes-end : goal.slice_bounds-sizes-end
-slice_bounds-sizes-end g c =
-    let f : Open = record { node = plain c.args.node.now; number = c.args.number; next = c.number-next.result; won = 0; lost = 0 } in
-    let l : c.number-next.result < length c.args.children.now = star_next (plain_of c.args.self.now.tree.now) c.args.self.now.memory f (opens c.args.self.now.stack) c.requires.star.0 c.args.children.now c.requires.star.1 c.args.self.now.fits c.requires.sits c.number-next.ensures in
-    omega (arith, length-take-le c.number-next.result c.args.children.now (omega (arith, l)))
+pub overflow_add-at : goal.overflow_add-at
+overflow_add-at g c = omega (arith, room c.args.self.now.tree.now (plain c.args.node.now) c.args.number c.requires.sits)
 
-pub overflow_add-number : goal.overflow_add-number
-overflow_add-number g c = omega (arith, room c.args.self.now.tree.now (plain c.args.node.now) c.args.number c.requires.sits)
-
-pub overflow_add-number-2 : goal.overflow_add-number-2
-overflow_add-number-2 g c =
+pub number_after-at-requires : goal.number_after-at-requires
+number_after-at-requires g c =
     let p = plain_of c.args.self.now.tree.now in
     let f : Open = record { node = plain c.args.node.now; number = c.args.number; next = c.number-next.result; won = 0; lost = 0 } in
-    omega (arith, c.sizes-passed.ensures, length-bounds p, (tree_within c.args.self.now.tree.now).few, star_room p c.args.self.now.memory f (opens c.args.self.now.stack) c.requires.star.0 c.args.children.now c.requires.star.1 c.args.self.now.fits c.requires.sits c.number-next.ensures)
+    let next = star_next p c.args.self.now.memory f (opens c.args.self.now.stack) c.requires.star.0 c.args.children.now c.requires.star.1 c.args.self.now.fits c.requires.sits c.number-next.ensures in
+    omega (arith, c.passed.invariant, child_within p (plain c.args.node.now) c.args.number c.passed._child c.requires.sits (omega (arith, next, c.passed-test.true)))
+
+pub passed-preserved : goal.passed-preserved
+passed-preserved g c =
+    let p = plain_of c.args.self.now.tree.now in
+    let f : Open = record { node = plain c.args.node.now; number = c.args.number; next = c.number-next.result; won = 0; lost = 0 } in
+    let next = star_next p c.args.self.now.memory f (opens c.args.self.now.stack) c.requires.star.0 c.args.children.now c.requires.star.1 c.args.self.now.fits c.requires.sits c.number-next.ensures in
+    child_passed p (plain c.args.node.now) c.args.number c.passed._child c.requires.sits (omega (arith, next, c.passed-test.true)) c.passed.at _ c.passed.invariant c.number_after-at.ensures
 
 pub open_list-requires-clause-rests : goal.open_list-requires-clause-rests
 open_list-requires-clause-rests g c =
     let p = plain_of c.args.self.now.tree.now in
     let f : Open = record { node = plain c.args.node.now; number = c.args.number; next = c.number-next.result; won = 0; lost = 0 } in
     let fs = opens c.args.self.now.stack in
-    let passed : c.sizes-passed.result ≡ sizes (plains (take c.number-next.result c.args.children.now)) =
-    omega (arith, c.sizes-passed.ensures, length-bounds p, (tree_within c.args.self.now.tree.now).few, star_room p c.args.self.now.memory f fs c.requires.star.0 c.args.children.now c.requires.star.1 c.args.self.now.fits c.requires.sits c.number-next.ensures) in
-    star_rests p c.args.self.now.memory f fs c.requires.star.0 c.args.children.now c.requires.star.1 c.args.self.now.fits c.requires.sits c.number-next.ensures c.sizes-passed.result passed refl refl
+    let all : c.passed._child ≡ c.number-next.result = omega (arith, c.passed-test.false) in
+    star_rests p c.args.self.now.memory f fs c.requires.star.0 c.args.children.now c.requires.star.1 c.args.self.now.fits c.requires.sits c.number-next.ensures c.passed.at
+    (c.passed.invariant ∙ ap (λ k. child_number k (children_of (plain c.args.node.now)) (c.args.number + 1)) all) refl refl
     (omega (arith, c.requires.deep, length-map c.args.self.now.stack opened)) c.requires.nested
 
 pub returns-clause-keeps : goal.returns-clause-keeps

@@ -3,7 +3,7 @@ use Rattle.std.specs.Arc.{arc_value}
 use Rattle.grid_world.specs.Grid.{Grid}
 use Rattle.grid_world.specs.Intents.{apply_all}
 use Rattle.bt_nodes.specs.declared.node.Status.{Status}
-use Rattle.bt_tick.specs.declared.memory.Memory.{Memory}
+use Rattle.frame_params.specs.declared.kept_memory.KeptMemory.{KeptMemory}
 use Rattle.frame_params.specs.Contents.{IsAfter}
 use Rattle.frame_params.proofs.Turning.{an_intent_each, is_after}
 use Rattle.frame_params.proofs.gathered.Gathered.turn.Goals as goal
@@ -21,7 +21,7 @@ invariant_of-result c =
     c.in_ok-new.ensures.ok ∙ c.in_ok-world.ensures ∙ ap (λ w. apply_all w x.signals 0 c.deref-2.result.now) c.deref.ensures
     ∙ ap (apply_all (arc_value x.world) x.signals 0) c.deref-2.ensures.value in (
       c.requires.later,
-      subst (λ (v : Vec Memory Global). IsAfter g f (arc_value c.in_ok-new.field-0) v.items) (sym c.in_ok-try_clone.ensures)
+      subst (λ (v : Vec KeptMemory Global). IsAfter g f (arc_value c.in_ok-new.field-0) v.items) (sym c.in_ok-try_clone.ensures)
           (is_after g f x c.requires (arc_value c.in_ok-new.field-0) world),
       ap (λ (v : Vec Status Global). v.items) c.in_ok-try_clone-2.ensures ∙ c.requires.statuses,
     )

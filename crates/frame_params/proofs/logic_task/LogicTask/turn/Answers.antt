@@ -2,7 +2,7 @@ use Rattle.std.proofs.Common.{◌∙◌, ap, sym, subst, length, Vec, Global}
 use Rattle.std.proofs.lemmas.List.{length-map}
 use Rattle.grid_world.specs.Grid.{Grid}
 use Rattle.bt_nodes.specs.declared.node.Status.{Status}
-use Rattle.bt_tick.specs.declared.memory.Memory.{Memory}
+use Rattle.frame_params.specs.declared.kept_memory.KeptMemory.{KeptMemory}
 use Rattle.frame_params.specs.Names.{FrameOf, frame_of, AreOfAllAgents}
 use Rattle.frame_params.specs.Contents.{thought_for, AllFit}
 use Rattle.frame_params.proofs.Turning.{all_intents, all_statuses, all_memories, all_fit}
@@ -23,8 +23,8 @@ invariant_of-result c =
       signals = inv.1;
       intents = c.in_ok-intents_of.ensures ∙ all_intents p parts all;
       statuses = ap (λ (v : Vec Status Global). v.items) c.in_ok-new.ensures.ok ∙ c.in_ok-statuses.ensures ∙ all_statuses p parts all;
-      memories = ap (λ (v : Vec Memory Global). v.items) kept ∙ c.in_ok-memories.ensures.value ∙ all_memories p parts all inv.0;
-      fit = subst (λ (v : Vec Memory Global). AllFit g.trees v.items) (sym kept)
+      memories = ap (λ (v : Vec KeptMemory Global). v.items) kept ∙ c.in_ok-memories.ensures.value ∙ all_memories p parts all inv.0;
+      fit = subst (λ (v : Vec KeptMemory Global). AllFit g.trees v.items) (sym kept)
           (all_fit p parts all c.in_ok-memories.memories.items
           (ap length c.in_ok-memories.ensures.value ∙ length-map parts (λ q. (thought_for q).memory)) c.in_ok-memories.ensures.fit);
     }

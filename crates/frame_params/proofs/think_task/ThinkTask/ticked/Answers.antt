@@ -37,13 +37,14 @@ returns-in_ok-begun-in-Start-clause-thinks c =
     let o = c.in_ok-begun-in-Start.field-0 in
     let kept = subst (λ (s : Stand). IsStand g x.frame x.agent s) c.in-Start.is c.self.invariant.1 in
     let read = c.index.ensures in
+    let same = c.memory.ensures in
     let shared = c.deref-in-Start.ensures in
-    let e : c.index.result.now ≡ memory_before g x.frame x.agent = grind (arith, common_steps) in
-    let t : Thinking (view x.signals (arc_value x.world) x.agent) (tree_of g x.agent) c.index.result.now 0 o =
-    subst (λ (w : Grid). Thinking (view x.signals w x.agent) (tree_of g x.agent) c.index.result.now 0 o) c.deref.ensures c.in_ok-begun-in-Start.ensures in
+    let e : c.memory.result.now ≡ memory_before g x.frame x.agent = grind (arith, common_steps) in
+    let t : Thinking (view x.signals (arc_value x.world) x.agent) (tree_of g x.agent) c.memory.result.now 0 o =
+    subst (λ (w : Grid). Thinking (view x.signals w x.agent) (tree_of g x.agent) c.memory.result.now 0 o) c.deref.ensures c.in_ok-begun-in-Start.ensures in
     subst (λ (y : ThinkOf). ThinksTo y.game y.frame y.agent y.answered o) c.self.view_is
     (subst (λ (s : Stand). ThinksTo g x.frame x.agent (answered_at s) o) (sym c.in-Start.is)
-    (starts g x.frame x.agent (arc_value x.world) x.signals c.self.invariant.0 c.index.result.now o e t))
+    (starts g x.frame x.agent (arc_value x.world) x.signals c.self.invariant.0 c.memory.result.now o e t))
 
 pub returns-in_ok-resumed-in-Answered-clause-thinks : goal.returns-in_ok-resumed-in-Answered-clause-thinks
 returns-in_ok-resumed-in-Answered-clause-thinks c =

@@ -1,4 +1,4 @@
-use Rattle.std.proofs.Common.{◌≢◌, ◌<◌, arith, sym, nat_lt}
+use Rattle.std.proofs.Common.{◌≢◌, sym, nat_lt}
 use Rattle.std.proofs.lemmas.Bool.{both_ways, ltb-true}
 use Rattle.grid_world.specs.Grid.{Point, same_point}
 use Rattle.grid_world.specs.World.{point}

@@ -1,10 +1,8 @@
-use Rattle.std.proofs.Common.{◌≡◌, ◌++◌, ◌+◌, ◌-◌, ◌*◌}
-use Rattle.grid_world.specs.Ground.{emptied, IsCut}
+use Rattle.std.proofs.Common.{◌≡◌, ◌++◌, ◌+◌, ◌-◌}
+use Rattle.grid_world.specs.Ground.{emptied}
 use Rattle.grid_world.specs.Rows.{lines}
 use Rattle.grid_world.proofs.world.World.draw_rows.Given as goal
 
 abbrev pub invariant-rows : goal.invariant-rows
-invariant-rows l = record {
-  drawn : l.rows.items ≡ lines l.self l.fn.signals l.first l.k ++ lines (emptied l.self) l.fn.signals (l.first + l.k) (l.count - l.k);
-  next : IsCut l.self-inside.item_cells.items ((l.first + l.k) * l.width) l.next;
-}
+invariant-rows l =
+    l.rows.items ≡ lines l.self l.fn.signals l.first l.k ++ lines (emptied l.self) l.fn.signals (l.first + l.k) (l.count - l.k)

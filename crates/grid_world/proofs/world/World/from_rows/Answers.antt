@@ -1,14 +1,13 @@
-use Rattle.std.proofs.Common.{All, refl, map, ◌==◌, ◌≡◌, ◌≤◌, ap, ◌∙◌, sym, arith, length, subst}
+use Rattle.std.proofs.Common.{All, refl, map, ◌==◌, ◌≤◌, ap, ◌∙◌, sym, arith, length, subst}
 use Rattle.std.proofs.lemmas.List.{length-map}
 use Rattle.std.specs.Str.{chars}
 use Rattle.std.proofs.Common.{string_bytes}
 use Rattle.grid_world.specs.MapFaults.{rows_of}
 use Rattle.grid_world.proofs.Rows.{IsRectangle-from_size, few_marks}
-use Rattle.grid_world.proofs.MapWorld.{AreParts, IsKept-parts, IsSized-parts}
+use Rattle.grid_world.proofs.MapWorld.{AreParts, IsWorld-parts, IsSized-parts}
 use Rattle.grid_world.specs.Map.{cell_of}
 use Rattle.grid_world.specs.Rows.{IsPlaced}
 use Rattle.grid_world.proofs.Lined.{cells-placed}
-use Rattle.grid_world.specs.Ground.{IsListed, marked}
 use Rattle.grid_world.proofs.world.World.from_rows.Goals as goal
 
 pub overflow_cast-at : goal.overflow_cast-at
@@ -18,12 +17,6 @@ overflow_cast-at c =
     let few : length c.deref.result.now ≤ 16384 = rw (c.deref.ensures.value, c.in_ok-marks.ensures)
     (few_marks _ size) in
     grind (arith, few, c.in-Some.ensures)
-
-pub item_cells_in-requires : goal.item_cells_in-requires
-item_cells_in-requires c =
-    let size = IsRectangle-from_size (rows_of c.args.rows.now)
-    (sym c.has_size.ensures ∙ c.if-not-has_size.false) in
-    rw (c.deref-4.ensures.value, c.in_ok-marks.ensures) (few_marks _ size)
 
 pub agents_in-requires-clause-few : goal.agents_in-requires-clause-few
 agents_in-requires-clause-few c =
@@ -57,13 +50,9 @@ invariant_of-result c =
       high = sym (length-map c.args.rows.now (λ text. chars (string_bytes text)));
       ground = c.in_ok-kinds.ensures ∙ ap (map cell_of) (c.deref-3.ensures.value ∙ c.in_ok-marks.ensures);
     } in
-    let items_read = c.deref-4.ensures.value ∙ c.in_ok-marks.ensures in
     rw (c.in-Ok.ensures.ok, c.new-ground.ensures)
-    (IsKept-parts rows size _ _ _ _ _ parts
-    (subst (λ marks. IsListed c.in_ok-item_cells.item_cells.items
-    (length marks)) items_read c.in_ok-item_cells.ensures.listed)
-    (subst (λ marks. marked (length marks) c.in_ok-item_cells.item_cells.items
-    ≡ map (λ c. c == 42) marks) items_read c.in_ok-item_cells.ensures.marked)
+    (IsWorld-parts rows size _ _ _ _ _ parts
+    (c.in_ok-has_item.ensures ∙ ap (map (λ c. c == 42)) (c.deref-4.ensures.value ∙ c.in_ok-marks.ensures))
     (c.in_ok-crew.ensures
     ∙ rw (c.first_width-columns.ensures, c.deref-5.ensures.value, c.in_ok-marks.ensures) refl))
 

@@ -1,11 +1,8 @@
-use Rattle.std.proofs.Common.{ℕ, ◌+◌, ◌<◌, ◌≤◌, get_or, drop, length, if◌then◌else◌}
-use Rattle.grid_world.specs.Ground.{is_among}
-use Rattle.grid_world.proofs.Written.{IsWritten}
+use Rattle.std.proofs.Common.{ℕ, ◌≡◌, ◌<◌, ◌≤◌, false, get_or, if◌then◌else◌}
 use Rattle.grid_world.proofs.world.draw.draw_items.Given as goal
 
-abbrev pub invariant-items : goal.invariant-items
-invariant-items l = record {
-  from : (k : ℕ) → l.i ≤ k → k < length l.listed → l.start ≤ get_or l.listed k 0;
-  below : (k : ℕ) → k < l.i → get_or l.listed k 0 < l.start + l.width;
-  left : IsWritten (λ x. if is_among l.listed (l.start + x) then 42 else get_or l.fn.row x 0) l.start l.width (drop l.i l.listed) l.row;
+abbrev pub invariant-cells : goal.invariant-cells
+invariant-cells l = record {
+  done : (k : ℕ) → k < l.x → get_or l.row k 0 ≡ (if get_or l.items k false then 42 else get_or l.fn.row k 0);
+  left : (k : ℕ) → l.x ≤ k → get_or l.row k 0 ≡ get_or l.fn.row k 0;
 }
