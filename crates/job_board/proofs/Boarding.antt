@@ -1,12 +1,14 @@
 -- A board that keeps itself, before an event and after it.
-use Rattle.std.proofs.Common.{◌≡◌, ◌≤◌, ◌<◌, ◌+◌, ◌-◌, ◌↔◌, ℕ, zero, suc, Err, Some, List, [], ◌∷◌, ◌++◌, refl, sym, ap, ◌∙◌, subst, arith}
+use Rattle.std.proofs.Common.{◌≡◌, ◌≤◌, ◌<◌, ◌+◌, ◌-◌, ◌↔◌, ℕ, zero, suc, Err, Some, List, [], ◌∷◌, ◌++◌, length, refl, sym, ap, ◌∙◌, subst, arith}
 use Rattle.game_rules.specs.Game.{Game}
 use Rattle.job_core.specs.declared.names.Event.{Event}
 use Rattle.job_core.specs.Core.{Setup, State, IsJob, IsAtEnd, opening, Runs, Waits, IsLegal, IsLegalList}
 use Rattle.job_core.proofs.Keeping.{legal_more}
 use Rattle.job_core.proofs.Shape.{opens, there}
 use Rattle.job_core.proofs.Moves.{shape_of}
-use Rattle.game_jobs.specs.Instance.{asked_in}
+use Rattle.bt_nodes.specs.Sizes.{size}
+use Rattle.game_rules.proofs.Ways.{few}
+use Rattle.game_jobs.specs.Instance.{asked_in, tree_of}
 use Rattle.job_log.specs.Logged.{Logged, setup_of, IsNext, IsNextOn, with_event as jobs_with_event}
 use Rattle.job_log.specs.Looks.{Always, IsIdleOr, IsNotRunning, IsToShow}
 use Rattle.job_log.specs.declared.fault.BoardFault.{BoardFault}
@@ -26,9 +28,10 @@ use Rattle.job_board.specs.Dones.{game_done, job_done, IsDoneAt}
 use Rattle.job_board.specs.declared.done.Done.{Done}
 use Rattle.job_board.specs.declared.done.Done.TheVariants.{Turned, Thought, Way, Drawn}
 use Rattle.board_law.specs.Stored.{store}
+use Rattle.board_law.specs.Needed.{IsThere}
 use Rattle.job_machine.specs.Numbers.{IsWithinLimits}
 use Rattle.job_board.specs.Shelf.{Shelved, Stores, sizes}
-use Rattle.job_board.proofs.Sized.{shelf_of, stored_next}
+use Rattle.job_board.proofs.Sized.{shelf_of, there_of, stored_next}
 use Rattle.job_board.proofs.Tasked.{job_is}
 
 -- as a board sees itself
@@ -42,6 +45,10 @@ module _ (g : Game) (jobs : Logged) (shelf : Shelved) (k : IsBoard (seen_as g jo
 
   pub next : (e : Event) → IsLegal (setup_in (seen_as g jobs)) (state_in (seen_as g jobs)) e → IsNext jobs e
   next e l = subst (λ v. IsNext v e) (sym k.jobs_are) (record { questions = asked_in g; lawful = k.lawful; legal = l })
+
+  -- what an event needs is on the shelf
+  pub there_for : (e : Event) → IsLegal (setup_in (seen_as g jobs)) (state_in (seen_as g jobs)) e → IsThere (sizes shelf) (state_in (seen_as g jobs)) shelf.stored e
+  there_for e l = subst (λ v. IsThere (sizes v) (state_in (seen_as g jobs)) v.stored e) (sym k.shelf_is) (there_of (seen_as g jobs) k.lawful k.within.a_slot e l)
 
   module _ (e : Event) (l : IsLegal (setup_in (seen_as g jobs)) (state_in (seen_as g jobs)) e) (later : Logged) (j : later ≡ jobs_with_event jobs e) where
     pub kept_after : (new : Shelved) → Stores shelf new (state_in (seen_as g jobs)) e → IsBoard (seen_as g later) later new
@@ -162,12 +169,20 @@ unfolding questions_in seen memory_before world_after memories_after
 asked_is g zero a l = absurd (omega arith)
 asked_is g (suc f) a l = let e : suc f - 1 ≡ f = omega arith in rw e refl
 
+-- a tick asks at most as often as its tree has nodes
+pub few_questions : (g : Game) (f a : ℕ) → questions_in g f a ≤ size (tree_of g a)
+unfolding questions_in
+few_questions g f a = few (seen g f a) (tree_of g a) (memory_before g f a)
+
 module _ (b : Played) (lawful : IsLegalList (setup_in b) b.events) (w : ℕ) (on : IsOn b w) (j : JobName) (k : ℕ) (runs : (state_in b).phase j ≡ Runs w k) where
   pub other_result : (other : JobName → ℕ → Type 0) (event : JobName → Event) → other j k → IsRefused b w other event WrongResult
   other_result other event o = (on, (j, k, runs, o))
 
-  a_job : IsJob (setup_in b) j
+  pub a_job : IsJob (setup_in b) j
   a_job = there (setup_in b) (state_in b) (shape_of (setup_in b) b.events (opening (setup_in b)) (opens (setup_in b)) lawful) j (λ e. let x = sym runs ∙ e in cc)
+
+  pub an_agent : (f a : ℕ) → Think f a ≡ j → a < length b.game.trees
+  an_agent f a e = (subst (IsJob (setup_in b)) (sym e) a_job).1
 
   pub ask_legal : (p : QuestionOf) → Think p.frame p.agent ≡ j → p.question ≡ k → p.game ≡ b.game → k < questions_in p.game p.frame p.agent → IsLegal (setup_in b) (state_in b) (Ask w (Think p.frame p.agent))
   ask_legal p e q g l =

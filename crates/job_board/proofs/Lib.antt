@@ -3,3 +3,4 @@ pub mod Shelving
 pub mod Boarding
 pub mod Tasked
 pub mod Sized
+pub mod Handed

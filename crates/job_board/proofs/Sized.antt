@@ -5,9 +5,9 @@ use Rattle.job_core.specs.declared.names.JobName.{JobName}
 use Rattle.job_core.specs.declared.names.JobName.TheVariants.{Logic, Think, Path, Draw}
 use Rattle.job_core.specs.declared.names.Event.{Event}
 use Rattle.job_core.specs.declared.names.Event.TheVariants.{Start, Resume, Ask, Spread, Hold, Finish, Emit, Stop}
-use Rattle.job_core.specs.Core.{Setup, State, IsLegal, IsLegalList}
+use Rattle.job_core.specs.Core.{Setup, State, IsLegal, IsLegalList, step_of}
 use Rattle.board_law.specs.Stored.{Stored, part, parts, nothing, turned, with_band, store, stored_after}
-use Rattle.board_law.specs.Needed.{HasParts, IsThere}
+use Rattle.board_law.specs.Needed.{HasParts, IsMissing, IsThere}
 use Rattle.board_law.proofs.Stores.{needed_is_there, places_are, stored_more}
 use Rattle.job_board.specs.Boards.{Played, setup_in, state_in}
 use Rattle.job_board.specs.Shelf.{Shelved, sizes}
@@ -41,6 +41,29 @@ same_store s t x st k (Spread w (Think f a)) = refl
 same_store s t x st k (Spread w (Path f a i)) = refl
 same_store s t x st k (Spread w (Draw f b)) = refl
 
+same_there : (s t : Setup) → s.slots ≡ t.slots → s.agents ≡ t.agents → s.bands ≡ t.bands → (st : State) (k : Stored) (e : Event) → IsThere s st k e → IsThere t st k e
+same_there s t x y z st k (Start w j) h = same_parts s t x y z k j 0 h
+same_there s t x y z st k (Resume w j) h = same_parts s t x y z k j (step_of (st.phase j)) h
+same_there s t x y z st k (Spread w (Logic f)) h = (h.0, subst (λ m. slice_get k.slots (f % m) ≡ Some None) x h.1)
+same_there s t x y z st k (Ask w (Think f a)) h = h
+same_there s t x y z st k (Finish w (Logic f)) h = subst (λ m. slice_get k.drawn (f % m) ≡ Some nothing) x h
+same_there s t x y z st k (Finish w (Think f a)) h = (h.0, subst (λ m. length k.thoughts < m) y h.1)
+same_there s t x y z st k (Finish w (Path f a i)) h = h
+same_there s t x y z st k (Finish w (Draw f b)) h =
+    subst (λ m. IsSomeAnd (slice_get k.drawn (f % t.slots)) (λ d. (d.turn ≡ Some f) × (IsMissing b d.bands × (length d.bands < m)))) z
+    (subst (λ m. IsSomeAnd (slice_get k.drawn (f % m)) (λ d. (d.turn ≡ Some f) × (IsMissing b d.bands × (length d.bands < s.bands)))) x h)
+same_there s t x y z st k (Emit f) h =
+    (subst (λ m. slice_get k.slots (f % m) ≡ Some (Some f)) x h.0,
+    subst (λ m. slice_get k.drawn (f % t.slots) ≡ Some (turned f (parts f m))) z (subst (λ m. slice_get k.drawn (f % m) ≡ Some (turned f (parts f s.bands))) x h.1))
+same_there s t x y z st k (Hold w j) h = tt
+same_there s t x y z st k Stop h = tt
+same_there s t x y z st k (Ask w (Logic f)) h = tt
+same_there s t x y z st k (Ask w (Path f a i)) h = tt
+same_there s t x y z st k (Ask w (Draw f b)) h = tt
+same_there s t x y z st k (Spread w (Think f a)) h = tt
+same_there s t x y z st k (Spread w (Path f a i)) h = tt
+same_there s t x y z st k (Spread w (Draw f b)) h = tt
+
 -- ---- a board's shelf
 
 abbrev pub shelf_of : Played → Shelved
@@ -55,6 +78,9 @@ module _ (b : Played) (lawful : IsLegalList (setup_in b) b.events) (some : 0 < b
 
   pub needed : (e : Event) → IsLegal (setup_in b) (state_in b) e → IsThere (setup_in b) (state_in b) (shelf_of b).stored e
   needed e l = needed_is_there (setup_in b) b.events e some lawful l
+
+  pub there_of : (e : Event) → IsLegal (setup_in b) (state_in b) e → IsThere (sizes (shelf_of b)) (state_in b) (shelf_of b).stored e
+  there_of e l = same_there (setup_in b) (sizes (shelf_of b)) (sym as_many_slots) refl refl (state_in b) (shelf_of b).stored e (needed e l)
 
   pub parts_there : (j : JobName) (n : ℕ) → HasParts (setup_in b) (shelf_of b).stored j n → HasParts (sizes (shelf_of b)) (shelf_of b).stored j n
   parts_there j n h = same_parts (setup_in b) (sizes (shelf_of b)) (sym as_many_slots) refl refl (shelf_of b).stored j n h

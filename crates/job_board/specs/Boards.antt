@@ -108,13 +108,13 @@ IsShown old new shown = (shown.game ≡ old.game) × Happens old new (Emit shown
 abbrev pub IsStopped : (old new : Played) → Type 0
 IsStopped old new = (((state_in old).stopped ≡ true) × (new ≡ old)) ⊎ Happens old new StopEvent
 
--- ---- refusals: each exactly where it applies, the first of them
+-- ---- refusals: each exactly where it applies, the first of them; for memory is refused what was legal
 
 abbrev pub IsTakeRefused : Played → ℕ → BoardFault → Type 0
 IsTakeRefused b w Stopped = (state_in b).stopped ≡ true
 IsTakeRefused b w NoWorker = ((state_in b).stopped ≡ false) × (b.numbers.workers ≤ w)
 IsTakeRefused b w Busy = IsOn b w × (IsIdle (state_in b) w → ⊥)
-IsTakeRefused b w OutOfMemory = Unit {0}
+IsTakeRefused b w OutOfMemory = (j : JobName) × (IsLegal (setup_in b) (state_in b) (Start w j) ⊎ IsLegal (setup_in b) (state_in b) (Resume w j))
 IsTakeRefused b w _ = ⊥
 
 -- of a call for the job that a worker runs: `other` says of the job and its step that the value handed in is of another,
@@ -125,13 +125,13 @@ IsRefused b w other event NoWorker = ((state_in b).stopped ≡ false) × (b.numb
 IsRefused b w other event NotRunning = IsOn b w × IsIdle (state_in b) w
 IsRefused b w other event WrongResult = IsOn b w × ((j : JobName) × (k : ℕ) × ((state_in b).phase j ≡ Runs w k) × other j k)
 IsRefused b w other event Illegal = IsOn b w × ((j : JobName) × (k : ℕ) × ((state_in b).phase j ≡ Runs w k) × (IsLegal (setup_in b) (state_in b) (event j) → ⊥))
-IsRefused b w other event OutOfMemory = Unit {0}
+IsRefused b w other event OutOfMemory = (j : JobName) × IsLegal (setup_in b) (state_in b) (event j)
 IsRefused b w other event Busy = ⊥
 
 abbrev pub IsEmitRefused : Played → BoardFault → Type 0
 IsEmitRefused b Stopped = (state_in b).stopped ≡ true
 IsEmitRefused b Illegal = ((state_in b).stopped ≡ false) × ((f : ℕ) → IsLegal (setup_in b) (state_in b) (Emit f) → ⊥)
-IsEmitRefused b OutOfMemory = Unit {0}
+IsEmitRefused b OutOfMemory = (f : ℕ) × IsLegal (setup_in b) (state_in b) (Emit f)
 IsEmitRefused b _ = ⊥
 
 -- nothing is handed in that could be another's

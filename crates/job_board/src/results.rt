@@ -37,13 +37,10 @@ impl<'t> Board<'t> {
                 value: parked,
             });
         }
-        if held.step == u32::MAX {
-            return Err(Refused {
-                fault: BoardFault::OutOfMemory,
-                value: parked,
-            });
-        }
         let (frame, agent) = agent_of(&parked);
+        // A tick asks at most as often as its tree has nodes.
+        let nodes = self.session.tree_of(agent).size();
+        prove!(u64::from(held.step) < nodes);
         let Ok(()) = self.jobs.ask(worker, frame, agent, held.step) else {
             return Err(Refused {
                 fault: BoardFault::OutOfMemory,

@@ -1,7 +1,7 @@
 use Rattle.std.proofs.Common.{◌≡◌, ◌≤◌, ◌<◌, ◌+◌, true, false, refl, sym, ap, ◌∙◌, subst}
 use Rattle.job_core.specs.declared.names.JobName.TheVariants.{Logic}
 use Rattle.job_core.specs.declared.names.Event.TheVariants.{Hold}
-use Rattle.job_log.specs.declared.fault.BoardFault.TheVariants.{Illegal}
+use Rattle.job_log.specs.declared.fault.BoardFault.TheVariants.{Illegal, OutOfMemory}
 use Rattle.job_board.specs.Boards.{IsBeginning, IsRefused, NoOther}
 use Rattle.job_board.proofs.Boarding.{known, next, kept_after, happens, seen_as, hold_needs, hold_legal, hold_refused}
 use Rattle.job_board.proofs.board.Board.hold.Goals as goal
@@ -27,3 +27,8 @@ pub returns-clause-ok : goal.returns-clause-ok
 returns-clause-ok c =
     let at_start = rw (← c.self.view_is) at c.in-Ok.ensures.ok in
     rw (← c.self.view_is) (c.in-Ok.frame, happens c.self.inside.session.now c.self.inside.jobs c.self.inside.shelf c.self.invariant (Hold c.args.worker (Logic c.in-Ok.frame)) (hold_legal (seen_as c.self.inside.session.now c.self.inside.jobs) c.args.worker c.in-Ok.frame at_start (known c.self.inside.session.now c.self.inside.jobs c.self.inside.shelf c.self.invariant (λ s st. st.emitted + s.slots < c.in-Ok.frame) (c.has_slot.ensures.no c.if-has_slot.false))) c.hold.new.self c.in-Ok-hold.ensures.ok)
+
+pub returns-in_default-clause-refused : goal.returns-in_default-clause-refused
+returns-in_default-clause-refused c =
+    let at_start = rw (← c.self.view_is) at c.in-Ok.ensures.ok in
+    subst (λ b. IsRefused b c.args.worker NoOther (Hold c.args.worker) OutOfMemory) c.self.view_is (Logic c.in-Ok.frame, (hold_legal (seen_as c.self.inside.session.now c.self.inside.jobs) c.args.worker c.in-Ok.frame at_start (known c.self.inside.session.now c.self.inside.jobs c.self.inside.shelf c.self.invariant (λ s st. st.emitted + s.slots < c.in-Ok.frame) (c.has_slot.ensures.no c.if-has_slot.false))))

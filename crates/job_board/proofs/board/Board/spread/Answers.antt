@@ -1,9 +1,10 @@
-use Rattle.std.proofs.Common.{◌≡◌, ◌≤◌, ◌<◌, ◌+◌, true, false, refl, sym, ap, ◌∙◌, subst}
+use Rattle.std.proofs.Common.{◌≡◌, ◌≤◌, ◌<◌, ◌+◌, ◌%◌, Some, None, length, slice_get, true, false, refl, sym, ap, ◌∙◌, subst}
 use Rattle.job_core.specs.declared.names.JobName.TheVariants.{Logic}
 use Rattle.job_core.specs.declared.names.Event.TheVariants.{Spread}
-use Rattle.job_log.specs.declared.fault.BoardFault.TheVariants.{Illegal}
-use Rattle.job_board.specs.Boards.{IsBeginning, IsRefused, NoOther}
-use Rattle.job_board.proofs.Boarding.{known, next, kept_after, happens, seen_as, spread_needs, spread_legal, spread_refused}
+use Rattle.job_log.specs.declared.fault.BoardFault.TheVariants.{Illegal, OutOfMemory}
+use Rattle.std.specs.Option.{IsSomeAnd}
+use Rattle.job_board.specs.Boards.{IsRefused, NoOther, state_in}
+use Rattle.job_board.proofs.Boarding.{known, next, there_for, kept_after, happens, seen_as, spread_needs, spread_legal, spread_refused}
 use Rattle.job_board.proofs.board.Board.spread.Goals as goal
 
 pub returns-in-Err-clause-refused : goal.returns-in-Err-clause-refused
@@ -18,10 +19,26 @@ spread-requires c = let at_start = rw (← c.self.view_is) at c.in-Ok.ensures.ok
 pub invariant_of-self : goal.invariant_of-self
 invariant_of-self c = rw c.in_default.ensures.unchanged c.self.invariant
 
+pub spread-requires-2 : goal.spread-requires-2
+spread-requires-2 c =
+    let at_start = rw (← c.self.view_is) at c.in-Ok.ensures.ok in
+    let there = there_for c.self.inside.session.now c.self.inside.jobs c.self.inside.shelf c.self.invariant (Spread c.args.worker (Logic c.in-Ok.frame)) (spread_legal (seen_as c.self.inside.session.now c.self.inside.jobs) c.args.worker c.in-Ok.frame at_start (known c.self.inside.session.now c.self.inside.jobs c.self.inside.shelf c.self.invariant (λ s st. c.in-Ok.frame ≤ st.emitted + s.slots) (c.has_slot.ensures.yes c.if-not-has_slot.false))) in
+    let slots = c.self.inside.shelf.stored.slots in
+    subst (λ o. IsSomeAnd o (λ f. slice_get slots (f % length slots) ≡ Some None)) (sym there.0) there.1
+
 pub invariant_of-self-2 : goal.invariant_of-self-2
 invariant_of-self-2 c =
     let at_start = rw (← c.self.view_is) at c.in-Ok.ensures.ok in
-    kept_after c.self.inside.session.now c.self.inside.jobs c.self.inside.shelf c.self.invariant (Spread c.args.worker (Logic c.in-Ok.frame)) (spread_legal (seen_as c.self.inside.session.now c.self.inside.jobs) c.args.worker c.in-Ok.frame at_start (known c.self.inside.session.now c.self.inside.jobs c.self.inside.shelf c.self.invariant (λ s st. c.in-Ok.frame ≤ st.emitted + s.slots) (c.has_slot.ensures.yes c.if-not-has_slot.false))) c.spread.new.self c.in-Ok-spread.ensures.ok c.spread-2.new.self c.spread-2.ensures
+    let legal = (spread_legal (seen_as c.self.inside.session.now c.self.inside.jobs) c.args.worker c.in-Ok.frame at_start (known c.self.inside.session.now c.self.inside.jobs c.self.inside.shelf c.self.invariant (λ s st. c.in-Ok.frame ≤ st.emitted + s.slots) (c.has_slot.ensures.yes c.if-not-has_slot.false))) in
+    let there = there_for c.self.inside.session.now c.self.inside.jobs c.self.inside.shelf c.self.invariant (Spread c.args.worker (Logic c.in-Ok.frame)) legal in
+    let stores = c.spread-2.ensures (state_in (seen_as c.self.inside.session.now c.self.inside.jobs)) c.args.worker c.in-Ok.frame there.0 in
+    kept_after c.self.inside.session.now c.self.inside.jobs c.self.inside.shelf c.self.invariant (Spread c.args.worker (Logic c.in-Ok.frame)) legal c.spread.new.self c.in-Ok-spread.ensures.ok c.spread-2.new.self stores
+
+pub returns-in_default-clause-refused : goal.returns-in_default-clause-refused
+returns-in_default-clause-refused c =
+    let at_start = rw (← c.self.view_is) at c.in-Ok.ensures.ok in
+    let legal = (spread_legal (seen_as c.self.inside.session.now c.self.inside.jobs) c.args.worker c.in-Ok.frame at_start (known c.self.inside.session.now c.self.inside.jobs c.self.inside.shelf c.self.invariant (λ s st. c.in-Ok.frame ≤ st.emitted + s.slots) (c.has_slot.ensures.yes c.if-not-has_slot.false))) in
+    subst (λ b. IsRefused b c.args.worker NoOther (Spread c.args.worker) OutOfMemory) c.self.view_is (Logic c.in-Ok.frame, legal)
 
 pub returns-clause-ok : goal.returns-clause-ok
 returns-clause-ok c =
