@@ -52,9 +52,10 @@ same_there s t x y z st k (Finish w (Path f a i)) h = h
 same_there s t x y z st k (Finish w (Draw f b)) h =
     subst (λ m. IsSomeAnd (slice_get k.drawn (f % t.slots)) (λ d. (d.turn ≡ Some f) × (IsMissing b d.bands × (length d.bands < m)))) z
     (subst (λ m. IsSomeAnd (slice_get k.drawn (f % m)) (λ d. (d.turn ≡ Some f) × (IsMissing b d.bands × (length d.bands < s.bands)))) x h)
-same_there s t x y z st k (Emit f) h =
-    (subst (λ m. slice_get k.slots (f % m) ≡ Some (Some f)) x h.0,
-    subst (λ m. slice_get k.drawn (f % t.slots) ≡ Some (turned f (parts f m))) z (subst (λ m. slice_get k.drawn (f % m) ≡ Some (turned f (parts f s.bands))) x h.1))
+same_there s t x y z st k (Emit f) h = (
+  subst (λ m. slice_get k.slots (f % m) ≡ Some (Some f)) x h.0,
+  subst (λ m. slice_get k.drawn (f % t.slots) ≡ Some (turned f (parts f m))) z (subst (λ m. slice_get k.drawn (f % m) ≡ Some (turned f (parts f s.bands))) x h.1),
+)
 same_there s t x y z st k (Hold w j) h = tt
 same_there s t x y z st k Stop h = tt
 same_there s t x y z st k (Ask w (Logic f)) h = tt

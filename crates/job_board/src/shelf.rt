@@ -194,9 +194,7 @@ impl<'t> Shelf<'t> {
                 if step == 0 {
                     return Ok(Task::Logic(LogicTask::start(alloc, self.session, frame)?));
                 }
-                Ok(Task::Logic(
-                    self.thoughts.logic(alloc, self.params(frame))?,
-                ))
+                Ok(Task::Logic(self.thoughts.logic(alloc, self.params(frame))?))
             }
             JobName::Think { frame, agent } => {
                 let params = self.params(frame);
@@ -204,12 +202,7 @@ impl<'t> Shelf<'t> {
                     return Ok(Task::Think(ThinkTask::start(alloc, params, agent)?));
                 }
                 let asking = self.asking_of(agent);
-                Ok(Task::Think(ThinkTask::resume(
-                    alloc,
-                    params,
-                    asking.parked(),
-                    asking.way(),
-                )?))
+                Ok(Task::Think(ThinkTask::resume(alloc, params, asking.parked(), asking.way())?))
             }
             JobName::Path {
                 frame,
