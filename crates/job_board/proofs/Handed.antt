@@ -1,10 +1,10 @@
 -- What is handed in has its place on the shelf, and what is parked is stored by the step at which its Think runs.
-use Rattle.std.proofs.Common.{◌≡◌, ◌≤◌, ◌<◌, ◌%◌, ◌+◌, ◌^◌, ℕ, zero, suc, false, Option, Some, None, length, slice_get, slice_set, sym, ap₂, ◌∙◌, arith}
+use Rattle.std.proofs.Common.{◌≡◌, ◌≤◌, ◌<◌, ◌%◌, ℕ, false, Option, Some, None, length, slice_get, slice_set, sym, ap₂, ◌∙◌, arith}
 use Rattle.std.specs.Option.{IsSomeAnd}
-use Rattle.job_core.specs.declared.names.JobName.TheVariants.{Logic, Think, Path, Draw}
+use Rattle.job_core.specs.declared.names.JobName.TheVariants.{Think}
 use Rattle.job_core.specs.declared.names.Event.TheVariants.{Ask, Finish}
 use Rattle.job_core.specs.Core.{Setup, State, IsJob, step_of}
-use Rattle.board_law.specs.Stored.{Stored, asked}
+use Rattle.board_law.specs.Stored.{asked}
 use Rattle.board_law.specs.Needed.{IsMissing, IsThere}
 use Rattle.frame_params.specs.Contents.{bands_in}
 use Rattle.job_board.specs.Shelf.{Shelved, Stores, IsWanted, IsBeforeLast, sizes}

@@ -2,13 +2,13 @@
 use Rattle.std.specs.Prelude.{◌≡◌, ◌≤◌, ◌<◌, ℕ, true, false, not, List, [], ◌∷◌, ◌++◌, ◌⊎◌, Option, Some, None, length}
 use Rattle.game_rules.specs.Game.{Game}
 use Rattle.job_core.specs.declared.names.JobName.{JobName}
-use Rattle.job_core.specs.declared.names.JobName.TheVariants.{Logic, Think}
+use Rattle.job_core.specs.declared.names.JobName.TheVariants.{Logic}
 use Rattle.job_core.specs.declared.names.Event.{Event}
-use Rattle.job_core.specs.declared.names.Event.TheVariants.{Start, Resume, Ask, Spread, Hold, Finish, Emit, Stop as StopEvent}
+use Rattle.job_core.specs.declared.names.Event.TheVariants.{Start, Resume, Emit, Stop as StopEvent}
 use Rattle.job_core.specs.Core.{Setup, State, Runs, Waits, IsIdle, IsLegal, IsLegalList, state}
 use Rattle.game_jobs.specs.Instance.{asked_in}
 use Rattle.board_law.specs.Lists.{tally, first_place}
-use Rattle.board_law.specs.Board.{Core, Held, core_of, holds}
+use Rattle.board_law.specs.Board.{Held, core_of, holds}
 use Rattle.board_law.specs.Pick.{Pick, Ready, New, pick}
 use Rattle.frame_params.specs.Names.{FrameOf}
 use Rattle.frame_params.specs.Contents.{bands_in}
@@ -16,7 +16,7 @@ use Rattle.frame_params.specs.Tasks.{job_of, IsTaskAt}
 use Rattle.frame_params.specs.declared.task.Task.{Task}
 use Rattle.board_law.specs.Stored.{stored_after}
 use Rattle.job_machine.specs.Numbers.{Numbers, IsWithinLimits}
-use Rattle.job_log.specs.Logged.{Logged, setup_of, with_event as jobs_with_event}
+use Rattle.job_log.specs.Logged.{Logged, setup_of}
 use Rattle.job_log.specs.declared.fault.BoardFault.{BoardFault}
 use Rattle.job_board.specs.Shelf.{Shelved}
 use Rattle.job_log.specs.declared.fault.BoardFault.TheVariants.{Stopped, NoWorker, Busy, NotRunning, WrongResult, Illegal, OutOfMemory}

@@ -1,4 +1,4 @@
-use Rattle.std.proofs.Common.{◌≡◌, ℕ, Ok, Err, refl, sym, ap, ◌∙◌, subst, arith}
+use Rattle.std.proofs.Common.{◌≡◌, Ok, Err, sym, ap, ◌∙◌, subst, arith}
 use Rattle.bt_nodes.specs.Sizes.{size}
 use Rattle.game_rules.specs.Game.{Game}
 use Rattle.game_jobs.specs.Instance.{tree_of}

@@ -1,4 +1,4 @@
-use Rattle.std.proofs.Common.{◌≡◌, Ok, Err, refl, sym, ap, ◌∙◌, subst}
+use Rattle.std.proofs.Common.{Ok, Err, sym, ap, subst}
 use Rattle.job_core.specs.declared.names.Event.TheVariants.{Emit}
 use Rattle.job_log.specs.Looks.{IsToShow}
 use Rattle.job_log.specs.declared.fault.BoardFault.TheVariants.{OutOfMemory}

@@ -1,4 +1,4 @@
-use Rattle.std.proofs.Common.{◌≡◌, ℕ, Ok, Err, refl, sym, ap, ◌∙◌, subst, arith}
+use Rattle.std.proofs.Common.{◌≡◌, Ok, Err, sym, ap, ◌∙◌, subst}
 use Rattle.job_core.specs.declared.names.Event.TheVariants.{Finish}
 use Rattle.job_core.specs.Core.{IsJob, Runs}
 use Rattle.board_law.specs.Needed.{IsThere}
@@ -8,7 +8,7 @@ use Rattle.board_law.specs.Board.{Held}
 use Rattle.job_log.specs.Looks.{IsRunning}
 use Rattle.job_log.specs.declared.fault.BoardFault.TheVariants.{WrongResult, Illegal, OutOfMemory}
 use Rattle.job_board.specs.Boards.{IsRefused, Happens, setup_in, state_in}
-use Rattle.job_board.specs.Dones.{IsOtherDone, game_done, job_done}
+use Rattle.job_board.specs.Dones.{IsOtherDone, job_done}
 use Rattle.job_board.proofs.Boarding.{a_job, there_for, known, not_running, other_result, finish_legal, finish_refused, next, kept_after, happens, seen_as}
 use Rattle.job_board.proofs.board.Board.finish.Goals as goal
 

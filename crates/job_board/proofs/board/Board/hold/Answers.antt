@@ -1,8 +1,8 @@
-use Rattle.std.proofs.Common.{◌≡◌, ◌≤◌, ◌<◌, ◌+◌, true, false, refl, sym, ap, ◌∙◌, subst}
+use Rattle.std.proofs.Common.{◌≤◌, ◌<◌, ◌+◌, refl, subst}
 use Rattle.job_core.specs.declared.names.JobName.TheVariants.{Logic}
 use Rattle.job_core.specs.declared.names.Event.TheVariants.{Hold}
 use Rattle.job_log.specs.declared.fault.BoardFault.TheVariants.{Illegal, OutOfMemory}
-use Rattle.job_board.specs.Boards.{IsBeginning, IsRefused, NoOther}
+use Rattle.job_board.specs.Boards.{IsRefused, NoOther}
 use Rattle.job_board.proofs.Boarding.{known, next, kept_after, happens, seen_as, hold_needs, hold_legal, hold_refused}
 use Rattle.job_board.proofs.board.Board.hold.Goals as goal
 

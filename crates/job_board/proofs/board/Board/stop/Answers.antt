@@ -1,6 +1,6 @@
-use Rattle.std.proofs.Common.{◌≡◌, true, false, refl, sym, ap, ◌∙◌, subst, inl, inr}
+use Rattle.std.proofs.Common.{◌≡◌, refl, sym, ◌∙◌, subst, inl, inr}
 use Rattle.job_core.specs.declared.names.Event.TheVariants.{Stop}
-use Rattle.job_board.specs.Boards.{IsStopped, Happens, state_in}
+use Rattle.job_board.specs.Boards.{IsStopped}
 use Rattle.job_board.proofs.Boarding.{known, next, kept_after, happens, seen_as}
 use Rattle.job_board.proofs.board.Board.stop.Goals as goal
 

@@ -3,7 +3,7 @@ use Rattle.board_law.specs.Lists.{tally, first_place}
 use Rattle.board_law.specs.Board.{holds}
 use Rattle.board_law.specs.Pick.{Ready, New, pick}
 use Rattle.job_core.specs.Core.{IsLegalList}
-use Rattle.job_log.specs.Logged.{Logged, setup_of, kept}
+use Rattle.job_log.specs.Logged.{setup_of, kept}
 use Rattle.job_log.specs.Looks.{Always, IsGivenTo, IsPlace, as_pick}
 use Rattle.job_log.specs.declared.next.Next.TheVariants as next
 use Rattle.job_board.specs.Boards.{IsTaken, IsTakeRefused, IsStart, IsResume}
