@@ -8,6 +8,8 @@ mod drawn;
 mod results;
 mod shelf;
 mod shown;
+#[cfg(test)]
+mod tests;
 mod thoughts;
 
 pub use board::Board;
