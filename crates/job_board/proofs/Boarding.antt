@@ -1,21 +1,22 @@
 -- A board that keeps itself, before an event and after it.
-use Rattle.std.proofs.Common.{◌≡◌, ◌≤◌, ◌<◌, ◌+◌, ◌-◌, ◌↔◌, ℕ, zero, suc, Err, Some, length, refl, sym, ap, ◌∙◌, subst, arith}
+use Rattle.std.proofs.Common.{◌≡◌, ◌≤◌, ◌<◌, ◌+◌, ◌-◌, ◌↔◌, ℕ, zero, suc, true, false, Err, Some, length, refl, sym, ap, ◌∙◌, subst, inl, inr, arith}
 use Rattle.game_rules.specs.Game.{Game}
 use Rattle.job_core.specs.declared.names.Event.{Event}
-use Rattle.job_core.specs.Core.{Setup, State, IsJob, IsAtEnd, opening, Runs, Waits, IsLegal, IsLegalList}
-use Rattle.job_core.proofs.Keeping.{legal_more}
+use Rattle.job_core.specs.Core.{Setup, State, IsJob, IsAtEnd, same, opening, Runs, Waits, IsLegal, IsLegalList, step_of}
+use Rattle.job_core.proofs.Keeping.{legal_more, apart}
+use Rattle.job_core.proofs.ByCases.{by_same}
 use Rattle.job_core.proofs.Shape.{opens, there}
 use Rattle.job_core.proofs.Moves.{shape_of}
 use Rattle.bt_nodes.specs.Sizes.{size}
 use Rattle.game_rules.proofs.Ways.{few}
 use Rattle.game_jobs.specs.Instance.{asked_in, tree_of}
-use Rattle.job_log.specs.Logged.{Logged, setup_of, IsNext, IsNextOn, with_event as jobs_with_event}
+use Rattle.job_log.specs.Logged.{Logged, setup_of, IsNext, IsNextOn, IsNextAt, with_event as jobs_with_event}
 use Rattle.job_log.specs.Looks.{Always, IsIdleOr, IsNotRunning, IsToShow}
 use Rattle.job_log.specs.declared.fault.BoardFault.{BoardFault}
 use Rattle.job_log.specs.declared.fault.BoardFault.TheVariants.{Stopped, NoWorker, Busy, NotRunning, WrongResult, Illegal, OutOfMemory}
 use Rattle.job_core.specs.declared.names.JobName.{JobName}
 use Rattle.job_core.specs.declared.names.JobName.TheVariants.{Logic, Think, Path, Draw}
-use Rattle.job_core.specs.declared.names.Event.TheVariants.{Start, Resume, Ask, Spread, Hold, Finish}
+use Rattle.job_core.specs.declared.names.Event.TheVariants.{Start, Resume, Ask, Spread, Hold, Finish, Emit}
 use Rattle.board_law.specs.Lists.{first_place}
 use Rattle.board_law.specs.Board.{Held, core_of, holds}
 use Rattle.board_law.specs.Pick.{New}
@@ -28,10 +29,11 @@ use Rattle.job_board.specs.Dones.{game_done, job_done, IsDoneAt}
 use Rattle.job_board.specs.declared.done.Done.{Done}
 use Rattle.job_board.specs.declared.done.Done.TheVariants.{Turned, Thought, Way, Drawn}
 use Rattle.board_law.specs.Stored.{store}
-use Rattle.board_law.specs.Needed.{IsThere}
+use Rattle.board_law.specs.Needed.{HasParts, IsThere}
 use Rattle.job_machine.specs.Numbers.{IsWithinLimits}
 use Rattle.job_board.specs.Shelf.{Shelved, Stores, sizes}
 use Rattle.job_board.proofs.Sized.{shelf_of, there_of, stored_next}
+use Rattle.job_board.specs.Works.{MayBeTakenUp}
 use Rattle.job_board.proofs.Tasked.{job_is}
 
 -- as a board sees itself
@@ -49,6 +51,11 @@ module _ (g : Game) (jobs : Logged) (shelf : Shelved) (k : IsBoard (seen_as g jo
   -- what an event needs is on the shelf
   pub there_for : (e : Event) → IsLegal (setup_in (seen_as g jobs)) (state_in (seen_as g jobs)) e → IsThere (sizes shelf) (state_in (seen_as g jobs)) shelf.stored e
   there_for e l = subst (λ v. IsThere (sizes v) (state_in (seen_as g jobs)) v.stored e) (sym k.shelf_is) (there_of (seen_as g jobs) k.lawful k.within.a_slot e l)
+
+  -- so is what the task of a job needs that may be taken up
+  pub task_there : (j : JobName) (n : ℕ) → MayBeTakenUp (seen_as g jobs) j n → HasParts (sizes shelf) shelf.stored j n
+  task_there j n (w, inl h) = subst (HasParts (sizes shelf) shelf.stored j) (sym h.1) (there_for (Start w j) h.0)
+  task_there j n (w, inr h) = subst (HasParts (sizes shelf) shelf.stored j) (ap step_of h.1) (there_for (Resume w j) h.0)
 
   module _ (e : Event) (l : IsLegal (setup_in (seen_as g jobs)) (state_in (seen_as g jobs)) e) (later : Logged) (j : later ≡ jobs_with_event jobs e) where
     pub kept_after : (new : Shelved) → Stores shelf new (state_in (seen_as g jobs)) e → IsBoard (seen_as g later) later new
@@ -89,6 +96,28 @@ resumes old new w fiber held task s t l =
       picked = s.picked;
       holder = subst (λ x. first_place (holds x) (core_of (setup_in old) old.events).seats.jobs ≡ fiber) same_job s.holder;
     }
+
+-- ---- the job that a worker runs
+
+pub not_run : (b : Played) → IsLegalList (setup_in b) b.events → (w : ℕ) (fault : BoardFault) → IsNotRunning (setup_in b) (state_in b) w fault
+    → (state_in b).stopped ≡ false → (j : JobName) (k : ℕ) → (state_in b).phase j ≡ Runs w k → ⊥
+not_run b l w Stopped h on j k runs = let z = sym h ∙ on in cc
+not_run b l w NoWorker h on j k runs = let below = (apart (setup_in b) b.events l).below j w k runs in omega (arith, below, h.1)
+not_run b l w NotRunning h on j k runs = h.1 j k runs
+not_run b l w Busy h on j k runs = h
+not_run b l w WrongResult h on j k runs = h
+not_run b l w Illegal h on j k runs = h
+not_run b l w OutOfMemory h on j k runs = h
+
+-- it runs no other
+pub runs_one : (b : Played) → IsLegalList (setup_in b) b.events → (w k n : ℕ) (i j : JobName) → (state_in b).phase i ≡ Runs w k → (state_in b).phase j ≡ Runs w n → i ≡ j
+runs_one b l w k n i j e d = (apart (setup_in b) b.events l).one i j w k n e d
+
+pub same_is : (i j : JobName) → same i j ≡ true → i ≡ j
+same_is i j e = by_same i j (λ b. b ≡ true → i ≡ j) (λ y _. y) (λ n f. absurd cc) e
+
+pub same_not : (i j : JobName) → same i j ≡ false → i ≡ j → ⊥
+same_not i j e d = by_same i j (λ b. b ≡ false → ⊥) (λ y f. cc) (λ n _. n d) e
 
 -- ---- the Logic of a frame at its start
 
@@ -148,8 +177,16 @@ module _ (g : Game) (jobs : Logged) (shelf : Shelved) (k : IsBoard (seen_as g jo
   pub known_of : (fact : Logged → (ℕ → ℕ → ℕ) → Type 0) → ((q : ℕ → ℕ → ℕ) → IsLegalList (setup_of jobs q) jobs.events → fact jobs q) → fact (jobs_of (seen_as g jobs)) (asked_in g)
   known_of fact a = subst (λ v. (q : ℕ → ℕ → ℕ) → IsLegalList (setup_of v q) v.events → fact v q) k.jobs_are a (asked_in g) k.lawful
 
+  pub next_at : (w fiber : ℕ) (j : JobName) → IsLegal (setup_in (seen_as g jobs)) (state_in (seen_as g jobs)) (Resume w j)
+      → first_place (holds j) (core_of (setup_in (seen_as g jobs)) jobs.events).seats.jobs ≡ fiber → IsNextOn jobs w j fiber
+  next_at w fiber j legal place = subst (λ v. IsNextOn v w j fiber) (sym k.jobs_are) (record { next = record { questions = asked_in g; lawful = k.lawful; legal = legal }; place = place })
+
   pub next_on : (w fiber : ℕ) (held : Held) → IsResume (seen_as g jobs) w fiber held → IsNextOn jobs w held.job fiber
   next_on w fiber held r = subst (λ v. IsNextOn v w held.job fiber) (sym k.jobs_are) (record { next = record { questions = asked_in g; lawful = k.lawful; legal = r.legal }; place = r.holder })
+
+  pub next_asked : (w f a i : ℕ) → IsLegal (setup_in (seen_as g jobs)) (state_in (seen_as g jobs)) (Ask w (Think f a))
+      → (state_in (seen_as g jobs)).phase (Think f a) ≡ Runs w i → IsNextAt jobs w f a i
+  next_asked w f a i legal runs = subst (λ v. IsNextAt v w f a i) (sym k.jobs_are) (record { next = record { questions = asked_in g; lawful = k.lawful; legal = legal }; stands = runs })
 
 -- ---- what is shown
 
@@ -161,6 +198,15 @@ emit_refused b Busy h = absurd h
 emit_refused b NotRunning h = absurd h
 emit_refused b WrongResult h = absurd h
 emit_refused b OutOfMemory h = absurd h
+
+pub nothing_shown : (b : Played) (fault : BoardFault) → IsToShow (Err fault) (setup_in b) (state_in b) → (f : ℕ) → IsLegal (setup_in b) (state_in b) (Emit f) → ⊥
+nothing_shown b Stopped h f m = let z = sym h ∙ m.0 in cc
+nothing_shown b Illegal h f m = h.1 f m
+nothing_shown b NoWorker h f m = h
+nothing_shown b Busy h f m = h
+nothing_shown b NotRunning h f m = h
+nothing_shown b WrongResult h f m = h
+nothing_shown b OutOfMemory h f m = h
 
 -- ---- results
 
@@ -174,15 +220,19 @@ pub few_questions : (g : Game) (f a : ℕ) → questions_in g f a ≤ size (tree
 unfolding questions_in
 few_questions g f a = few (seen g f a) (tree_of g a) (memory_before g f a)
 
+-- a job that runs is one of the run's
+pub job_running : (b : Played) → IsLegalList (setup_in b) b.events → (j : JobName) (w k : ℕ) → (state_in b).phase j ≡ Runs w k → IsJob (setup_in b) j
+job_running b l j w k runs = there (setup_in b) (state_in b) (shape_of (setup_in b) b.events (opening (setup_in b)) (opens (setup_in b)) l) j (λ e. let x = sym runs ∙ e in cc)
+
+pub an_agent : (b : Played) → IsLegalList (setup_in b) b.events → (f a w k : ℕ) → (state_in b).phase (Think f a) ≡ Runs w k → a < length b.game.trees
+an_agent b l f a w k runs = (job_running b l (Think f a) w k runs).1
+
 module _ (b : Played) (lawful : IsLegalList (setup_in b) b.events) (w : ℕ) (on : IsOn b w) (j : JobName) (k : ℕ) (runs : (state_in b).phase j ≡ Runs w k) where
   pub other_result : (other : JobName → ℕ → Type 0) (event : JobName → Event) → other j k → IsRefused b w other event WrongResult
   other_result other event o = (on, (j, k, runs, o))
 
-  pub a_job : IsJob (setup_in b) j
-  a_job = there (setup_in b) (state_in b) (shape_of (setup_in b) b.events (opening (setup_in b)) (opens (setup_in b)) lawful) j (λ e. let x = sym runs ∙ e in cc)
-
-  pub an_agent : (f a : ℕ) → Think f a ≡ j → a < length b.game.trees
-  an_agent f a e = (subst (IsJob (setup_in b)) (sym e) a_job).1
+  a_job : IsJob (setup_in b) j
+  a_job = job_running b lawful j w k runs
 
   pub ask_legal : (p : QuestionOf) → Think p.frame p.agent ≡ j → p.question ≡ k → p.game ≡ b.game → k < questions_in p.game p.frame p.agent → IsLegal (setup_in b) (state_in b) (Ask w (Think p.frame p.agent))
   ask_legal p e q g l =

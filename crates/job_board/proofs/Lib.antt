@@ -4,3 +4,7 @@ pub mod Boarding
 pub mod Tasked
 pub mod Sized
 pub mod Handed
+pub mod Working
+pub mod Staying
+pub mod Applying
+pub mod Coming

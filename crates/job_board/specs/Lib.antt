@@ -5,3 +5,5 @@ pub mod Boards
 pub mod BoardCode
 pub mod Dones
 pub mod Parked
+pub mod Works
+pub mod Playing

@@ -1,18 +1,19 @@
-ghost use Rattle.std.specs.Prelude.{◌≡◌, ℕ, IfOk, IfErr, OnOk, OnErr, true, false, []};
-ghost use Rattle.job_core.specs.declared.names.JobName.TheVariants.{Logic};
-ghost use Rattle.job_core.specs.declared.names.Event.TheVariants.{Spread, Hold};
-ghost use Rattle.frame_params.specs.Contents.{bands_in};
+ghost use Rattle.std.specs.Prelude.{◌≡◌, ℕ, IfOk, IfErr, OnOk, OnErr, true, false, [], replicate, slice_set};
+ghost use Rattle.job_core.specs.declared.names.JobName.TheVariants.{Logic, Think};
+ghost use Rattle.job_core.specs.declared.names.Event.TheVariants.{Ask, Spread, Hold, Finish};
 ghost use Rattle.job_core.specs.Core.{IsLegalList, IsComplete};
-ghost use Rattle.job_core.specs.declared.names.Event.{Event};
-ghost use Rattle.job_core.specs.declared.names.JobName.{JobName};
-ghost use Rattle.job_board.specs.Boards.{setup_in, state_in, IsStart, IsResume, IsBeginning, NeedsBeginning, IsDoneByLogic, IsTaken, IsTakeRefused, IsRefused, NoOther};
+ghost use Rattle.job_board.specs.Boards.{setup_in, state_in, Happens, IsDoneByLogic, IsTaken, IsTakeRefused, IsRefused, IsEmitRefused, IsShown, IsStopped, NoOther};
+ghost use Rattle.job_board.specs.Dones.{job_done, IsOtherDone};
+ghost use Rattle.job_board.specs.Parked.{IsOtherParked};
 
-use super::shelf::Shelf;
-use draw_list::BAND_ROWS;
-use frame_params::Task;
-use job_core::names::{Event, JobName};
-use job_log::{BoardFault, JobLog, Next};
-use job_machine::{Fiber, Held, OutOfMemory, Settings};
+use super::done::{Done, Refused};
+use super::run::Run;
+use super::shown::Shown;
+use super::works::Works;
+use frame_params::{Parked, Task};
+use job_core::names::Event;
+use job_log::BoardFault;
+use job_machine::{OutOfMemory, Settings};
 use level_text::Session;
 use std::alloc::Global;
 use std::marker::Model;
@@ -22,30 +23,23 @@ use std::marker::Model;
 /// on; a call that is refused changes nothing.
 #[derive(Drop)]
 pub struct Board<'t> {
-    pub(crate) session: &'t Session,
-    pub(crate) alloc: Global,
-    pub(crate) jobs: JobLog,
-    pub(crate) shelf: Shelf<'t>,
+    pub(crate) run: Run<'t>,
+    // For each worker the work of the job that it runs, where `apply` has done it.
+    pub(crate) works: Works<'t>,
 }
 
 impl<'t> Model for Board<'t> {
-    ghost use Rattle.job_board.specs.Boards.{Played, IsBoard};
-    ghost use Rattle.job_board.specs.BoardCode.{played_code};
+    ghost use Rattle.std.specs.Prelude.{map, is_some};
+    ghost use Rattle.job_board.specs.Playing.{Playing, playing_code};
+    ghost use Rattle.job_board.specs.Works.{IsPlaying};
 
-    ghost Value = { Played };
+    ghost Value = { Playing };
 
-    ghost coded = { played_code };
+    ghost coded = { playing_code };
 
-    ghost view = { λ b. record { game = b.session.now; numbers = b.jobs.numbers; events = b.jobs.events } };
+    ghost view = { λ b. record { run = b.run; worked = map is_some b.works } };
 
-    ghost invariant = { λ b. IsBoard (record { game = b.session.now; numbers = b.jobs.numbers; events = b.jobs.events }) b.jobs b.shelf };
-}
-
-// How many bands each frame has.
-pub(crate) fn bands_of(session: &Session) -> u32
-    ensures { result ≡ bands_in session.now }
-{
-    session.world().height().div_ceil(BAND_ROWS)
+    ghost invariant = { λ b. IsPlaying b.run b.works };
 }
 
 impl<'t> Board<'t> {
@@ -55,167 +49,138 @@ impl<'t> Board<'t> {
         session: &'t Session,
         settings: Settings,
     ) -> Result<Board<'t>, OutOfMemory>
-        ensures { IfOk result (λ board. board ≡ record { game = session.now; numbers = settings; events = [] }) }
+        ensures run { IfOk result (λ board. board.run ≡ record { game = session.now; numbers = settings; events = [] }) }
+        ensures worked { IfOk result (λ board. board.worked ≡ replicate settings.workers false) }
     {
-        let world = session.world();
-        let agents = world.agents().len() as u32;
-        let bands = bands_of(session);
-        let Ok(shelf) = Shelf::new(alloc, session, settings.slots(), agents, bands) else {
+        let run = Run::new(alloc, session, settings)?;
+        let Ok(works) = Works::new(alloc, settings.workers()) else {
             return Err(OutOfMemory);
         };
-        let jobs = JobLog::new(alloc, settings, agents, bands)?;
-        settings.is_within_limits();
-        Ok(Board {
-            session,
-            alloc,
-            jobs,
-            shelf,
-        })
+        Ok(Board { run, works })
     }
 
     pub fn session(&self) -> &'t Session
-        ensures { result.now ≡ self.now.game }
+        ensures { result.now ≡ self.now.run.game }
     {
-        self.session
+        self.run.session()
     }
 
     pub fn settings(&self) -> Settings
-        ensures { result ≡ self.now.numbers }
+        ensures { result ≡ self.now.run.numbers }
     {
-        self.jobs.settings()
+        self.run.settings()
     }
 
     /// What has happened, in order: a legal list.
     pub fn events(&self) -> &[Event]
-        ensures events { result.now ≡ self.now.events }
-        ensures lawful { IsLegalList (setup_in self.now) self.now.events }
+        ensures events { result.now ≡ self.now.run.events }
+        ensures lawful { IsLegalList (setup_in self.now.run) self.now.run.events }
     {
-        self.jobs.events()
+        self.run.events()
     }
 
     pub fn is_stopped(&self) -> bool
-        ensures { result ≡ (state_in self.now).stopped }
+        ensures { result ≡ (state_in self.now.run).stopped }
     {
-        self.jobs.is_stopped()
+        self.run.is_stopped()
     }
 
     /// Whether the events are a complete list.
     pub fn is_done(&self) -> bool
-        ensures yes { result ≡ true → IsComplete (setup_in self.now) self.now.events }
-        ensures no { result ≡ false → IsComplete (setup_in self.now) self.now.events → ⊥ }
+        ensures yes { result ≡ true → IsComplete (setup_in self.now.run) self.now.run.events }
+        ensures no { result ≡ false → IsComplete (setup_in self.now.run) self.now.run.events → ⊥ }
     {
-        self.jobs.is_done()
-    }
-
-    fn start(&mut self, worker: u32, job: JobName) -> Result<Option<Task<'t>>, BoardFault>
-        requires { IsStart self.old worker job }
-        ensures ok { IfOk result (IsTaken self.old self.new worker) }
-        ensures refused { IfErr result (IsTakeRefused self.old worker) }
-        ensures unchanged { OnErr result (self.new ≡ self.old) }
-    {
-        let Ok(task) = self.shelf.task(self.alloc, job, 0) else {
-            return Err(BoardFault::OutOfMemory);
-        };
-        let Ok(()) = self.jobs.start(worker, job) else {
-            return Err(BoardFault::OutOfMemory);
-        };
-        Ok(Some(task))
-    }
-
-    fn resume(
-        &mut self,
-        worker: u32,
-        fiber: Fiber,
-        held: Held,
-    ) -> Result<Option<Task<'t>>, BoardFault>
-        requires { IsResume self.old worker fiber held }
-        ensures ok { IfOk result (IsTaken self.old self.new worker) }
-        ensures refused { IfErr result (IsTakeRefused self.old worker) }
-        ensures unchanged { OnErr result (self.new ≡ self.old) }
-    {
-        let Ok(task) = self.shelf.task(self.alloc, held.job, held.step) else {
-            return Err(BoardFault::OutOfMemory);
-        };
-        let Ok(()) = self.jobs.resume(worker, fiber, held.job) else {
-            return Err(BoardFault::OutOfMemory);
-        };
-        Ok(Some(task))
+        self.run.is_done()
     }
 
     /// A task for an idle worker: of the highest priority that has one, the job whose fiber is ready first, or else the
     /// first new job that may start. None only where the worker can neither start nor resume a job.
     pub fn take(&mut self, worker: u32) -> Result<Option<Task<'t>>, BoardFault>
-        ensures ok { IfOk result (IsTaken self.old self.new worker) }
-        ensures refused { IfErr result (IsTakeRefused self.old worker) }
+        ensures ok { IfOk result (IsTaken self.old.run self.new.run worker) }
+        ensures worked { OnOk result (self.new.worked ≡ self.old.worked) }
+        ensures refused { IfErr result (IsTakeRefused self.old.run worker) }
         ensures unchanged { OnErr result (self.new ≡ self.old) }
     {
-        let given = match self.jobs.given(worker) {
-            Ok(given) => given,
-            Err(fault) => return Err(fault),
-        };
-        let Some(next) = given else {
-            return Ok(None);
-        };
-        match next {
-            Next::Start(job) => self.start(worker, job),
-            Next::Resume(fiber, held) => self.resume(worker, fiber, held),
-        }
-    }
-
-    // The frame whose Logic a worker runs at its start.
-    fn beginning(&self, worker: u32) -> Result<u32, BoardFault>
-        ensures ok { IfOk result (λ frame. IsBeginning self.now worker frame) }
-        ensures refused { (event : JobName → Event) → NeedsBeginning self.now worker event → IfErr result (IsRefused self.now worker NoOther event) }
-    {
-        let held = match self.jobs.running(worker) {
-            Ok(held) => held,
-            Err(fault) => return Err(fault),
-        };
-        let JobName::Logic { frame } = held.job else {
-            return Err(BoardFault::Illegal);
-        };
-        if held.step != 0 {
-            return Err(BoardFault::Illegal);
-        }
-        Ok(frame)
+        self.run.take(worker)
     }
 
     /// The worker's Logic, at its start, queues the thinks of its frame and waits for them.
     pub fn spread(&mut self, worker: u32) -> Result<(), BoardFault>
-        ensures ok { OnOk result (IsDoneByLogic self.old self.new (λ f. Spread worker (Logic f))) }
-        ensures refused { IfErr result (IsRefused self.old worker NoOther (Spread worker)) }
+        ensures ok { OnOk result (IsDoneByLogic self.old.run self.new.run (λ f. Spread worker (Logic f))) }
+        ensures worked { OnOk result (self.new.worked ≡ slice_set self.old.worked worker false) }
+        ensures refused { IfErr result (IsRefused self.old.run worker NoOther (Spread worker)) }
         ensures unchanged { OnErr result (self.new ≡ self.old) }
     {
-        let frame = match self.beginning(worker) {
-            Ok(frame) => frame,
+        match self.run.spread(worker) {
+            Ok(()) => {}
             Err(fault) => return Err(fault),
-        };
-        if !self.jobs.has_slot(frame) {
-            return Err(BoardFault::Illegal);
         }
-        let Ok(()) = self.jobs.spread(worker, frame) else {
-            return Err(BoardFault::OutOfMemory);
-        };
-        self.shelf.spread();
+        self.works.clear(worker);
         Ok(())
     }
 
     /// The worker's Logic, at its start, waits until the frame is shown whose slot it needs.
     pub fn hold(&mut self, worker: u32) -> Result<(), BoardFault>
-        ensures ok { OnOk result (IsDoneByLogic self.old self.new (λ f. Hold worker (Logic f))) }
-        ensures refused { IfErr result (IsRefused self.old worker NoOther (Hold worker)) }
+        ensures ok { OnOk result (IsDoneByLogic self.old.run self.new.run (λ f. Hold worker (Logic f))) }
+        ensures worked { OnOk result (self.new.worked ≡ slice_set self.old.worked worker false) }
+        ensures refused { IfErr result (IsRefused self.old.run worker NoOther (Hold worker)) }
         ensures unchanged { OnErr result (self.new ≡ self.old) }
     {
-        let frame = match self.beginning(worker) {
-            Ok(frame) => frame,
+        match self.run.hold(worker) {
+            Ok(()) => {}
             Err(fault) => return Err(fault),
-        };
-        if self.jobs.has_slot(frame) {
-            return Err(BoardFault::Illegal);
         }
-        let Ok(()) = self.jobs.hold(worker, frame) else {
-            return Err(BoardFault::OutOfMemory);
-        };
+        self.works.clear(worker);
         Ok(())
+    }
+
+    /// The worker's Think asks the question at which its tick stands.
+    pub fn ask(&mut self, worker: u32, parked: Parked<'t>) -> Result<(), Refused<Parked<'t>>>
+        ensures ok { OnOk result (Happens self.old.run self.new.run (Ask worker (Think parked.entry.frame parked.entry.agent))) }
+        ensures worked { OnOk result (self.new.worked ≡ slice_set self.old.worked worker false) }
+        ensures refused { IfErr result (λ r. IsRefused self.old.run worker (IsOtherParked parked.entry self.old.run.game) (Ask worker) r.fault) }
+        ensures back { IfErr result (λ r. r.value ≡ parked.entry) }
+        ensures unchanged { OnErr result (self.new ≡ self.old) }
+    {
+        match self.run.ask(worker, parked) {
+            Ok(()) => {}
+            Err(refused) => return Err(refused),
+        }
+        self.works.clear(worker);
+        Ok(())
+    }
+
+    /// The worker's job is over, with what its work came to.
+    pub fn finish(&mut self, worker: u32, done: Done<'t>) -> Result<(), Refused<Done<'t>>>
+        ensures ok { OnOk result (Happens self.old.run self.new.run (Finish worker (job_done done.entry))) }
+        ensures worked { OnOk result (self.new.worked ≡ slice_set self.old.worked worker false) }
+        ensures refused { IfErr result (λ r. IsRefused self.old.run worker (IsOtherDone done.entry self.old.run.game) (Finish worker) r.fault) }
+        ensures back { IfErr result (λ r. r.value ≡ done.entry) }
+        ensures unchanged { OnErr result (self.new ≡ self.old) }
+    {
+        match self.run.finish(worker, done) {
+            Ok(()) => {}
+            Err(refused) => return Err(refused),
+        }
+        self.works.clear(worker);
+        Ok(())
+    }
+
+    /// Shows the next frame, once its logic and all its draws are over.
+    pub fn emit(&mut self) -> Result<Shown<'t>, BoardFault>
+        ensures ok { IfOk result (IsShown self.old.run self.new.run) }
+        ensures worked { OnOk result (self.new.worked ≡ self.old.worked) }
+        ensures refused { IfErr result (IsEmitRefused self.old.run) }
+        ensures unchanged { OnErr result (self.new ≡ self.old) }
+    {
+        self.run.emit()
+    }
+
+    /// Nothing happens any more; a second call changes nothing.
+    pub fn stop(&mut self)
+        ensures run { IsStopped self.old.run self.new.run }
+        ensures worked { self.new.worked ≡ self.old.worked }
+    {
+        self.run.stop();
     }
 }

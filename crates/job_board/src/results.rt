@@ -1,22 +1,23 @@
 ghost use Rattle.std.specs.Prelude.{◌≡◌, IfOk, IfErr, OnOk, OnErr};
 ghost use Rattle.job_core.specs.declared.names.JobName.TheVariants.{Think};
 ghost use Rattle.job_core.specs.declared.names.Event.TheVariants.{Ask, Finish};
-ghost use Rattle.job_board.specs.Boards.{Happens, IsRefused, IsEmitRefused, IsShown, IsStopped};
-ghost use Rattle.job_board.specs.Dones.{job_done, IsOtherDone};
+ghost use Rattle.job_core.specs.Core.{Runs, IsLegal};
+ghost use Rattle.job_board.specs.Boards.{setup_in, state_in, Happens, IsRefused, IsEmitRefused, IsShown, IsStopped};
+ghost use Rattle.job_board.specs.Dones.{game_done, job_done, IsOtherDone};
 ghost use Rattle.job_board.specs.Parked.{IsOtherParked};
 
-use super::board::{Board, bands_of};
 use super::done::{Done, Refused, agent_of, is_parked_for};
 use super::drawn::Drawn;
+use super::run::{Run, bands_of};
 use super::shelf::next_of;
 use super::shown::Shown;
 use frame_params::Parked;
 use job_log::BoardFault;
 
 // The calls that hand a result in, and those that hand one out.
-impl<'t> Board<'t> {
+impl<'t> Run<'t> {
     /// The worker's Think asks the question at which its tick stands.
-    pub fn ask(&mut self, worker: u32, parked: Parked<'t>) -> Result<(), Refused<Parked<'t>>>
+    pub(crate) fn ask(&mut self, worker: u32, parked: Parked<'t>) -> Result<(), Refused<Parked<'t>>>
         ensures ok { OnOk result (Happens self.old self.new (Ask worker (Think parked.entry.frame parked.entry.agent))) }
         ensures refused { IfErr result (λ r. IsRefused self.old worker (IsOtherParked parked.entry self.old.game) (Ask worker) r.fault) }
         ensures back { IfErr result (λ r. r.value ≡ parked.entry) }
@@ -37,22 +38,38 @@ impl<'t> Board<'t> {
                 value: parked,
             });
         }
+        match self.park(worker, parked) {
+            Ok(()) => Ok(()),
+            Err(value) => Err(Refused {
+                fault: BoardFault::OutOfMemory,
+                value,
+            }),
+        }
+    }
+
+    // A Think asks the question at which its tick stands; refused for memory alone.
+    pub(crate) fn park(&mut self, worker: u32, parked: Parked<'t>) -> Result<(), Parked<'t>>
+        requires legal { IsLegal (setup_in self.old) (state_in self.old) (Ask worker (Think parked.frame parked.agent)) }
+        requires runs { (state_in self.old).phase (Think parked.frame parked.agent) ≡ Runs worker parked.question }
+        requires game { parked.game ≡ self.old.game }
+        ensures ok { OnOk result (Happens self.old self.new (Ask worker (Think parked.entry.frame parked.entry.agent))) }
+        ensures back { IfErr result (λ back. back ≡ parked.entry) }
+        ensures unchanged { OnErr result (self.new ≡ self.old) }
+    {
         let (frame, agent) = agent_of(&parked);
+        let question = parked.index();
         // A tick asks at most as often as its tree has nodes.
         let nodes = self.session.tree_of(agent).size();
-        prove!(u64::from(held.step) < nodes);
-        let Ok(()) = self.jobs.ask(worker, frame, agent, held.step) else {
-            return Err(Refused {
-                fault: BoardFault::OutOfMemory,
-                value: parked,
-            });
+        prove!(u64::from(question) < nodes);
+        let Ok(()) = self.jobs.ask(worker, frame, agent, question) else {
+            return Err(parked);
         };
         self.shelf.park(agent, parked);
         Ok(())
     }
 
     /// The worker's job is over, with what its work came to.
-    pub fn finish(&mut self, worker: u32, done: Done<'t>) -> Result<(), Refused<Done<'t>>>
+    pub(crate) fn finish(&mut self, worker: u32, done: Done<'t>) -> Result<(), Refused<Done<'t>>>
         ensures ok { OnOk result (Happens self.old self.new (Finish worker (job_done done.entry))) }
         ensures refused { IfErr result (λ r. IsRefused self.old worker (IsOtherDone done.entry self.old.game) (Finish worker) r.fault) }
         ensures back { IfErr result (λ r. r.value ≡ done.entry) }
@@ -74,24 +91,35 @@ impl<'t> Board<'t> {
                 value: done,
             });
         }
+        match self.end(worker, done) {
+            Ok(()) => Ok(()),
+            Err(value) => Err(Refused {
+                fault: BoardFault::OutOfMemory,
+                value,
+            }),
+        }
+    }
+
+    // A job is over; refused for memory alone.
+    pub(crate) fn end(&mut self, worker: u32, done: Done<'t>) -> Result<(), Done<'t>>
+        requires legal { IsLegal (setup_in self.old) (state_in self.old) (Finish worker (job_done done)) }
+        requires game { game_done done ≡ self.old.game }
+        ensures ok { OnOk result (Happens self.old self.new (Finish worker (job_done done.entry))) }
+        ensures back { IfErr result (λ back. back ≡ done.entry) }
+        ensures unchanged { OnErr result (self.new ≡ self.old) }
+    {
         let Ok(next) = next_of(self.alloc, &done) else {
-            return Err(Refused {
-                fault: BoardFault::OutOfMemory,
-                value: done,
-            });
+            return Err(done);
         };
-        let Ok(()) = self.jobs.finish(worker, held.job) else {
-            return Err(Refused {
-                fault: BoardFault::OutOfMemory,
-                value: done,
-            });
+        let Ok(()) = self.jobs.finish(worker, done.name()) else {
+            return Err(done);
         };
         self.shelf.keep(done, next);
         Ok(())
     }
 
     /// Shows the next frame, once its logic and all its draws are over.
-    pub fn emit(&mut self) -> Result<Shown<'t>, BoardFault>
+    pub(crate) fn emit(&mut self) -> Result<Shown<'t>, BoardFault>
         ensures ok { IfOk result (IsShown self.old self.new) }
         ensures refused { IfErr result (IsEmitRefused self.old) }
         ensures unchanged { OnErr result (self.new ≡ self.old) }
@@ -110,7 +138,7 @@ impl<'t> Board<'t> {
     }
 
     /// Nothing happens any more; a second call changes nothing.
-    pub fn stop(&mut self)
+    pub(crate) fn stop(&mut self)
         ensures { IsStopped self.old self.new }
     {
         if self.jobs.is_stopped() {
