@@ -8,3 +8,4 @@ pub mod Working
 pub mod Staying
 pub mod Applying
 pub mod Coming
+pub mod Ending

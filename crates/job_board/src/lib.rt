@@ -9,6 +9,7 @@ mod drawn;
 mod enabled;
 #[cfg(test)]
 mod hand_tests;
+pub mod laws;
 mod moves;
 mod next;
 mod results;

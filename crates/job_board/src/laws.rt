@@ -1,0 +1,25 @@
+// Laws over what a board is seen as.
+ghost use Rattle.std.specs.Prelude.{◌≡◌, false};
+ghost use Rattle.job_core.specs.declared.names.Event.{Event};
+ghost use Rattle.job_core.specs.Core.{IsLegalList, IsComplete};
+ghost use Rattle.job_machine.specs.Numbers.{IsWithinLimits};
+ghost use Rattle.job_log.specs.declared.fault.BoardFault.{BoardFault};
+ghost use Rattle.job_log.specs.declared.fault.BoardFault.TheVariants.{OutOfMemory};
+ghost use Rattle.job_board.specs.Boards.{setup_in, state_in};
+ghost use Rattle.job_board.specs.Playing.{Playing, IsOwn, IsApplyRefused, IsEnabled, IsStuck};
+
+/// What `enabled` gave is refused by `apply` for want of memory alone.
+pub fn what_is_enabled_is_applied()
+    ensures { (b : Playing) (e : Event) (fault : BoardFault) → IsEnabled b e → IsApplyRefused b e fault → fault ≡ OutOfMemory }
+{}
+
+/// A board for which `enabled` gives an event is not stuck, so it gives None exactly where the board is.
+pub fn a_stuck_board_enables_nothing()
+    ensures { (b : Playing) (e : Event) → IsEnabled b e → IsStuck b → ⊥ }
+{}
+
+/// A board that hands nothing out and is stuck is stopped or done: `enabled` and `apply` alone drive a game to its end.
+pub fn an_own_board_is_stuck_at_its_end()
+    ensures { (b : Playing) → IsWithinLimits b.run.numbers.frames b.run.numbers.workers b.run.numbers.fibers b.run.numbers.slots → IsLegalList (setup_in b.run) b.run.events
+        → (state_in b.run).stopped ≡ false → IsOwn b → IsStuck b → IsComplete (setup_in b.run) b.run.events }
+{}
