@@ -7,5 +7,6 @@ pub mod Handed
 pub mod Working
 pub mod Staying
 pub mod Applying
+pub mod Owning
 pub mod Coming
 pub mod Ending
