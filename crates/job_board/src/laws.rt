@@ -18,8 +18,8 @@ pub fn a_stuck_board_enables_nothing()
     ensures { (b : Playing) (e : Event) → IsEnabled b e → IsStuck b → ⊥ }
 {}
 
-/// A board that hands nothing out and is stuck is stopped or done: `enabled` and `apply` alone drive a game to its end.
-pub fn an_own_board_is_stuck_at_its_end()
+/// A board that hands nothing out is stuck only where it is stopped or done: `enabled` and `apply` drive a game to its end.
+pub fn what_is_driven_ends_done()
     ensures { (b : Playing) → IsWithinLimits b.run.numbers.frames b.run.numbers.workers b.run.numbers.fibers b.run.numbers.slots → IsLegalList (setup_in b.run) b.run.events
         → (state_in b.run).stopped ≡ false → IsOwn b → IsStuck b → IsComplete (setup_in b.run) b.run.events }
 {}

@@ -1,5 +1,5 @@
 use Rattle.job_board.proofs.Ending.{ends}
-use Rattle.job_board.proofs.laws.an_own_board_is_stuck_at_its_end.Goals as goal
+use Rattle.job_board.proofs.laws.what_is_driven_ends_done.Goals as goal
 
 pub returns : goal.returns
 returns c = ends
