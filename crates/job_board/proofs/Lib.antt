@@ -7,4 +7,5 @@ pub mod Handed
 pub mod Working
 pub mod Staying
 pub mod Applying
+pub mod Owning
 pub mod Coming

@@ -5,6 +5,7 @@ ghost use Rattle.job_core.specs.Core.{IsLegalList, IsComplete};
 ghost use Rattle.job_board.specs.Boards.{setup_in, state_in, Happens, IsDoneByLogic, IsTaken, IsTakeRefused, IsRefused, IsEmitRefused, IsShown, IsStopped, NoOther};
 ghost use Rattle.job_board.specs.Dones.{job_done, IsOtherDone};
 ghost use Rattle.job_board.specs.Parked.{IsOtherParked};
+ghost use Rattle.job_board.specs.Playing.{IsOwn};
 
 use super::done::{Done, Refused};
 use super::run::Run;
@@ -51,6 +52,7 @@ impl<'t> Board<'t> {
     ) -> Result<Board<'t>, OutOfMemory>
         ensures run { IfOk result (λ board. board.run ≡ record { game = session.now; numbers = settings; events = [] }) }
         ensures worked { IfOk result (λ board. board.worked ≡ replicate settings.workers false) }
+        ensures own { IfOk result IsOwn }
     {
         let run = Run::new(alloc, session, settings)?;
         let Ok(works) = Works::new(alloc, settings.workers()) else {
@@ -170,6 +172,7 @@ impl<'t> Board<'t> {
     pub fn emit(&mut self) -> Result<Shown<'t>, BoardFault>
         ensures ok { IfOk result (IsShown self.old.run self.new.run) }
         ensures worked { OnOk result (self.new.worked ≡ self.old.worked) }
+        ensures own { OnOk result (IsOwn self.old → IsOwn self.new) }
         ensures refused { IfErr result (IsEmitRefused self.old.run) }
         ensures unchanged { OnErr result (self.new ≡ self.old) }
     {

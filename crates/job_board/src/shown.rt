@@ -59,4 +59,12 @@ impl<'t> Shown<'t> {
     {
         &self.bands
     }
+
+    /// The turn of the frame, and all its bands from the top.
+    pub fn into_parts(self) -> (Turn<'t>, Vec<BandOut<'t>>)
+        ensures turn { result.0 ≡ self.entry }
+        ensures bands { AreAllBands self.entry result.1.items }
+    {
+        (self.turn, self.bands)
+    }
 }
