@@ -1,16 +1,7 @@
-// The program: plays a level, and prints its frames.
+// The program: hands its words, its input and its outputs to `command`.
 #![tactic(auto)]
 
-mod command;
-mod fault;
-mod play;
-mod reading;
-#[cfg(test)]
-mod tests;
-mod words;
-
-use command::command;
-use fault::Fault;
+use commands::{command, refuse_unread_words};
 use std::alloc::Alloc;
 use std::process::ExitCode;
 use std::{env, io};
@@ -28,18 +19,16 @@ fn words_given(rt: &HostRuntime) -> io::Result<Vec<String>> {
 
 fn main(rt: HostRuntime) -> ExitCode {
     let mut err = rt.stderr();
-    match words_given(&rt) {
-        Ok(words) => {
-            let status = command(
-                &rt,
-                rt.alloc(),
-                &words,
-                &mut rt.stdin(),
-                &mut rt.stdout(),
-                &mut err,
-            );
-            ExitCode::from(status)
-        }
-        Err(_) => ExitCode::from(Fault::OutOfMemory.report(&mut err)),
-    }
+    let status = match words_given(&rt) {
+        Ok(words) => command(
+            &rt,
+            rt.alloc(),
+            &words,
+            &mut rt.stdin(),
+            &mut rt.stdout(),
+            &mut err,
+        ),
+        Err(error) => refuse_unread_words(&error, &mut err),
+    };
+    ExitCode::from(status)
 }

@@ -4,6 +4,7 @@
 mod frame;
 mod link;
 mod pile;
+mod slots;
 
 pub use frame::Frame;
 pub use pile::{Pile, Stack};

@@ -1,15 +1,18 @@
-ghost use Rattle.std.specs.Prelude.{◌≡◌, ◌+◌, ◌-◌, ◌<◌, ◌^◌, List, [], ◌∷◌, length, MatchResult, MatchOption, IfOk};
+ghost use Rattle.std.specs.Prelude.{◌≡◌, ◌≢◌, ◌+◌, ◌-◌, ◌<◌, ◌^◌, ◌%◌, List, [], ◌∷◌, length, MatchResult, MatchOption, IfOk, IsOk};
 
 use crate::frame::Frame;
 use crate::link::{Cell, Link};
+use crate::slots::Slots;
 use std::alloc::{AllocError, Allocator};
 use std::marker::Model;
 use std::mem;
 
-/// A stack of plain values, each in a box of its own. Contracts see it as the list of them, the top one first.
+/// A stack of plain values, in boxed chunks of eight. Contracts see it as the list of them, the top one first.
 #[derive(Drop)]
 pub struct Pile<F: Copy, A: Allocator> {
-    top: Link<F, A>,
+    top: Link<Slots<F>, A>,
+    // how many of the first chunk's slots are free, the first ones
+    free: u32,
     depth: u32,
     alloc: A,
 }
@@ -18,14 +21,15 @@ pub struct Pile<F: Copy, A: Allocator> {
 pub type Stack<'t, T, A> = Pile<Frame<'t, T>, A>;
 
 impl<F: Copy, A: Allocator> Model for Pile<F, A> {
-    ghost use Rattle.std.specs.Prelude.{◌≡◌, List, length};
+    ghost use Rattle.std.specs.Prelude.{◌≡◌, ◌+◌, ◌*◌, ◌<◌, List, length};
     ghost use Rattle.fiber_stack.specs.Links.{elements};
+    ghost use Rattle.fiber_stack.specs.Chunks.{values};
 
     ghost Value = { List F };
 
-    ghost view = { λ s. elements s.top };
+    ghost view = { λ s. values s.free (elements s.top) };
 
-    ghost invariant = { λ s. s.depth ≡ length (elements s.top) };
+    ghost invariant = { λ s. (s.free < 8) × (s.depth + s.free ≡ 8 * length (elements s.top)) };
 }
 
 impl<F: Copy, A: Allocator> Pile<F, A> {
@@ -34,6 +38,7 @@ impl<F: Copy, A: Allocator> Pile<F, A> {
     {
         Pile {
             top: Link::End,
+            free: 0,
             depth: 0,
             alloc,
         }
@@ -52,23 +57,29 @@ impl<F: Copy, A: Allocator> Pile<F, A> {
     {
         match &self.top {
             Link::End => None,
-            Link::More(cell) => Some(&cell.element),
+            Link::More(cell) => Some(cell.element.at(self.free)),
         }
     }
 
-    /// Takes the value on the top off.
+    /// Takes the value on the top off. A chunk is given back when its last value goes.
     #[inline(always)]
     pub fn pop(&mut self) -> Option<F>
         ensures { MatchOption result ((self.old ≡ []) × (self.new ≡ [])) (λ top. self.old ≡ top ∷ self.new) }
     {
-        match mem::replace(&mut self.top, Link::End).split() {
-            None => None,
-            Some((element, below)) => {
-                self.top = below;
-                self.depth -= 1;
-                Some(element)
-            }
+        let value = match &self.top {
+            Link::End => return None,
+            Link::More(cell) => *cell.element.at(self.free),
+        };
+        self.depth -= 1;
+        if self.free < 7 {
+            self.free += 1;
+            return Some(value);
         }
+        if let Some((_, below)) = mem::replace(&mut self.top, Link::End).split() {
+            self.top = below;
+        }
+        self.free = 0;
+        Some(value)
     }
 
     /// Puts a value in place of the one on the top, and hands that one out.
@@ -79,30 +90,51 @@ impl<F: Copy, A: Allocator> Pile<F, A> {
     {
         match &mut self.top {
             Link::End => None,
-            Link::More(cell) => Some(mem::replace(&mut cell.element, element)),
+            Link::More(cell) => {
+                let value = *cell.element.at(self.free);
+                cell.element.set(self.free, element);
+                Some(value)
+            }
         }
     }
 }
 
 impl<F: Copy, A: Allocator + Clone> Pile<F, A> {
-    /// Puts a value on the top. Where memory is refused it is handed back, and the stack is unchanged.
+    /// Puts a value on the top. Where memory is refused it is handed back, and the stack is unchanged. It takes memory
+    /// only where the depth is a multiple of eight.
     pub fn push(&mut self, element: F) -> Result<(), F>
         requires { length self.old < 2 ^ 32 - 1 }
-        ensures { MatchResult result (λ done. self.new ≡ element ∷ self.old)
+        ensures pushed { MatchResult result (λ done. self.new ≡ element ∷ self.old)
             (λ refused. (refused ≡ element) × (self.new ≡ self.old)) }
+        ensures room { length self.old % 8 ≢ 0 → IsOk result }
     {
+        if self.free > 0 {
+            self.depth += 1;
+            self.free -= 1;
+            if let Link::More(cell) = &mut self.top {
+                cell.element.set(self.free, element);
+            }
+            return Ok(());
+        }
         let Ok(alloc) = self.alloc.clone() else {
             return Err(element);
         };
         let below = mem::replace(&mut self.top, Link::End);
-        match Box::new(alloc, Cell { element, below }) {
+        match Box::new(
+            alloc,
+            Cell {
+                element: Slots::of(element),
+                below,
+            },
+        ) {
             Ok(cell) => {
                 self.top = Link::More(cell);
+                self.free = 7;
                 self.depth += 1;
                 Ok(())
             }
             Err(refused) => {
-                let Cell { element, below } = refused.value;
+                let Cell { element: _, below } = refused.value;
                 self.top = below;
                 Err(element)
             }
@@ -117,6 +149,7 @@ impl<F: Copy, A: Allocator> Pile<F, A> {
     {
         Ok(Pile {
             top: self.top.copy_in(&alloc)?,
+            free: self.free,
             depth: self.depth,
             alloc,
         })

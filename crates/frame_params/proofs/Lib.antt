@@ -3,3 +3,5 @@ pub mod Ground
 pub mod Turning
 pub mod CutThoughts
 pub mod AllAgents
+pub mod Crossing
+pub mod KnownWays

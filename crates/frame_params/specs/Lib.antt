@@ -4,3 +4,4 @@ pub mod Logic
 pub mod Slots
 pub mod Thinks
 pub mod Tasks
+pub mod Distances

@@ -20,6 +20,7 @@ pub record IsGathered (g : Game) (f : ℕ) (x : Gathered) : Type 0 where
   pub statuses : (arc_value x.statuses).items ≡ statuses_in g f
   pub memories : (arc_value x.memories).items ≡ memories_after g f
   pub fit : AllFit g.trees (arc_value x.memories).items
+  pub known : x.known.game ≡ g
 
 abbrev pub IsGatheredIf : Game → ℕ → Option Gathered → Type 0
 IsGatheredIf g f None = Unit {0}

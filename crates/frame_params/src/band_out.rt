@@ -44,6 +44,19 @@ impl<'t> BandOut<'t> {
         }
     }
 
+    pub fn frame(&self) -> u32
+        ensures { result ≡ self.now.frame }
+    {
+        self.frame
+    }
+
+    /// Which of the frame's bands it is, from the top, counted from 0.
+    pub fn number(&self) -> u32
+        ensures { result ≡ self.now.number }
+    {
+        self.band.number
+    }
+
     /// The band's rows.
     pub fn band(&self) -> &Band
         ensures { result.now ≡ band_in self.now.game self.now.frame self.now.number }

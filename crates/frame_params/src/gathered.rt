@@ -4,6 +4,7 @@ ghost use Rattle.grid_world.specs.Intents.{apply_all};
 ghost use Rattle.frame_params.specs.Logic.{IsGathered};
 
 use crate::kept_memory::KeptMemory;
+use crate::known::Known;
 use crate::turn::Turn;
 use bt_nodes::Status;
 use grid_world::{Intent, ResolveFault, Signals, World, resolve};
@@ -13,12 +14,13 @@ use std::sync::Arc;
 
 // What a turn is made of: the world before it, and what all agents came to in that world, by agent number.
 #[derive(Drop)]
-pub(crate) struct Gathered {
+pub(crate) struct Gathered<'t> {
     pub(crate) world: Arc<World>,
     pub(crate) signals: Signals,
     pub(crate) intents: Vec<Intent>,
     pub(crate) statuses: Arc<Vec<Status>>,
     pub(crate) memories: Arc<Vec<KeptMemory>>,
+    pub(crate) known: Known<'t>,
 }
 
 // The world after an intent of each agent.
@@ -38,8 +40,8 @@ fn resolved(
     }
 }
 
-impl Gathered {
-    pub(crate) fn turn<'t>(
+impl<'t> Gathered<'t> {
+    pub(crate) fn turn(
         &self,
         alloc: Global,
         session: &'t Session,
@@ -55,6 +57,7 @@ impl Gathered {
             world: Arc::new(alloc, world)?,
             memories: Arc::try_clone(&self.memories)?,
             statuses: Arc::try_clone(&self.statuses)?,
+            known: self.known.share()?,
         })
     }
 }

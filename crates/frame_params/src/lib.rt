@@ -5,7 +5,9 @@
 mod band_out;
 mod draw_task;
 mod gathered;
+mod kept_distances;
 mod kept_memory;
+mod known;
 mod logic_step;
 mod logic_task;
 mod params;

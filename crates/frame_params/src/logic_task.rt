@@ -23,7 +23,7 @@ use std::sync::Arc;
 pub struct LogicTask<'t> {
     session: &'t Session,
     frame: u32,
-    gathered: Option<Gathered>,
+    gathered: Option<Gathered<'t>>,
 }
 
 impl<'t> Model for LogicTask<'t> {
@@ -110,6 +110,7 @@ impl<'t> LogicTask<'t> {
             intents: intents_of(alloc, thoughts)?,
             statuses: Arc::new(alloc, statuses)?,
             memories: Arc::new(alloc, memories)?,
+            known: params.known.share()?,
         };
         Ok(LogicTask {
             session: params.session,

@@ -4,7 +4,9 @@ ghost use Rattle.game_jobs.specs.Instance.{tree_of};
 ghost use Rattle.frame_params.specs.Contents.{signals_in, world_after, memory_before, AllFit};
 
 use crate::kept_memory::KeptMemory;
+use crate::known::Known;
 use crate::turn::Turn;
+use crate::way::Way;
 use bt_tick::Memory;
 use grid_world::{Signals, World};
 use level_text::Session;
@@ -12,8 +14,8 @@ use std::alloc::{AllocError, Global};
 use std::marker::Model;
 use std::sync::Arc;
 
-/// What the jobs of a frame read: the frame's signals, and the world and the memories of the frame before. The tasks
-/// that are made of it share these with it.
+/// What the jobs of a frame read: the frame's signals, the world and the memories of the frame before, and the distances
+/// that were found so far under these signals. The tasks that are made of it share these with it.
 #[derive(Drop)]
 pub struct FrameParams<'t> {
     pub(crate) session: &'t Session,
@@ -21,6 +23,7 @@ pub struct FrameParams<'t> {
     pub(crate) signals: Signals,
     pub(crate) world: Arc<World>,
     pub(crate) memories: Arc<Vec<KeptMemory>>,
+    pub(crate) known: Known<'t>,
 }
 
 impl<'t> Model for FrameParams<'t> {
@@ -28,6 +31,7 @@ impl<'t> Model for FrameParams<'t> {
     ghost use Rattle.std.specs.Arc.{arc_value};
     ghost use Rattle.frame_params.specs.Names.{FrameOf, frame_code};
     ghost use Rattle.frame_params.specs.Contents.{signals_in, IsAfter};
+    ghost use Rattle.frame_params.specs.Distances.{known_of};
 
     ghost Value = { FrameOf };
 
@@ -36,7 +40,8 @@ impl<'t> Model for FrameParams<'t> {
     ghost view = { λ p. record { game = p.session.now; frame = p.frame } };
 
     ghost invariant = { λ p. (0 < p.frame) × (p.signals ≡ signals_in p.session.now p.frame)
-        × IsAfter p.session.now (p.frame - 1) (arc_value p.world) (arc_value p.memories).items };
+        × IsAfter p.session.now (p.frame - 1) (arc_value p.world) (arc_value p.memories).items
+        × (p.known ≡ known_of p.session.now p.signals) };
 }
 
 // A memory of zeros for each agent.
@@ -61,27 +66,32 @@ impl<'t> FrameParams<'t> {
     {
         let world = session.world().copy(alloc)?;
         let memories = zero_memories(alloc, session)?;
+        let signals = session.script().signals(1);
         Ok(FrameParams {
             session,
             frame: 1,
-            signals: session.script().signals(1),
+            signals,
             world: Arc::new(alloc, world)?,
             memories: Arc::new(alloc, memories)?,
+            known: Known::none(alloc, session, signals)?,
         })
     }
 
-    /// Those of the frame after a turn's. The world and the memories are the turn's own, so nothing is copied.
-    pub fn after(_alloc: Global, turn: &Turn<'t>) -> Result<FrameParams<'t>, AllocError>
+    /// Those of the frame after a turn's. The world and the memories are the turn's own, so nothing is copied; and so are the
+    /// distances, while the signals are those of the turn's frame.
+    pub fn after(alloc: Global, turn: &Turn<'t>) -> Result<FrameParams<'t>, AllocError>
         requires { turn.now.frame + 1 < 2 ^ 32 }
         ensures { IfOk result (λ p. p ≡ record { game = turn.now.game; frame = turn.now.frame + 1 }) }
     {
         let frame = turn.frame + 1;
+        let signals = turn.session.script().signals(frame);
         Ok(FrameParams {
             session: turn.session,
             frame,
-            signals: turn.session.script().signals(frame),
+            signals,
             world: Arc::try_clone(&turn.world)?,
             memories: Arc::try_clone(&turn.memories)?,
+            known: turn.known.under(alloc, signals)?,
         })
     }
 
@@ -121,5 +131,19 @@ impl<'t> FrameParams<'t> {
         ensures fits { Fits (tree_of self.now.game agent) result.now }
     {
         self.memories[agent as usize].memory()
+    }
+
+    /// Keeps the distances that the search for a way of the frame found, for the tasks that are made later and for the
+    /// frames that follow while the signals are equal. Where memory is refused they are not kept, and are found again.
+    pub fn learn(&mut self, alloc: Global, way: &Way<'t>)
+        requires game { way.now.game ≡ self.old.game }
+        requires frame { way.now.frame ≡ self.old.frame }
+        ensures { self.new ≡ self.old }
+    {
+        if let Some(found) = &way.found {
+            if let Ok(known) = self.known.with(alloc, found) {
+                self.known = known;
+            }
+        }
     }
 }

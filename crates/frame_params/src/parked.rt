@@ -51,6 +51,18 @@ impl<'t> Parked<'t> {
         }
     }
 
+    pub fn frame(&self) -> u32
+        ensures { result ≡ self.now.frame }
+    {
+        self.frame
+    }
+
+    pub fn agent(&self) -> u32
+        ensures { result ≡ self.now.agent }
+    {
+        self.agent
+    }
+
     /// Which of its questions it stands at, counted from 0.
     pub fn index(&self) -> u32
         ensures value { result ≡ self.now.question }

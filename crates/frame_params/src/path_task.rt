@@ -1,17 +1,17 @@
-ghost use Rattle.std.specs.Prelude.{◌≡◌, ◌<◌, IfOk};
-ghost use Rattle.grid_world.specs.Way.{way};
-ghost use Rattle.game_rules.specs.View.{cell_of};
-ghost use Rattle.bt_tick.specs.Views.{view_of, IsInWorld};
+ghost use Rattle.std.specs.Prelude.{◌≡◌, ◌<◌, true, IfOk, length};
+ghost use Rattle.grid_world.specs.Grid.{agent_of, is_on_map, point_of};
+ghost use Rattle.grid_world.specs.World.{point};
+ghost use Rattle.frame_params.specs.Contents.{signals_in, way_in};
+ghost use Rattle.frame_params.specs.Distances.{IsUnderIf};
 
+use crate::kept_distances::KeptDistances;
 use crate::params::FrameParams;
 use crate::parked::Parked;
 use crate::way::Way;
-use bt_tick::View;
-use grid_path::{PathFault, ask};
 use grid_world::{Answer, Place, Signals, World};
 use job_core::names::JobName;
 use level_text::Session;
-use std::alloc::{AllocError, Global};
+use std::alloc::{AllocError, Allocator, Global};
 use std::marker::Model;
 use std::sync::Arc;
 
@@ -25,6 +25,8 @@ pub struct PathTask<'t> {
     place: Place,
     signals: Signals,
     world: Arc<World>,
+    // The distances to the place, where they are known.
+    known: Option<KeptDistances<'t>>,
 }
 
 impl<'t> Model for PathTask<'t> {
@@ -36,29 +38,28 @@ impl<'t> Model for PathTask<'t> {
     ghost coded = { question_code };
 
     ghost use Rattle.frame_params.specs.Thinks.{Sees, AsksFor};
+    ghost use Rattle.frame_params.specs.Distances.{IsGivenIf};
 
     ghost view = { λ t. record { game = t.session.now; frame = t.frame; agent = t.agent; question = t.question } };
 
     ghost invariant = { λ t. Sees t.session.now t.frame t.agent (arc_value t.world) t.signals
-        × AsksFor t.session.now t.frame t.agent t.question t.place };
+        × AsksFor t.session.now t.frame t.agent t.question t.place
+        × IsGivenIf t.session.now t.signals t.place t.known };
 }
 
-// The way from an agent's cell to a place; there is none to a place that is not on the map.
-fn way_to(alloc: Global, view: &View, place: Place) -> Result<Answer, AllocError>
-    requires { IsInWorld view.now }
-    ensures { IfOk result (λ answer. answer ≡ way view.now.world.now view.now.signals (cell_of (view_of view.now)) place) }
+// The cell of an agent.
+fn cell_of(world: &World, agent: u32) -> (u32, u32)
+    requires { agent < length world.now.agents }
+    ensures cell { point result.0 result.1 ≡ point_of (agent_of world.now agent) }
+    ensures there { is_on_map world.now (point result.0 result.1) ≡ true }
 {
-    let here = view.world.agents()[view.agent as usize];
-    match ask(alloc, view.world, view.signals, (here.x, here.y), place) {
-        Ok(answer) => Ok(answer),
-        Err(PathFault::OffMap) => Ok(Answer::NoWay),
-        Err(PathFault::OutOfMemory) => Err(AllocError),
-    }
+    let here = world.agents()[agent as usize];
+    (here.x, here.y)
 }
 
 impl<'t> PathTask<'t> {
-    /// The search for the way to the place that a parked tick of the frame asks for. The world is the frame's own, so
-    /// nothing is copied.
+    /// The search for the way to the place that a parked tick of the frame asks for. The world is the frame's own, and so are
+    /// the distances to the place where they are known; nothing is copied.
     pub fn of(
         _alloc: Global,
         params: &FrameParams<'t>,
@@ -68,14 +69,17 @@ impl<'t> PathTask<'t> {
         requires frame { parked.now.frame ≡ params.now.frame }
         ensures { IfOk result (λ t. t ≡ parked.now) }
     {
+        let place = parked.pending.place();
+        let known = params.known.shared_to(place)?;
         Ok(PathTask {
             session: parked.session,
             frame: parked.frame,
             agent: parked.agent,
             question: parked.question,
-            place: parked.pending.place(),
+            place,
             signals: params.signals,
             world: Arc::try_clone(&params.world)?,
+            known,
         })
     }
 
@@ -95,21 +99,50 @@ impl<'t> PathTask<'t> {
         }
     }
 
-    /// Searches for the way, over the world and the signals of the frame.
+    // The way, and the distances if they were not known.
+    fn answered<A: Allocator + Clone>(
+        &self,
+        alloc: Global,
+        scratch: A,
+    ) -> Result<(Answer, Option<KeptDistances<'t>>), AllocError>
+        ensures way { IfOk result (λ parts. parts.0 ≡ way_in self.now.game self.now.frame self.now.agent self.now.question) }
+        ensures found { IfOk result (λ parts. IsUnderIf self.now.game (signals_in self.now.game self.now.frame) parts.1) }
+    {
+        let from = cell_of(&self.world, self.agent);
+        if let Some(known) = &self.known {
+            return Ok((known.way(from), None));
+        }
+        match KeptDistances::to(alloc, scratch, self.session, self.signals, self.place)? {
+            None => Ok((Answer::NoWay, None)),
+            Some(found) => Ok((found.way(from), Some(found))),
+        }
+    }
+
+    /// Answers the question, over the world and the signals of the frame: by the distances where they are known, and else
+    /// by one search, whose distances the way carries to those who want them.
     pub fn work(&self, alloc: Global) -> Result<Way<'t>, AllocError>
         ensures { IfOk result (λ way. way ≡ self.now) }
     {
-        let view = View {
-            world: &self.world,
-            signals: self.signals,
-            agent: self.agent,
-        };
+        self.work_in(alloc, alloc)
+    }
+
+    /// The same, where the table and the queue of the search lie in `scratch`. From `alloc` it takes memory for the
+    /// distances alone, and none where they are known.
+    pub fn work_in<A: Allocator + Clone>(
+        &self,
+        alloc: Global,
+        scratch: A,
+    ) -> Result<Way<'t>, AllocError>
+        ensures { IfOk result (λ way. way ≡ self.now) }
+    {
+        let (answer, found) = self.answered(alloc, scratch)?;
         Ok(Way {
             session: self.session,
             frame: self.frame,
             agent: self.agent,
             question: self.question,
-            answer: way_to(alloc, &view, self.place)?,
+            answer,
+            found,
         })
     }
 }

@@ -1,4 +1,4 @@
-// Frames played task by task.
+// A frame turned task by task.
 ghost use Rattle.std.specs.Prelude.{◌≡◌, ◌<◌, IfOk, length};
 ghost use Rattle.frame_params.specs.Names.{part_of, AreOfAllAgents};
 ghost use Rattle.frame_params.specs.Thinks.{IsThinkStep};
@@ -6,22 +6,13 @@ ghost use Rattle.frame_params.specs.Logic.{IsLogicStep};
 
 use crate::tests::{FIRST, session_of};
 use crate::{
-    BandOut, DrawTask, FrameParams, LogicStep, LogicTask, PathTask, Step, Task, ThinkStep,
-    ThinkTask, Thought, Turn, Way,
+    FrameParams, LogicStep, LogicTask, PathTask, Step, Task, ThinkStep, ThinkTask, Thought, Turn,
+    Way,
 };
-use draw_list::{Band, frame_text};
 use job_core::names::JobName;
 use level_text::Session;
 use std::alloc::Global;
 use std::test::Fail;
-
-// Three agents whose trees have every kind of node. Its frames are those that the baseline program `serial`, which was
-// written without this one, prints for it.
-const EVERY_KIND: &str =
-    "{\"map\":[\"A.0*a\",\"B...1\",\"C*2##\"],\"agents\":[\"t\",\"u\",\"v\"],\"trees\":{\"t\":[\"seq*\",[\"fallback\",[\"at\",\"0\"],[\"move\",\"0\"]],[\"not\",[\"near\",1]],[\"par\",1,[\"signal\",\"a\"],[\"wait\",2]],[\"ticks\",2,[\"move\",\"1\"]]],\"u\":[\"fallback*\",[\"tries\",2,[\"near\",1]],[\"move\",\"1\"]],\"v\":[\"seq\",[\"fallback\",[\"seq\",[\"item\"],[\"not\",[\"carrying\"]],[\"take\"]],[\"move\",\"2\"]],[\"drop\"]]}}";
-
-const ITS_FRAMES: &str =
-    "frame 1\n.A0*a\nB...1\n.C2##\nA R 1,0 -\nB S 0,1 -\nC R 1,2 -\nframe 2\n..A*a\n.B..1\n.C2##\nA R 2,0 -\nB R 1,1 -\nC R 1,2 *\nframe 3\n..0A/\n..B.1\n..C##\nA R 3,0 -\nB R 2,1 -\nC R 2,2 *\nframe 4\n..0*A\n...B1\n..C##\nA R 4,0 -\nB R 3,1 -\nC R 2,2 -\nframe 5\n..0*A\n....B\n..C##\nA F 4,0 -\nB R 4,1 -\nC R 2,2 *\nframe 6\n..0A/\n....B\n..C##\nA R 3,0 -\nB S 4,1 -\nC R 2,2 -\nframe 7\n..A*/\n....B\n..C##\nA R 2,0 -\nB S 4,1 -\nC R 2,2 *\n";
 
 fn thinks<'t>(alloc: Global, task: ThinkTask<'t>) -> Result<ThinkStep<'t>, Fail>
     ensures { IfOk result (λ step. IsThinkStep task.entry step) }
@@ -50,13 +41,6 @@ fn turns<'t>(alloc: Global, task: LogicTask<'t>) -> Result<LogicStep<'t>, Fail>
     match task.work(alloc)? {
         Step::Logic(step) => Ok(step),
         Step::Think(_) | Step::Path(_) | Step::Draw(_) => Err(Fail::from("no logic")),
-    }
-}
-
-fn draws<'t>(alloc: Global, task: DrawTask<'t>) -> Result<BandOut<'t>, Fail> {
-    match Task::Draw(task).work(alloc)? {
-        Step::Draw(band) => Ok(band),
-        Step::Logic(_) | Step::Think(_) | Step::Path(_) => Err(Fail::from("no draw")),
     }
 }
 
@@ -99,15 +83,6 @@ fn turn_of<'t>(alloc: Global, params: &FrameParams<'t>) -> Result<Turn<'t>, Fail
     }
 }
 
-fn bands_of(alloc: Global, turn: &Turn) -> Result<Vec<Band>, Fail> {
-    let mut bands = Vec::new(alloc);
-    for number in 0..turn.bands() {
-        let drawn = draws(alloc, DrawTask::of(alloc, turn, number)?)?;
-        bands.push(drawn.into_band())?;
-    }
-    Ok(bands)
-}
-
 fn frame_of(turn: &Turn) -> u32
     ensures { result ≡ turn.now.frame }
 {
@@ -117,47 +92,9 @@ fn frame_of(turn: &Turn) -> u32
     }
 }
 
-fn text_of(alloc: Global, turn: &Turn) -> Result<Vec<u8>, Fail> {
-    let bands = bands_of(alloc, turn)?;
-    let text = frame_text(alloc, frame_of(turn), &bands, turn.world(), turn.statuses());
-    Ok(text.map_err(|_| "text")?)
-}
-
-// The turn of the next frame.
-fn next_turn<'t>(alloc: Global, turn: &Turn<'t>) -> Result<Turn<'t>, Fail> {
-    let JobName::Logic { frame } = turn.name() else {
-        return Err(Fail::from("name"));
-    };
-    if frame > 9999 {
-        return Err(Fail::from("frames"));
-    }
-    let params = FrameParams::after(alloc, turn)?;
-    turn_of(alloc, &params)
-}
-
 fn first_turn<'t>(alloc: Global, session: &'t Session) -> Result<Turn<'t>, Fail> {
     let params = FrameParams::first(alloc, session)?;
     turn_of(alloc, &params)
-}
-
-// The text of the first frames. A frame is drawn after the next one is turned.
-fn frames_of(alloc: Global, session: &Session, frames: u32) -> Result<Vec<u8>, Fail> {
-    let mut text = Vec::new(alloc);
-    let mut turn = first_turn(alloc, session)?;
-    for _frame in 1..frames {
-        let next = next_turn(alloc, &turn)?;
-        text.extend_from_slice(&text_of(alloc, &turn)?)?;
-        turn = next;
-    }
-    text.extend_from_slice(&text_of(alloc, &turn)?)?;
-    Ok(text)
-}
-
-// Whether these frames of a level are this text.
-fn plays(alloc: Global, level: &str, script: &str, frames: u32, text: &str) -> Result<bool, Fail> {
-    let session = session_of(alloc, level, script)?;
-    let played = frames_of(alloc, &session, frames)?;
-    Ok(played.as_slice() == text.as_bytes())
 }
 
 // The first agent's think in the frame after a turn's, by its name.
@@ -175,20 +112,6 @@ fn think_after_first(alloc: Global, level: &str) -> Result<JobName, Fail> {
     let session = session_of(alloc, level, "")?;
     let turn = first_turn(alloc, &session)?;
     think_after(alloc, &turn)
-}
-
-#[test]
-fn every_kind_of_node(rt: HostRuntime) -> Result<(), Fail> {
-    let right = plays(rt.alloc(), EVERY_KIND, "3 on a\n", 7, ITS_FRAMES)?;
-    assert!(rt; right);
-    Ok(())
-}
-
-#[test]
-fn the_first_frame(rt: HostRuntime) -> Result<(), Fail> {
-    let right = plays(rt.alloc(), FIRST, "", 1, "frame 1\n.A0\nA R 1,0 -\n")?;
-    assert!(rt; right);
-    Ok(())
 }
 
 #[test]

@@ -1,6 +1,7 @@
-ghost use Rattle.std.specs.Prelude.{◌≡◌, ◌≢◌, ◌≤◌, ◌<◌, ◌%◌, ◌==◌, ℕ, IfOk, None, Some, true, replicate, length, slice_set, option_copied};
+ghost use Rattle.std.specs.Prelude.{◌≡◌, ◌≢◌, ◌≤◌, ◌<◌, ◌%◌, ◌==◌, ℕ, IfOk, IfSome, None, Some, true, replicate, length, slice_set, option_copied};
 
 use crate::params::FrameParams;
+use crate::way::Way;
 use std::alloc::{AllocError, Global};
 use std::marker::Model;
 
@@ -79,6 +80,19 @@ impl<'t> Slots<'t> {
         if self.at(frame).is_some() {
             let at = frame as usize % self.places.len();
             self.places[at] = None;
+        }
+    }
+
+    /// Keeps the distances that a way's search found with the parameters of its frame, where they stand in its place.
+    pub fn learn(&mut self, alloc: Global, way: &Way<'t>)
+        requires { IfSome (held_at self.old way.now.frame) (λ params. params.game ≡ way.now.game) }
+        ensures { self.new ≡ self.old }
+    {
+        let at = way.frame as usize % self.places.len();
+        if let Some(params) = &mut self.places[at] {
+            if params.frame == way.frame {
+                params.learn(alloc, way);
+            }
         }
     }
 }

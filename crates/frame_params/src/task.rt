@@ -8,7 +8,7 @@ use crate::step::Step;
 use crate::think_task::ThinkTask;
 use job_core::names::JobName;
 use level_text::Session;
-use std::alloc::{AllocError, Global};
+use std::alloc::{AllocError, Allocator, Global};
 
 /// The work that a job stands at.
 #[derive(Drop)]
@@ -48,10 +48,24 @@ impl<'t> Task<'t> {
         ensures step { IfOk result (λ step. IsStepOf self.now step) }
         ensures begins { IsBeginning self.now → IsOk result }
     {
+        self.work_in(alloc, alloc)
+    }
+
+    /// The same, where what is kept for the work alone lies in `scratch`, as an arena of the worker's own: of a thought the
+    /// open nodes and the wants, of a path question the table and the queue of its search. Nothing of it is left there when
+    /// the work is done.
+    pub fn work_in<A: Allocator + Clone>(
+        &self,
+        alloc: Global,
+        scratch: A,
+    ) -> Result<Step<'t>, AllocError>
+        ensures step { IfOk result (λ step. IsStepOf self.now step) }
+        ensures begins { IsBeginning self.now → IsOk result }
+    {
         match self {
             Task::Logic(task) => Ok(Step::Logic(task.work(alloc)?)),
-            Task::Think(task) => Ok(Step::Think(task.work(alloc)?)),
-            Task::Path(task) => Ok(Step::Path(task.work(alloc)?)),
+            Task::Think(task) => Ok(Step::Think(task.work_in(alloc, scratch)?)),
+            Task::Path(task) => Ok(Step::Path(task.work_in(alloc, scratch)?)),
             Task::Draw(task) => Ok(Step::Draw(task.work(alloc)?)),
         }
     }

@@ -16,20 +16,13 @@ use crate::stand::Stand;
 use crate::think_step::ThinkStep;
 use crate::thought::Thought;
 use crate::way::Way;
-use bt_nodes::Tree;
 use bt_tick::{Memory, Outcome, Pending, View, begin, resume};
-use bumpalo::Bump;
 use grid_world::{Answer, Signals, World};
 use job_core::names::JobName;
 use level_text::Session;
-use std::alloc::{AllocError, Global};
+use std::alloc::{AllocError, Allocator, Global};
 use std::marker::Model;
 use std::sync::Arc;
-
-// Room in an arena for an open node, and for a want, with all lists that grow to hold it.
-const OPEN_BYTES: usize = 64;
-
-const WANT_BYTES: usize = 8;
 
 /// An agent's thought in a frame, at its start or with the answer to the question at which it stood.
 #[derive(Drop)]
@@ -58,47 +51,41 @@ impl<'t> Model for ThinkTask<'t> {
         × IsStand t.session.now t.frame t.agent t.stand };
 }
 
-// An arena with room for all nodes that a tick of the tree has open at a time, and for a want of each node.
-fn arena_for(alloc: Global, tree: &Tree<Global>) -> Result<Bump, AllocError> {
-    let open = tree.depth() as usize * OPEN_BYTES;
-    let wants = tree.size() as usize * WANT_BYTES;
-    Bump::try_with_capacity(alloc, open + wants)
-}
-
-// Begins the tick of the view's agent, with a copy of its memory. The nodes that it has open lie in the arena.
-fn begun<'t, 'a>(
+// Begins the tick of the view's agent, with a copy of its memory. The nodes that it has open lie in `scratch`.
+fn begun<'t, A: Allocator + Clone>(
     alloc: Global,
-    arena: &'a Bump,
+    scratch: A,
     session: &'t Session,
     view: &View,
     memory: &Memory,
-) -> Result<Outcome<'t, Global, &'a Bump>, AllocError>
+) -> Result<Outcome<'t, Global, A>, AllocError>
     requires there { view.now.agent < length session.now.trees }
     requires agent { IsInWorld view.now }
     requires fits { Fits (tree_of session.now view.now.agent) memory.now }
     ensures { IfOk result (λ o. Thinking (view_of view.now) (tree_of session.now view.now.agent) memory.now 0 o) }
 {
     let tree = session.tree_of(view.agent);
-    match begin(arena, tree, view, memory.copy(alloc)?) {
+    match begin(scratch, tree, view, memory.copy(alloc)?) {
         Ok(outcome) => Ok(outcome),
         Err(_) => Err(AllocError),
     }
 }
 
-// Goes on with a copy in the arena of a tick that stands, by the way to the place for which it asks.
-fn resumed<'t, 'a>(
-    arena: &'a Bump,
+// Goes on with a copy in `scratch` of a tick that stands, by the way to the place for which it asks.
+fn resumed<'t, A: Allocator + Clone>(
+    scratch: A,
     view: &View,
     pending: &Pending<'t, Global, Global>,
     answer: Answer,
-) -> Result<Outcome<'t, Global, &'a Bump>, AllocError>
+) -> Result<Outcome<'t, Global, A>, AllocError>
     requires agent { IsInWorld view.now }
     requires way { answer ≡ way view.now.world.now view.now.signals (cell_of (view_of view.now)) (place_of pending.now) }
     ensures { IfOk result (λ o. (tree : Plain) (memory : List ℕ) (i : ℕ)
         → Thinking (view_of view.now) tree memory i (Asks (place_of pending.now) pending.now)
         → Thinking (view_of view.now) tree memory (i + 1) o) }
 {
-    match resume(arena, pending.copy_in(arena)?, view, answer) {
+    let copy = pending.copy_in(scratch.clone()?)?;
+    match resume(scratch, copy, view, answer) {
         Ok(outcome) => Ok(outcome),
         Err(_) => Err(AllocError),
     }
@@ -183,11 +170,11 @@ impl<'t> ThinkTask<'t> {
     }
 
     // Ticks the tree from where it stands, to its end or to its next question.
-    fn ticked<'a>(
+    fn ticked<A: Allocator + Clone>(
         &self,
         alloc: Global,
-        arena: &'a Bump,
-    ) -> Result<Outcome<'t, Global, &'a Bump>, AllocError>
+        scratch: A,
+    ) -> Result<Outcome<'t, Global, A>, AllocError>
         ensures there { self.now.agent < length self.now.game.trees }
         ensures thinks { IfOk result (λ o. ThinksTo self.now.game self.now.frame self.now.agent self.now.answered o) }
     {
@@ -199,7 +186,7 @@ impl<'t> ThinkTask<'t> {
         match &self.stand {
             Stand::Start { memories } => Ok(begun(
                 alloc,
-                arena,
+                scratch,
                 self.session,
                 &view,
                 memories[self.agent as usize].memory(),
@@ -208,15 +195,15 @@ impl<'t> ThinkTask<'t> {
                 question: _,
                 pending,
                 answer,
-            } => Ok(resumed(arena, &view, pending, *answer)?),
+            } => Ok(resumed(scratch, &view, pending, *answer)?),
         }
     }
 
-    // A tick that stands at the next question, copied out of the arena.
-    fn parked(
+    // A tick that stands at the next question, copied out of where it was ticked.
+    fn parked<A: Allocator>(
         &self,
         alloc: Global,
-        pending: &Pending<'t, Global, &Bump>,
+        pending: &Pending<'t, Global, A>,
     ) -> Result<Parked<'t>, AllocError>
         requires { ThinksTo self.now.game self.now.frame self.now.agent self.now.answered (Asks (place_of pending.now) pending.now) }
         ensures { IfOk result (λ p. p ≡ record { game = self.now.game; frame = self.now.frame; agent = self.now.agent; question = self.now.answered }) }
@@ -231,13 +218,24 @@ impl<'t> ThinkTask<'t> {
     }
 
     /// Ticks the tree to its end or to its next question, in the world of the frame before, whatever other agents came
-    /// to. It works on a copy of the memory or of the tick that it has. A tick that asks nothing takes memory three
-    /// times: for the agent's memory, for its being shared, and at once for all nodes that the tick opens.
+    /// to. It works on a copy of the memory or of the tick that it has.
     pub fn work(&self, alloc: Global) -> Result<ThinkStep<'t>, AllocError>
         ensures { IfOk result (λ step. IsThinkStep self.now step) }
     {
-        let arena = arena_for(alloc, self.session.tree_of(self.agent))?;
-        match self.ticked(alloc, &arena)? {
+        self.work_in(alloc, alloc)
+    }
+
+    /// The same, where what is kept for the work alone lies in `scratch`: the open nodes, the wants, and the copy of a tick
+    /// that goes on. A tick that asks nothing takes memory from `alloc` twice, for the agent's memory and for its being
+    /// shared.
+    pub fn work_in<A: Allocator + Clone>(
+        &self,
+        alloc: Global,
+        scratch: A,
+    ) -> Result<ThinkStep<'t>, AllocError>
+        ensures { IfOk result (λ step. IsThinkStep self.now step) }
+    {
+        match self.ticked(alloc, scratch)? {
             Outcome::Ended {
                 status,
                 memory,

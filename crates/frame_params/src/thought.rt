@@ -57,6 +57,12 @@ impl<'t> Thought<'t> {
         }
     }
 
+    pub fn agent(&self) -> u32
+        ensures { result ≡ self.now.number }
+    {
+        self.agent
+    }
+
     /// How many path questions the tick asked.
     pub fn questions(&self) -> u32
         ensures { result ≡ questions_in self.now.game self.now.frame self.now.number }

@@ -2,6 +2,7 @@ ghost use Rattle.std.specs.Prelude.{◌≡◌, length};
 ghost use Rattle.frame_params.specs.Contents.{world_after, statuses_in, bands_in};
 
 use crate::kept_memory::KeptMemory;
+use crate::known::Known;
 use bt_nodes::Status;
 use draw_list::BAND_ROWS;
 use grid_world::World;
@@ -19,6 +20,8 @@ pub struct Turn<'t> {
     pub(crate) world: Arc<World>,
     pub(crate) memories: Arc<Vec<KeptMemory>>,
     pub(crate) statuses: Arc<Vec<Status>>,
+    // What was found under the signals of the frame.
+    pub(crate) known: Known<'t>,
 }
 
 impl<'t> Model for Turn<'t> {
@@ -35,7 +38,8 @@ impl<'t> Model for Turn<'t> {
 
     ghost invariant = { λ t. (0 < t.frame)
         × IsAfter t.session.now t.frame (arc_value t.world) (arc_value t.memories).items
-        × ((arc_value t.statuses).items ≡ statuses_in t.session.now t.frame) };
+        × ((arc_value t.statuses).items ≡ statuses_in t.session.now t.frame)
+        × (t.known.game ≡ t.session.now) };
 }
 
 impl<'t> Turn<'t> {
@@ -49,6 +53,12 @@ impl<'t> Turn<'t> {
         ensures { result ≡ JobName.Logic self.now.frame }
     {
         JobName::Logic { frame: self.frame }
+    }
+
+    pub fn frame(&self) -> u32
+        ensures { result ≡ self.now.frame }
+    {
+        self.frame
     }
 
     /// The world after the frame.

@@ -1,6 +1,7 @@
 ghost use Rattle.std.specs.Prelude.{◌≡◌};
 ghost use Rattle.frame_params.specs.Contents.{way_in};
 
+use crate::kept_distances::KeptDistances;
 use grid_world::Answer;
 use job_core::names::JobName;
 use level_text::Session;
@@ -14,6 +15,8 @@ pub struct Way<'t> {
     pub(crate) agent: u32,
     pub(crate) question: u32,
     pub(crate) answer: Answer,
+    // The distances that its search found; they are under the signals of the frame.
+    pub(crate) found: Option<KeptDistances<'t>>,
 }
 
 impl<'t> Model for Way<'t> {
@@ -24,10 +27,13 @@ impl<'t> Model for Way<'t> {
     ghost coded = { question_code };
 
     ghost use Rattle.frame_params.specs.Thinks.{IsWayOf};
+    ghost use Rattle.frame_params.specs.Contents.{signals_in};
+    ghost use Rattle.frame_params.specs.Distances.{IsUnderIf};
 
     ghost view = { λ w. record { game = w.session.now; frame = w.frame; agent = w.agent; question = w.question } };
 
-    ghost invariant = { λ w. IsWayOf w.session.now w.frame w.agent w.question w.answer };
+    ghost invariant = { λ w. IsWayOf w.session.now w.frame w.agent w.question w.answer
+        × IsUnderIf w.session.now (signals_in w.session.now w.frame) w.found };
 }
 
 impl<'t> Way<'t> {
@@ -45,6 +51,13 @@ impl<'t> Way<'t> {
             agent: self.agent,
             question: self.question,
         }
+    }
+
+    /// The agent that asked.
+    pub fn agent(&self) -> u32
+        ensures { result ≡ self.now.agent }
+    {
+        self.agent
     }
 
     // The first step of the way, or why there is none.

@@ -149,7 +149,7 @@ inner_row g on t t1 t2 t3 y had e1 e2 e3 = record { begins = three; size = omega
     size3 = ap length e3 ∙ length-append t2 (false ∷ []) ∙ (let sum : length t2 + 1 ≡ (y + 1) * stride_of g + (2 + g.width) = omega (arith, size2) in sum)
 
 -- a cell of a row that is neither the first nor the last
-inner_number : (s rows x i h n : ℕ) → rows * s + x ≡ i → 1 ≤ rows → rows ≤ h → x < s → n ≡ (h + 2) * s → (s ≤ i) × (i + s < n)
+pub inner_number : (s rows x i h n : ℕ) → rows * s + x ≡ i → 1 ≤ rows → rows ≤ h → x < s → n ≡ (h + 2) * s → (s ≤ i) × (i + s < n)
 inner_number s rows x i h n place below above column size =
     let first = mul-le 1 s rows s below (omega arith) in
     let last = mul-le (rows + 2) s (h + 2) s (omega (arith, above)) (omega arith) in

@@ -8,3 +8,4 @@ pub mod Answered
 pub mod Places
 pub mod Asked
 pub mod Doors
+pub mod Measured

@@ -1,3 +1,4 @@
 pub mod Bordered
 pub mod Levels
 pub mod Around
+pub mod Distances

@@ -2,7 +2,9 @@
 #![tactic(auto)]
 
 mod around;
+mod distances;
 mod fault;
+mod marks;
 mod question;
 mod search;
 mod searcher;
@@ -10,6 +12,7 @@ mod table;
 #[cfg(test)]
 mod tests;
 
+pub use distances::Distances;
 pub use fault::PathFault;
 pub use grid_world::Answer;
 pub use question::ask;

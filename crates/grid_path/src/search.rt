@@ -21,7 +21,7 @@ fn put(queue: &mut [u32], met: usize, cell: usize, is_new: bool) -> usize
 }
 
 /// Queues a cell that is open and not met yet. Answers how many cells stand in the queue then.
-fn meet(unmet: &mut [bool], queue: &mut [u32], met: usize, cell: usize) -> usize
+pub(crate) fn meet(unmet: &mut [bool], queue: &mut [u32], met: usize, cell: usize) -> usize
     requires cell { cell < length unmet.old }
     requires number { cell < 2 ^ 32 }
     requires room { met < length queue.old }
@@ -59,7 +59,7 @@ fn expand(unmet: &mut [bool], queue: &mut [u32], stride: usize, met: usize, cell
 }
 
 /// Expands the cells that stand in the queue from `head` on, before `end`.
-fn expand_level(
+pub(crate) fn expand_level(
     unmet: &mut [bool],
     queue: &mut [u32],
     stride: usize,

@@ -68,8 +68,7 @@ impl World {
     ///
     /// `#` is a wall, `.` floor, `*` floor with an item, `a` to `z` a door of that signal, `0` to `9` a
     /// place, `A` to `Z` an agent on floor, with empty hands. The characters of a row are Unicode scalar
-    /// values. Takes time linear in
-    /// the number of cells.
+    /// values. Takes time linear in the number of cells.
     pub fn from_rows(alloc: Global, rows: &[String]) -> Result<World, MapFault>
         ensures ok { IfOk result (λ w. (map_fault (rows_of rows.now) ≡ None) × (w ≡ grid_of (rows_of rows.now))) }
         ensures err { IfErr result (λ e. (e ≡ OutOfMemory) ⊎ (map_fault (rows_of rows.now) ≡ Some e)) }

@@ -25,13 +25,13 @@ use Rattle.frame_params.specs.declared.task.Task.{Task}
 use Rattle.job_board.specs.Boards.{Played, jobs_of, setup_in, state_in, with_event, Happens, IsStart, IsResume, Starts, Resumes, IsOn, IsBeginning, NeedsBeginning, IsRefused, IsTakeRefused, IsEmitRefused, NoOther, IsBoard}
 use Rattle.frame_params.specs.Names.{QuestionOf}
 use Rattle.frame_params.specs.Contents.{questions_in, seen, memory_before, world_after, memories_after}
-use Rattle.job_board.specs.Dones.{game_done, job_done, IsDoneAt}
-use Rattle.job_board.specs.declared.done.Done.{Done}
-use Rattle.job_board.specs.declared.done.Done.TheVariants.{Turned, Thought, Way, Drawn}
+use Rattle.job_shelf.specs.Dones.{game_done, job_done, IsDoneAt}
+use Rattle.job_shelf.specs.declared.done.Done.{Done}
+use Rattle.job_shelf.specs.declared.done.Done.TheVariants.{Turned, Thought, Way, Drawn}
 use Rattle.board_law.specs.Stored.{store}
 use Rattle.board_law.specs.Needed.{HasParts, IsThere}
 use Rattle.job_machine.specs.Numbers.{IsWithinLimits}
-use Rattle.job_board.specs.Shelf.{Shelved, Stores, sizes}
+use Rattle.job_shelf.specs.Shelf.{Shelved, Stores, sizes}
 use Rattle.job_board.proofs.Sized.{shelf_of, there_of, stored_next}
 use Rattle.job_board.specs.Works.{MayBeTakenUp}
 use Rattle.job_board.proofs.Tasked.{job_is}

@@ -1,12 +1,12 @@
-pub mod Parting
-pub mod Shelving
 pub mod Boarding
 pub mod Tasked
 pub mod Sized
-pub mod Handed
 pub mod Working
 pub mod Staying
 pub mod Applying
 pub mod Owning
 pub mod Coming
 pub mod Ending
+pub mod Crossing
+pub mod OfItsGame
+pub mod Beginning

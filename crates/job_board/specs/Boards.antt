@@ -18,7 +18,7 @@ use Rattle.board_law.specs.Stored.{stored_after}
 use Rattle.job_machine.specs.Numbers.{Numbers, IsWithinLimits}
 use Rattle.job_log.specs.Logged.{Logged, setup_of}
 use Rattle.job_log.specs.declared.fault.BoardFault.{BoardFault}
-use Rattle.job_board.specs.Shelf.{Shelved}
+use Rattle.job_shelf.specs.Shelf.{Shelved}
 use Rattle.job_log.specs.declared.fault.BoardFault.TheVariants.{Stopped, NoWorker, Busy, NotRunning, WrongResult, Illegal, OutOfMemory}
 
 -- the game, the numbers of the run, and the events so far
@@ -51,6 +51,10 @@ pub record Happens (old new : Played) (e : Event) : Type 0 where
 -- what an idle worker is given
 abbrev pub pick_in : Played → Option Pick
 pick_in b = pick (tally not (core_of (setup_in b) b.events).seats.taken) (core_of (setup_in b) b.events).queues
+
+-- nothing is stopped, and a worker that is idle is given a job
+abbrev pub GivesJob : Played → Type 0
+GivesJob b = ((state_in b).stopped ≡ false) × (pick_in b ≡ None → ⊥)
 
 pub record Starts (old new : Played) (w : ℕ) (task : Task) : Type 0 where
   pub happens : Happens old new (Start w (job_of task))

@@ -1,9 +1,6 @@
-pub mod Parts
-pub mod Shelf
-pub mod ShelfCode
 pub mod Boards
 pub mod BoardCode
-pub mod Dones
 pub mod Parked
+pub mod HandedIn
 pub mod Works
 pub mod Playing

@@ -14,8 +14,8 @@ use Rattle.frame_params.specs.declared.step.Step.{Step}
 use Rattle.job_core.specs.Core.{Runs, Waits, IsLegal, IsLegalList}
 use Rattle.job_board.specs.Boards.{Played, setup_in, state_in}
 use Rattle.job_board.specs.BoardCode.{job_code}
-use Rattle.job_board.specs.Dones.{game_done, job_done}
-use Rattle.job_board.specs.declared.done.Done.{Done}
+use Rattle.job_shelf.specs.Dones.{game_done, job_done}
+use Rattle.job_shelf.specs.declared.done.Done.{Done}
 
 pub record WorkOf : Type 0 where
   pub game : Game

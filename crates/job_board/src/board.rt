@@ -1,20 +1,20 @@
 ghost use Rattle.std.specs.Prelude.{◌≡◌, ℕ, IfOk, IfErr, OnOk, OnErr, true, false, [], replicate, slice_set};
 ghost use Rattle.job_core.specs.declared.names.JobName.TheVariants.{Logic, Think};
-ghost use Rattle.job_core.specs.declared.names.Event.TheVariants.{Ask, Spread, Hold, Finish};
-ghost use Rattle.job_core.specs.Core.{IsLegalList, IsComplete};
-ghost use Rattle.job_board.specs.Boards.{setup_in, state_in, Happens, IsDoneByLogic, IsTaken, IsTakeRefused, IsRefused, IsEmitRefused, IsShown, IsStopped, NoOther};
-ghost use Rattle.job_board.specs.Dones.{job_done, IsOtherDone};
+ghost use Rattle.job_core.specs.declared.names.Event.TheVariants.{Ask, Spread, Hold, Finish, Emit};
+ghost use Rattle.job_core.specs.Core.{IsLegal, IsLegalList, IsComplete};
+ghost use Rattle.job_board.specs.Boards.{setup_in, state_in, Happens, IsDoneByLogic, IsTaken, IsTakeRefused, GivesJob, IsRefused, IsEmitRefused, IsShown, IsStopped, NoOther};
+ghost use Rattle.job_shelf.specs.Dones.{game_done, job_done, IsOtherDone};
 ghost use Rattle.job_board.specs.Parked.{IsOtherParked};
-ghost use Rattle.job_board.specs.Playing.{IsOwn};
+ghost use Rattle.job_board.specs.Playing.{IsOwn, NothingToShow, NobodyStarts};
 
-use super::done::{Done, Refused};
+use super::refused::Refused;
 use super::run::Run;
-use super::shown::Shown;
 use super::works::Works;
 use frame_params::{Parked, Task};
 use job_core::names::Event;
 use job_log::BoardFault;
 use job_machine::{OutOfMemory, Settings};
+use job_shelf::{Done, Shown};
 use level_text::Session;
 use std::alloc::Global;
 use std::marker::Model;
@@ -106,6 +106,27 @@ impl<'t> Board<'t> {
         self.run.take(worker)
     }
 
+    /// Whether a `take` by an idle worker would give it a task, or ask for memory: what a worker that sleeps waits for. It
+    /// says so too while all workers are busy.
+    pub fn may_take(&self) -> bool
+        ensures yes { result ≡ true → GivesJob self.now.run }
+        ensures no { result ≡ false → GivesJob self.now.run → ⊥ }
+        ensures nobody { result ≡ false → NobodyStarts self.now.run }
+    {
+        self.run.may_take()
+    }
+
+    /// Whether a frame can be shown: an `emit` would show it, or ask for memory.
+    pub fn may_show(&self) -> bool
+        ensures yes { result ≡ true → (frame : ℕ) × IsLegal (setup_in self.now.run) (state_in self.now.run) (Emit frame) }
+        ensures no { result ≡ false → NothingToShow self.now.run }
+    {
+        match self.run.to_show() {
+            Some(_) => true,
+            None => false,
+        }
+    }
+
     /// The worker's Logic, at its start, queues the thinks of its frame and waits for them.
     pub fn spread(&mut self, worker: u32) -> Result<(), BoardFault>
         ensures ok { OnOk result (IsDoneByLogic self.old.run self.new.run (λ f. Spread worker (Logic f))) }
@@ -152,6 +173,23 @@ impl<'t> Board<'t> {
         Ok(())
     }
 
+    /// The same for a tick of a task of this board, whose game is the board's: no sessions are compared.
+    pub fn ask_own(&mut self, worker: u32, parked: Parked<'t>) -> Result<(), Refused<Parked<'t>>>
+        requires { parked.game ≡ self.old.run.game }
+        ensures ok { OnOk result (Happens self.old.run self.new.run (Ask worker (Think parked.entry.frame parked.entry.agent))) }
+        ensures worked { OnOk result (self.new.worked ≡ slice_set self.old.worked worker false) }
+        ensures refused { IfErr result (λ r. IsRefused self.old.run worker (IsOtherParked parked.entry self.old.run.game) (Ask worker) r.fault) }
+        ensures back { IfErr result (λ r. r.value ≡ parked.entry) }
+        ensures unchanged { OnErr result (self.new ≡ self.old) }
+    {
+        match self.run.ask_own(worker, parked) {
+            Ok(()) => {}
+            Err(refused) => return Err(refused),
+        }
+        self.works.clear(worker);
+        Ok(())
+    }
+
     /// The worker's job is over, with what its work came to.
     pub fn finish(&mut self, worker: u32, done: Done<'t>) -> Result<(), Refused<Done<'t>>>
         ensures ok { OnOk result (Happens self.old.run self.new.run (Finish worker (job_done done.entry))) }
@@ -161,6 +199,23 @@ impl<'t> Board<'t> {
         ensures unchanged { OnErr result (self.new ≡ self.old) }
     {
         match self.run.finish(worker, done) {
+            Ok(()) => {}
+            Err(refused) => return Err(refused),
+        }
+        self.works.clear(worker);
+        Ok(())
+    }
+
+    /// The same for what came of a task of this board, whose game is the board's: no sessions are compared.
+    pub fn finish_own(&mut self, worker: u32, done: Done<'t>) -> Result<(), Refused<Done<'t>>>
+        requires { game_done done ≡ self.old.run.game }
+        ensures ok { OnOk result (Happens self.old.run self.new.run (Finish worker (job_done done.entry))) }
+        ensures worked { OnOk result (self.new.worked ≡ slice_set self.old.worked worker false) }
+        ensures refused { IfErr result (λ r. IsRefused self.old.run worker (IsOtherDone done.entry self.old.run.game) (Finish worker) r.fault) }
+        ensures back { IfErr result (λ r. r.value ≡ done.entry) }
+        ensures unchanged { OnErr result (self.new ≡ self.old) }
+    {
+        match self.run.finish_own(worker, done) {
             Ok(()) => {}
             Err(refused) => return Err(refused),
         }

@@ -2,29 +2,26 @@
 #![tactic(auto)]
 
 mod apply;
-mod asking;
 mod board;
-mod done;
-mod drawn;
 mod enabled;
+mod fitting;
+mod hand_in;
 #[cfg(test)]
 mod hand_tests;
 pub mod laws;
 mod moves;
 mod next;
+mod refused;
 mod results;
 mod run;
-mod shelf;
-mod shown;
 #[cfg(test)]
 mod tests;
-mod thoughts;
 mod work;
 mod works;
 
 pub use board::Board;
-pub use done::{Done, Refused};
 pub use job_core::names::{Event, JobName};
 pub use job_log::BoardFault;
 pub use job_machine::{OutOfMemory, Settings, SettingsFault};
-pub use shown::Shown;
+pub use job_shelf::{Done, Shown};
+pub use refused::Refused;

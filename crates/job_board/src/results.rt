@@ -3,21 +3,50 @@ ghost use Rattle.job_core.specs.declared.names.JobName.TheVariants.{Think};
 ghost use Rattle.job_core.specs.declared.names.Event.TheVariants.{Ask, Finish};
 ghost use Rattle.job_core.specs.Core.{Runs, IsLegal};
 ghost use Rattle.job_board.specs.Boards.{setup_in, state_in, Happens, IsRefused, IsEmitRefused, IsShown, IsStopped};
-ghost use Rattle.job_board.specs.Dones.{game_done, job_done, IsOtherDone};
+ghost use Rattle.job_shelf.specs.Dones.{game_done, job_done, IsOtherDone};
 ghost use Rattle.job_board.specs.Parked.{IsOtherParked};
 
-use super::done::{Done, Refused, agent_of, is_parked_for};
-use super::drawn::Drawn;
+use super::fitting::{is_of, is_parked_at};
+use super::refused::Refused;
 use super::run::{Run, bands_of};
-use super::shelf::next_of;
-use super::shown::Shown;
 use frame_params::Parked;
 use job_log::BoardFault;
+use job_shelf::{Done, Drawn, Shown, next_of};
 
 // The calls that hand a result in, and those that hand one out.
 impl<'t> Run<'t> {
     /// The worker's Think asks the question at which its tick stands.
     pub(crate) fn ask(&mut self, worker: u32, parked: Parked<'t>) -> Result<(), Refused<Parked<'t>>>
+        ensures ok { OnOk result (Happens self.old self.new (Ask worker (Think parked.entry.frame parked.entry.agent))) }
+        ensures refused { IfErr result (λ r. IsRefused self.old worker (IsOtherParked parked.entry self.old.game) (Ask worker) r.fault) }
+        ensures back { IfErr result (λ r. r.value ≡ parked.entry) }
+        ensures unchanged { OnErr result (self.new ≡ self.old) }
+    {
+        match self.jobs.running(worker) {
+            Ok(_) => {}
+            Err(fault) => {
+                return Err(Refused {
+                    fault,
+                    value: parked,
+                });
+            }
+        }
+        if !parked.session().is_same(self.session) {
+            return Err(Refused {
+                fault: BoardFault::WrongResult,
+                value: parked,
+            });
+        }
+        self.ask_own(worker, parked)
+    }
+
+    /// The same for a tick of a task of this run: it is of the run's game, so that no sessions are compared.
+    pub(crate) fn ask_own(
+        &mut self,
+        worker: u32,
+        parked: Parked<'t>,
+    ) -> Result<(), Refused<Parked<'t>>>
+        requires { parked.game ≡ self.old.game }
         ensures ok { OnOk result (Happens self.old self.new (Ask worker (Think parked.entry.frame parked.entry.agent))) }
         ensures refused { IfErr result (λ r. IsRefused self.old worker (IsOtherParked parked.entry self.old.game) (Ask worker) r.fault) }
         ensures back { IfErr result (λ r. r.value ≡ parked.entry) }
@@ -32,7 +61,7 @@ impl<'t> Run<'t> {
                 });
             }
         };
-        if !is_parked_for(&parked, self.session, held) {
+        if !is_parked_at(&parked, held) {
             return Err(Refused {
                 fault: BoardFault::WrongResult,
                 value: parked,
@@ -56,7 +85,8 @@ impl<'t> Run<'t> {
         ensures back { IfErr result (λ back. back ≡ parked.entry) }
         ensures unchanged { OnErr result (self.new ≡ self.old) }
     {
-        let (frame, agent) = agent_of(&parked);
+        let frame = parked.frame();
+        let agent = parked.agent();
         let question = parked.index();
         // A tick asks at most as often as its tree has nodes.
         let nodes = self.session.tree_of(agent).size();
@@ -75,11 +105,36 @@ impl<'t> Run<'t> {
         ensures back { IfErr result (λ r. r.value ≡ done.entry) }
         ensures unchanged { OnErr result (self.new ≡ self.old) }
     {
+        match self.jobs.running(worker) {
+            Ok(_) => {}
+            Err(fault) => return Err(Refused { fault, value: done }),
+        }
+        if !done.session().is_same(self.session) {
+            return Err(Refused {
+                fault: BoardFault::WrongResult,
+                value: done,
+            });
+        }
+        self.finish_own(worker, done)
+    }
+
+    /// The same for what came of a task of this run: it is of the run's game, so that no sessions are compared.
+    pub(crate) fn finish_own(
+        &mut self,
+        worker: u32,
+        done: Done<'t>,
+    ) -> Result<(), Refused<Done<'t>>>
+        requires { game_done done ≡ self.old.game }
+        ensures ok { OnOk result (Happens self.old self.new (Finish worker (job_done done.entry))) }
+        ensures refused { IfErr result (λ r. IsRefused self.old worker (IsOtherDone done.entry self.old.game) (Finish worker) r.fault) }
+        ensures back { IfErr result (λ r. r.value ≡ done.entry) }
+        ensures unchanged { OnErr result (self.new ≡ self.old) }
+    {
         let held = match self.jobs.running(worker) {
             Ok(held) => held,
             Err(fault) => return Err(Refused { fault, value: done }),
         };
-        if !done.is_for(self.session, held.job) {
+        if !is_of(&done, held.job) {
             return Err(Refused {
                 fault: BoardFault::WrongResult,
                 value: done,
@@ -114,7 +169,7 @@ impl<'t> Run<'t> {
         let Ok(()) = self.jobs.finish(worker, done.name()) else {
             return Err(done);
         };
-        self.shelf.keep(done, next);
+        self.shelf.keep(self.alloc, done, next);
         Ok(())
     }
 

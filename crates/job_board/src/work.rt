@@ -2,11 +2,12 @@ ghost use Rattle.std.specs.Prelude.{◌≡◌, ◌<◌, true, false, IfOk, IfErr
 ghost use Rattle.job_core.specs.declared.names.JobName.TheVariants.{Think};
 ghost use Rattle.frame_params.specs.Contents.{questions_in};
 ghost use Rattle.frame_params.specs.Tasks.{IsTaskAt};
-ghost use Rattle.job_board.specs.Dones.{game_done, job_done};
+ghost use Rattle.job_shelf.specs.Dones.{game_done, job_done};
 
-use super::done::Done;
+use bumpalo::Bump;
 use frame_params::{LogicStep, Parked, Step, Task, ThinkStep};
 use job_core::names::JobName;
+use job_shelf::Done;
 use level_text::Session;
 use std::alloc::{AllocError, Global};
 use std::marker::Model;
@@ -35,7 +36,7 @@ impl<'t> Model for Work<'t> {
 impl<'t> Work<'t> {
     ghost use Rattle.job_board.specs.Works.{work_of, IsOver, GoesOn, AsksNothing, IsDoneOf, IsParkedOf};
 
-    /// Does the work of a job that stands at this step.
+    /// Does the work of a job that stands at this step, in an arena of its own.
     pub(crate) fn of(
         alloc: Global,
         session: &'t Session,
@@ -46,11 +47,13 @@ impl<'t> Work<'t> {
         requires { IsTaskAt session.now job step task.now }
         ensures { IfOk result (λ work. work ≡ work_of session.now job step) }
     {
+        let arena = Bump::new(alloc);
+        let result = task.work_in(alloc, &arena)?;
         Ok(Work {
             session,
             job,
             step,
-            result: task.work(alloc)?,
+            result,
         })
     }
 
@@ -61,12 +64,7 @@ impl<'t> Work<'t> {
         ensures { result ≡ work_of session.now (job_done done.entry) step }
     {
         let job = done.name();
-        let result = match done {
-            Done::Turned(turn) => Step::Logic(LogicStep::Turned(turn)),
-            Done::Thought(thought) => Step::Think(ThinkStep::Ended(thought)),
-            Done::Way(way) => Step::Path(way),
-            Done::Drawn(band) => Step::Draw(band),
-        };
+        let result = done.into_step();
         Work {
             session,
             job,

@@ -1,36 +1,152 @@
--- Worked settings and lists, by computing: how many events they have at most, and where a list stops being legal.
-use Rattle.std.proofs.Common.{◌≡◌, List, [], ◌∷◌, length, refl}
-use Rattle.job_core.specs.declared.names.JobName.TheVariants.{Logic, Think, Path}
+-- Worked settings and runs, by computing: how long they are, which are complete, and where a list stops being legal.
+use Rattle.std.proofs.Common.{◌≡◌, ◌≤◌, List, [], ◌∷◌, ◌++◌, length, refl, arith}
+use Rattle.job_core.specs.declared.names.JobName.TheVariants.{Logic, Think, Path, Draw}
 use Rattle.job_core.specs.declared.names.Event.{Event}
 use Rattle.job_core.specs.declared.names.Event.TheVariants.{Start, Resume, Ask, Spread, Finish}
-use Rattle.job_core.specs.Core.{IsLegal, IsLegalList, opening, state}
-use Rattle.job_core.specs.Amounts.{most}
+use Rattle.job_core.specs.Core.{IsLegal, IsLegalList, IsComplete, free, opening, state}
+use Rattle.job_core.specs.Amounts.{most, least, holds}
+use Rattle.job_core.specs.Worked.{setup_of, lone, one_slot, two_slots, two_agents, no_agents, two_workers, one_frame, held_once, second_begun, second_ended, spread_once, asked_once, one_drawn, both_drawn, shared}
 use Rattle.job_core.proofs.Shape.{opens}
-use Rattle.job_core.proofs.Decide.{checks-true, small, whole}
+use Rattle.job_core.proofs.Once.{shape_at}
+use Rattle.job_core.proofs.Decide.{checks-true, may-true}
 
-whole_length : (length whole ≡ 13) × (most small ≡ 13)
-unfolding small whole
-whole_length = (refl, refl)
+pub one_frame_complete : IsComplete lone one_frame
+unfolding setup_of lone one_frame
+one_frame_complete = (checks-true lone one_frame (opening lone) (opens lone) refl, refl, refl)
+
+pub one_frame_length : (length one_frame ≡ 13) × (most lone ≡ 13)
+unfolding setup_of lone one_frame
+one_frame_length = (refl, refl)
+
+pub held_complete : IsComplete one_slot held_once
+unfolding setup_of one_slot held_once
+held_complete = (checks-true one_slot held_once (opening one_slot) (opens one_slot) refl, refl, refl)
+
+pub held_length : (holds held_once ≡ 1) × (length held_once ≡ most one_slot)
+unfolding setup_of one_slot held_once
+held_length = (refl, refl)
+
+-- ---- a Draw and a Path on the last fiber
+
+pub begun_free : free two_slots (state two_slots second_begun) ≡ 1
+unfolding setup_of two_slots second_begun
+begun_free = refl
+
+begun_legal : IsLegalList two_slots second_begun
+unfolding setup_of two_slots second_begun
+begun_legal = checks-true two_slots second_begun (opening two_slots) (opens two_slots) refl
+
+pub draw_starts : IsLegal two_slots (state two_slots second_begun) (Start 0 (Draw 1 0))
+unfolding setup_of two_slots second_begun
+draw_starts = (refl, may-true two_slots (state two_slots second_begun) (shape_at two_slots second_begun begun_legal) (Start 0 (Draw 1 0)) refl)
+
+pub path_starts : IsLegal two_slots (state two_slots second_begun) (Start 0 (Path 2 0 0))
+unfolding setup_of two_slots second_begun
+path_starts = (refl, may-true two_slots (state two_slots second_begun) (shape_at two_slots second_begun begun_legal) (Start 0 (Path 2 0 0)) refl)
+
+pub second_complete : IsComplete two_slots (second_begun ++ second_ended)
+unfolding setup_of two_slots second_begun second_ended
+second_complete = (checks-true two_slots (second_begun ++ second_ended) (opening two_slots) (opens two_slots) refl, refl, refl)
+
+pub second_length : length (second_begun ++ second_ended) ≡ least two_slots
+unfolding setup_of two_slots second_begun second_ended
+second_length = refl
+
+-- ---- a Think leaves a fiber
+
+pub spread_free : free (two_agents 3) (state (two_agents 3) spread_once) ≡ 2
+unfolding setup_of two_agents spread_once
+spread_free = refl
+
+spread_legal : IsLegalList (two_agents 3) spread_once
+unfolding setup_of two_agents spread_once
+spread_legal = checks-true (two_agents 3) spread_once (opening (two_agents 3)) (opens (two_agents 3)) refl
+
+pub think_starts : IsLegal (two_agents 3) (state (two_agents 3) spread_once) (Start 0 (Think 1 0))
+unfolding setup_of two_agents spread_once
+think_starts = (refl, may-true (two_agents 3) (state (two_agents 3) spread_once) (shape_at (two_agents 3) spread_once spread_legal) (Start 0 (Think 1 0)) refl)
+
+pub asked_free : free (two_agents 3) (state (two_agents 3) asked_once) ≡ 1
+unfolding setup_of two_agents asked_once
+asked_free = refl
+
+pub think_waits : IsLegal (two_agents 3) (state (two_agents 3) asked_once) (Start 0 (Think 1 1)) → ⊥
+unfolding setup_of two_agents asked_once
+think_waits h = let l : 2 ≤ 1 = h.1.3 in omega (arith, l)
+
+asked_legal : IsLegalList (two_agents 4) asked_once
+unfolding setup_of two_agents asked_once
+asked_legal = checks-true (two_agents 4) asked_once (opening (two_agents 4)) (opens (two_agents 4)) refl
+
+pub think_starts_then : IsLegal (two_agents 4) (state (two_agents 4) asked_once) (Start 0 (Think 1 1))
+unfolding setup_of two_agents asked_once
+think_starts_then = (refl, may-true (two_agents 4) (state (two_agents 4) asked_once) (shape_at (two_agents 4) asked_once asked_legal) (Start 0 (Think 1 1)) refl)
+
+-- ---- and a Logic
+
+pub drawn_free : free (no_agents 3) (state (no_agents 3) one_drawn) ≡ 2
+unfolding setup_of no_agents one_drawn
+drawn_free = refl
+
+drawn_legal : IsLegalList (no_agents 3) one_drawn
+unfolding setup_of no_agents one_drawn
+drawn_legal = checks-true (no_agents 3) one_drawn (opening (no_agents 3)) (opens (no_agents 3)) refl
+
+pub logic_starts : IsLegal (no_agents 3) (state (no_agents 3) one_drawn) (Start 2 (Logic 2))
+unfolding setup_of no_agents one_drawn
+logic_starts = (refl, may-true (no_agents 3) (state (no_agents 3) one_drawn) (shape_at (no_agents 3) one_drawn drawn_legal) (Start 2 (Logic 2)) refl)
+
+pub both_free : free (no_agents 3) (state (no_agents 3) both_drawn) ≡ 1
+unfolding setup_of no_agents both_drawn
+both_free = refl
+
+pub logic_waits : IsLegal (no_agents 3) (state (no_agents 3) both_drawn) (Start 2 (Logic 2)) → ⊥
+unfolding setup_of no_agents both_drawn
+logic_waits h = let l : 2 ≤ 1 = h.1.3 in omega (arith, l)
+
+both_legal : IsLegalList (no_agents 4) both_drawn
+unfolding setup_of no_agents both_drawn
+both_legal = checks-true (no_agents 4) both_drawn (opening (no_agents 4)) (opens (no_agents 4)) refl
+
+pub logic_starts_then : IsLegal (no_agents 4) (state (no_agents 4) both_drawn) (Start 2 (Logic 2))
+unfolding setup_of no_agents both_drawn
+logic_starts_then = (refl, may-true (no_agents 4) (state (no_agents 4) both_drawn) (shape_at (no_agents 4) both_drawn both_legal) (Start 2 (Logic 2)) refl)
+
+-- ---- two workers
+
+pub shared_complete : IsComplete two_workers shared
+unfolding setup_of two_workers shared
+shared_complete = (checks-true two_workers shared (opening two_workers) (opens two_workers) refl, refl, refl)
+
+pub shared_length : length shared ≡ least two_workers
+unfolding setup_of two_workers shared
+shared_length = refl
+
+-- ---- amounts
 
 -- 26 agents that ask once each, over two frames in one slot
-crowd_length : most (record { frames = 2; agents = 26; bands = 1; questions = λ f a. 1; workers = 1; fibers = 16; slots = 1 }) ≡ 328
+crowd_length : most (setup_of 2 26 1 1 16 1) ≡ 328
+unfolding setup_of
 crowd_length = refl
 
 -- no agents, two frames of three bands
-empty_map_length : most (record { frames = 2; agents = 0; bands = 3; questions = λ f a. 0; workers = 1; fibers = 16; slots = 3 }) ≡ 22
+empty_map_length : most (setup_of 2 0 3 1 16 3) ≡ 22
+unfolding setup_of
 empty_map_length = refl
 
 -- one agent that asks twice in one frame
 two_questions_length : most (record { frames = 1; agents = 1; bands = 1; questions = λ f a. 2; workers = 1; fibers = 16; slots = 3 }) ≡ 17
 two_questions_length = refl
 
--- the whole run, up to the end of its think
+-- ---- where a list stops being legal
+
+-- the first frame, up to the end of its think
 eight : List Event
 eight =
     Start 0 (Logic 1) ∷ Spread 0 (Logic 1) ∷ Start 0 (Think 1 0) ∷ Ask 0 (Think 1 0) ∷ Start 0 (Path 1 0 0) ∷ Finish 0 (Path 1 0 0)
     ∷ Resume 0 (Think 1 0) ∷ Finish 0 (Think 1 0) ∷ []
 
 -- a think that is finished a second time is the first event that isn't legal, at index 8
-finished_twice : (length eight ≡ 8) × IsLegalList small eight × (IsLegal small (state small eight) (Finish 0 (Think 1 0)) → ⊥)
-unfolding small eight
-finished_twice = (refl, checks-true small eight (opening small) (opens small) refl, λ h. let e = h.1.1 in absurd cc)
+finished_twice : (length eight ≡ 8) × IsLegalList lone eight × (IsLegal lone (state lone eight) (Finish 0 (Think 1 0)) → ⊥)
+unfolding setup_of lone eight
+finished_twice = (refl, checks-true lone eight (opening lone) (opens lone) refl, λ h. let e = h.1.1 in absurd cc)

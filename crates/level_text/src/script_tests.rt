@@ -1,4 +1,4 @@
-use crate::{Script, ScriptFault, Session, read_level, read_script};
+use crate::{Script, Session, read_level, read_script};
 use grid_world::Signal;
 use std::test::Fail;
 
@@ -21,78 +21,6 @@ fn signals_change_in_their_frames(rt: HostRuntime) -> Result<(), Fail> {
     let none = Script::empty(rt.alloc());
     assert_eq!(rt; none.signals(1).is_on(a), false);
     Ok(())
-}
-
-#[test]
-fn lines_of_one_frame_change_in_turn(rt: HostRuntime) -> Result<(), Fail> {
-    let script = read_script(rt.alloc(), b"2 on z\n2 off z\n2 on z\n9999 off z")?;
-    let z = Signal::new(25).ok_or("a letter")?;
-    for (frame, on) in [(1, false), (2, true), (9998, true), (9999, false)] {
-        assert_eq!(rt; script.signals(frame).is_on(z), on, "in frame {frame}");
-    }
-    Ok(())
-}
-
-#[test]
-fn the_first_faulty_line_decides(rt: HostRuntime) {
-    for (text, fault) in [
-        (
-            b"2 on a\n1 on b\n".as_slice(),
-            Some(ScriptFault::Order { n: 2 }),
-        ),
-        (b"0 on a\n", Some(ScriptFault::Line { n: 1 })),
-        (b"1 on a", None),
-        (b"", None),
-        (b"\n", Some(ScriptFault::Line { n: 1 })),
-        (b"1 on a\n\n", Some(ScriptFault::Line { n: 2 })),
-        (b"01 on a", Some(ScriptFault::Line { n: 1 })),
-        (b"9999 on a", None),
-        (b"10000 on a", Some(ScriptFault::Line { n: 1 })),
-        (
-            b"99999999999999999999999 on a",
-            Some(ScriptFault::Line { n: 1 }),
-        ),
-        (b"1 on a\r\n", Some(ScriptFault::Line { n: 1 })),
-        (b"+1 on a", Some(ScriptFault::Line { n: 1 })),
-        (b" on a", Some(ScriptFault::Line { n: 1 })),
-        (b"1 on A", Some(ScriptFault::Line { n: 1 })),
-        (b"1 on ab", Some(ScriptFault::Line { n: 1 })),
-        (b"1 on ", Some(ScriptFault::Line { n: 1 })),
-        (b"1 on a ", Some(ScriptFault::Line { n: 1 })),
-        (b" 1 on a", Some(ScriptFault::Line { n: 1 })),
-        (b"1  on a", Some(ScriptFault::Line { n: 1 })),
-        (b"1\ton a", Some(ScriptFault::Line { n: 1 })),
-        (b"1 On a", Some(ScriptFault::Line { n: 1 })),
-        (b"1 off\n", Some(ScriptFault::Line { n: 1 })),
-        (b"\xff on a", Some(ScriptFault::Line { n: 1 })),
-        // Of two faulty lines the first, whatever its fault; a line that is no change has no order.
-        (b"3 on a\n2 on b\nx\n", Some(ScriptFault::Order { n: 2 })),
-        (b"3 on a\nx\n2 on b\n", Some(ScriptFault::Line { n: 2 })),
-        (b"3 on a\n2 on B\n", Some(ScriptFault::Line { n: 2 })),
-        (
-            b"3 on a\n4 on a\n3 on a\n",
-            Some(ScriptFault::Order { n: 3 }),
-        ),
-    ] {
-        assert_eq!(rt; read_script(rt.alloc(), text).err(), fault, "at {text:?}");
-    }
-}
-
-#[test]
-fn a_script_cut_short(rt: HostRuntime) {
-    let text = b"2 on a\n3 off a\n";
-    for k in 0..16 {
-        let fault = match k {
-            0 | 6 | 7 | 14 | 15 => None,
-            1..=5 => Some(ScriptFault::Line { n: 1 }),
-            _ => Some(ScriptFault::Line { n: 2 }),
-        };
-        assert_eq!(rt;
-            read_script(rt.alloc(), &text[..k]).err(),
-            fault,
-            "of {k} bytes"
-        );
-    }
 }
 
 #[test]

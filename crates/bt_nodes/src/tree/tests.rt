@@ -32,13 +32,6 @@ fn pair(
     Ok(Node::Seq(nodes))
 }
 
-fn fault(root: Node<Global>) -> Option<TreeFault> {
-    match Tree::new(root) {
-        Ok(_) => None,
-        Err((fault, _)) => Some(fault),
-    }
-}
-
 #[test]
 fn an_inverted_condition_is_copied_into_an_arena(rt: HostRuntime) -> Result<(), Fail> {
     let Ok(tree) = Tree::new(nested(rt.alloc(), 1)?) else {
@@ -64,97 +57,6 @@ fn a_refused_root_comes_back(rt: HostRuntime) -> Result<(), Fail> {
     };
     assert_eq!(rt; fault, TreeFault::NoChild);
     assert_eq!(rt; format!(in rt.alloc(); "{root:?}")?.as_str(), "Seq([])");
-    Ok(())
-}
-
-#[test]
-fn the_greatest_trees(rt: HostRuntime) -> Result<(), Fail> {
-    let alloc = rt.alloc();
-    assert_eq!(rt; fault(nested(alloc, 31)?), None);
-    assert_eq!(rt; fault(nested(alloc, 32)?), Some(TreeFault::TooDeep));
-    assert_eq!(rt; fault(Node::Seq(list(alloc, 254)?)), None);
-    assert_eq!(rt;
-        fault(Node::Seq(list(alloc, 255)?)),
-        Some(TreeFault::TooManyNodes)
-    );
-    Ok(())
-}
-
-#[test]
-fn each_limit_is_kept_at_its_ends(rt: HostRuntime) -> Result<(), Fail> {
-    let alloc = rt.alloc();
-    for (threshold, want) in [
-        (0, Some(TreeFault::Threshold)),
-        (1, None),
-        (2, None),
-        (3, Some(TreeFault::Threshold)),
-    ] {
-        let par = Node::Par(threshold, list(alloc, 2)?);
-        assert_eq!(rt; fault(par), want, "a threshold of {threshold}");
-    }
-    for (ticks, want) in [
-        (0, Some(TreeFault::Count)),
-        (1, None),
-        (1000, None),
-        (1001, Some(TreeFault::Count)),
-        (u64::MAX, Some(TreeFault::Count)),
-    ] {
-        assert_eq!(rt; fault(Node::Wait(ticks)), want, "wait {ticks}");
-        let tries = Node::Tries(ticks, Box::new(alloc, Node::Take)?);
-        assert_eq!(rt; fault(tries), want, "tries {ticks}");
-        let within = Node::Ticks(ticks, Box::new(alloc, Node::Drop)?);
-        assert_eq!(rt; fault(within), want, "ticks {ticks}");
-    }
-    for (distance, want) in [
-        (0, Some(TreeFault::Count)),
-        (1, None),
-        (16, None),
-        (17, Some(TreeFault::Count)),
-    ] {
-        assert_eq!(rt; fault(Node::Near(distance)), want, "near {distance}");
-    }
-    Ok(())
-}
-
-#[test]
-fn each_list_needs_a_child(rt: HostRuntime) -> Result<(), Fail> {
-    let alloc = rt.alloc();
-    assert_eq!(rt; fault(Node::Seq(list(alloc, 0)?)), Some(TreeFault::NoChild));
-    assert_eq!(rt;
-        fault(Node::Fallback(list(alloc, 0)?)),
-        Some(TreeFault::NoChild)
-    );
-    assert_eq!(rt;
-        fault(Node::SeqStar(list(alloc, 0)?)),
-        Some(TreeFault::NoChild)
-    );
-    assert_eq!(rt;
-        fault(Node::FallbackStar(list(alloc, 0)?)),
-        Some(TreeFault::NoChild)
-    );
-    assert_eq!(rt;
-        fault(Node::Par(1, list(alloc, 0)?)),
-        Some(TreeFault::NoChild)
-    );
-    Ok(())
-}
-
-// Of two faults the lower one is answered, though it stands later in the tree.
-#[test]
-fn faults_come_in_their_order(rt: HostRuntime) -> Result<(), Fail> {
-    let alloc = rt.alloc();
-    let many = pair(alloc, nested(alloc, 32)?, Node::Seq(list(alloc, 255)?))?;
-    assert_eq!(rt; fault(many), Some(TreeFault::TooManyNodes));
-    let deep = pair(alloc, Node::Seq(list(alloc, 0)?), nested(alloc, 31)?)?;
-    assert_eq!(rt; fault(deep), Some(TreeFault::TooDeep));
-    let childless = pair(
-        alloc,
-        Node::Par(3, list(alloc, 2)?),
-        Node::Seq(list(alloc, 0)?),
-    )?;
-    assert_eq!(rt; fault(childless), Some(TreeFault::NoChild));
-    let threshold = pair(alloc, Node::Wait(0), Node::Par(3, list(alloc, 2)?))?;
-    assert_eq!(rt; fault(threshold), Some(TreeFault::Threshold));
     Ok(())
 }
 

@@ -95,11 +95,6 @@ fn ticked(
     Ok((letters, kept))
 }
 
-fn statuses(alloc: Global, root: Node<Global>, rows: &[&str], ticks: u64) -> Result<String, Fail> {
-    let (letters, _) = ticked(alloc, root, rows, ticks)?;
-    Ok(letters)
-}
-
 #[test]
 fn a_wait_counts_its_ticks(rt: HostRuntime) -> Result<(), Fail> {
     let alloc = rt.alloc();
@@ -310,31 +305,6 @@ fn cut_ticks_are_those_that_are_not_cut(rt: HostRuntime) -> Result<(), Fail> {
             .as_slice()
         );
     }
-    Ok(())
-}
-
-#[test]
-fn statuses_of_ticks_one_after_another(rt: HostRuntime) -> Result<(), Fail> {
-    let alloc = rt.alloc();
-    let turned = Node::Not(in_box(alloc, Node::Wait(1))?);
-    let tries = Node::Tries(1, in_box(alloc, turned)?);
-    assert_eq!(rt; statuses(alloc, tries, &["A"], 4)?.as_str(), "RFFF");
-    let first = Node::Not(in_box(alloc, Node::Wait(1))?);
-    let star = Node::FallbackStar(pair(alloc, first, Node::Wait(1))?);
-    assert_eq!(rt; statuses(alloc, star, &["A"], 4)?.as_str(), "RRSR");
-    let first = Node::Not(in_box(alloc, Node::Wait(1))?);
-    let fallback = Node::Fallback(pair(alloc, first, Node::Wait(1))?);
-    assert_eq!(rt; statuses(alloc, fallback, &["A"], 4)?.as_str(), "RRRS");
-    let ticks = Node::Ticks(2, in_box(alloc, Node::Wait(5))?);
-    assert_eq!(rt; statuses(alloc, ticks, &["A"], 8)?.as_str(), "RRFRRFRS");
-    assert_eq!(rt;
-        statuses(alloc, Node::Near(1), &["A.", ".B"], 1)?.as_str(),
-        "F"
-    );
-    assert_eq!(rt;
-        statuses(alloc, Node::Near(2), &["A.", ".B"], 1)?.as_str(),
-        "S"
-    );
     Ok(())
 }
 

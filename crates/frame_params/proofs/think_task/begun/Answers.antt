@@ -7,7 +7,7 @@ use Rattle.bt_tick.proofs.CutTicks.{thinking_begun}
 use Rattle.frame_params.proofs.think_task.begun.Goals as goal
 
 pub returns-in-Ok : goal.returns-in-Ok
-returns-in-Ok c =
+returns-in-Ok g c =
     let v = view_of c.args.view.now in
     let o = c.in-Ok.outcome in
     let tree = plain_of c.tree_of-tree.result.now in

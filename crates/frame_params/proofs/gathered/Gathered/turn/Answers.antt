@@ -5,6 +5,7 @@ use Rattle.grid_world.specs.Intents.{apply_all}
 use Rattle.bt_nodes.specs.declared.node.Status.{Status}
 use Rattle.frame_params.specs.declared.kept_memory.KeptMemory.{KeptMemory}
 use Rattle.frame_params.specs.Contents.{IsAfter}
+use Rattle.frame_params.specs.Distances.{KnownOf}
 use Rattle.frame_params.proofs.Turning.{an_intent_each, is_after}
 use Rattle.frame_params.proofs.gathered.Gathered.turn.Goals as goal
 
@@ -24,4 +25,5 @@ invariant_of-result c =
       subst (λ (v : Vec KeptMemory Global). IsAfter g f (arc_value c.in_ok-new.field-0) v.items) (sym c.in_ok-try_clone.ensures)
           (is_after g f x c.requires (arc_value c.in_ok-new.field-0) world),
       ap (λ (v : Vec Status Global). v.items) c.in_ok-try_clone-2.ensures ∙ c.requires.statuses,
+      ap (λ (k : KnownOf). k.game) c.in_ok-share.ensures ∙ c.requires.known,
     )

@@ -5,6 +5,7 @@ use Rattle.bt_nodes.specs.declared.node.Status.{Status}
 use Rattle.frame_params.specs.declared.kept_memory.KeptMemory.{KeptMemory}
 use Rattle.frame_params.specs.Names.{FrameOf, frame_of, AreOfAllAgents}
 use Rattle.frame_params.specs.Contents.{thought_for, AllFit}
+use Rattle.frame_params.specs.Distances.{KnownOf}
 use Rattle.frame_params.proofs.Turning.{all_intents, all_statuses, all_memories, all_fit}
 use Rattle.frame_params.proofs.logic_task.LogicTask.turn.Goals as goal
 
@@ -27,4 +28,5 @@ invariant_of-result c =
       fit = subst (λ (v : Vec KeptMemory Global). AllFit g.trees v.items) (sym kept)
           (all_fit p parts all c.in_ok-memories.memories.items
           (ap length c.in_ok-memories.ensures.value ∙ length-map parts (λ q. (thought_for q).memory)) c.in_ok-memories.ensures.fit);
+      known = ap (λ (k : KnownOf). k.game) (c.in_ok-share.ensures ∙ inv.3);
     }

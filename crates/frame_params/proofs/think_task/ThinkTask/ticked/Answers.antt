@@ -19,7 +19,7 @@ use Rattle.frame_params.proofs.CutThoughts.{way_seen, starts, goes_on}
 use Rattle.frame_params.proofs.think_task.ThinkTask.ticked.Goals as goal
 
 pub resumed-requires-clause-way : goal.resumed-requires-clause-way
-resumed-requires-clause-way c =
+resumed-requires-clause-way g c =
     let x = c.self.inside in
     let g = x.session.now in
     let goes : GoesOn g x.frame x.agent c.in-Answered.question (arc_value c.in-Answered.pending) c.in-Answered.answer =
@@ -31,7 +31,7 @@ resumed-requires-clause-way c =
 
 pub returns-in_ok-begun-in-Start-clause-thinks : goal.returns-in_ok-begun-in-Start-clause-thinks
 unfolding memory_before
-returns-in_ok-begun-in-Start-clause-thinks c =
+returns-in_ok-begun-in-Start-clause-thinks g c =
     let x = c.self.inside in
     let g = x.session.now in
     let o = c.in_ok-begun-in-Start.field-0 in
@@ -47,7 +47,7 @@ returns-in_ok-begun-in-Start-clause-thinks c =
     (starts g x.frame x.agent (arc_value x.world) x.signals c.self.invariant.0 c.memory.result.now o e t))
 
 pub returns-in_ok-resumed-in-Answered-clause-thinks : goal.returns-in_ok-resumed-in-Answered-clause-thinks
-returns-in_ok-resumed-in-Answered-clause-thinks c =
+returns-in_ok-resumed-in-Answered-clause-thinks g c =
     let x = c.self.inside in
     let g = x.session.now in
     let o = c.in_ok-resumed-in-Answered.field-0 in

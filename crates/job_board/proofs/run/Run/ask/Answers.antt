@@ -1,37 +1,20 @@
-use Rattle.std.proofs.Common.{Ok, Err, sym, ap, ◌∙◌, subst}
-use Rattle.job_core.specs.declared.names.JobName.TheVariants.{Think}
+use Rattle.std.proofs.Common.{◌≡◌, Ok, Err, ap, ◌∙◌, inr, sym, subst}
 use Rattle.job_core.specs.declared.names.Event.TheVariants.{Ask}
 use Rattle.job_log.specs.Looks.{IsRunning}
-use Rattle.job_log.specs.declared.fault.BoardFault.TheVariants.{WrongResult, OutOfMemory}
-use Rattle.job_core.specs.Core.{Runs}
-use Rattle.job_board.specs.Boards.{IsRefused, state_in}
+use Rattle.job_log.specs.declared.fault.BoardFault.TheVariants.{WrongResult}
+use Rattle.job_board.specs.Boards.{Played, IsRefused}
 use Rattle.job_board.specs.Parked.{IsOtherParked}
-use Rattle.job_board.proofs.Boarding.{known, not_running, other_result, ask_legal, seen_as}
+use Rattle.job_board.proofs.Boarding.{known, not_running, other_result, seen_as}
 use Rattle.job_board.proofs.run.Run.ask.Goals as goal
 
 pub returns-in-Err-clause-refused : goal.returns-in-Err-clause-refused
 returns-in-Err-clause-refused c = subst (λ b. IsRefused b c.args.worker (IsOtherParked c.args.parked b.game) (Ask c.args.worker) c.in-Err.fault) c.self.view_is (not_running (seen_as c.self.inside.session.now c.self.inside.jobs) c.args.worker (IsOtherParked c.args.parked c.self.inside.session.now) (Ask c.args.worker) c.in-Err.fault (known c.self.inside.session.now c.self.inside.jobs c.self.inside.shelf c.self.invariant (IsRunning c.args.worker (Err c.in-Err.fault)) c.in-Err.ensures))
 
-pub returns-then-not-is_parked_for-clause-refused : goal.returns-then-not-is_parked_for-clause-refused
-returns-then-not-is_parked_for-clause-refused c =
-    let run = known c.self.inside.session.now c.self.inside.jobs c.self.inside.shelf c.self.invariant (IsRunning c.args.worker (Ok c.in-Ok.held)) c.in-Ok.ensures in
+pub returns-then-not-is_same-clause-refused : goal.returns-then-not-is_same-clause-refused
+returns-then-not-is_same-clause-refused c =
+    let run = known c.self.inside.session.now c.self.inside.jobs c.self.inside.shelf c.self.invariant (IsRunning c.args.worker (Ok c.in-Ok.field-0)) c.in-Ok.ensures in
     subst (λ b. IsRefused b c.args.worker (IsOtherParked c.args.parked b.game) (Ask c.args.worker) WrongResult) c.self.view_is
-    (other_result (seen_as c.self.inside.session.now c.self.inside.jobs) c.self.invariant.lawful c.args.worker run.0 c.in-Ok.held.job c.in-Ok.held.step run.1 (IsOtherParked c.args.parked c.self.inside.session.now) (Ask c.args.worker) (c.is_parked_for.ensures.no c.if-not-is_parked_for.true))
+    (other_result (seen_as c.self.inside.session.now c.self.inside.jobs) c.self.invariant.lawful c.args.worker run.0 c.in-Ok.field-0.job c.in-Ok.field-0.step run.1 (IsOtherParked c.args.parked c.self.inside.session.now) (Ask c.args.worker) (inr (inr (λ e. c.is_same.ensures.differs c.if-not-is_same.true (c.session.ensures ∙ e)))))
 
-pub park-requires-clause-legal : goal.park-requires-clause-legal
-park-requires-clause-legal c =
-    let run = known c.self.inside.session.now c.self.inside.jobs c.self.inside.shelf c.self.invariant (IsRunning c.args.worker (Ok c.in-Ok.held)) c.in-Ok.ensures in
-    let yes = c.is_parked_for.ensures.yes c.if-not-is_parked_for.false in
-    rw (← c.self.view_is) (ask_legal (seen_as c.self.inside.session.now c.self.inside.jobs) c.self.invariant.lawful c.args.worker run.0 c.in-Ok.held.job c.in-Ok.held.step run.1 c.args.parked yes.0 yes.1 yes.2 yes.3)
-
-pub park-requires-clause-runs : goal.park-requires-clause-runs
-park-requires-clause-runs c =
-    let run = known c.self.inside.session.now c.self.inside.jobs c.self.inside.shelf c.self.invariant (IsRunning c.args.worker (Ok c.in-Ok.held)) c.in-Ok.ensures in
-    let yes = c.is_parked_for.ensures.yes c.if-not-is_parked_for.false in
-    rw (← c.self.view_is) (ap (state_in (seen_as c.self.inside.session.now c.self.inside.jobs)).phase yes.0 ∙ (run.1 ∙ ap (Runs c.args.worker) (sym yes.1)))
-
-pub returns-in-Err-park-clause-refused : goal.returns-in-Err-park-clause-refused
-returns-in-Err-park-clause-refused c =
-    let run = known c.self.inside.session.now c.self.inside.jobs c.self.inside.shelf c.self.invariant (IsRunning c.args.worker (Ok c.in-Ok.held)) c.in-Ok.ensures in
-    let yes = c.is_parked_for.ensures.yes c.if-not-is_parked_for.false in
-    subst (λ b. IsRefused b c.args.worker (IsOtherParked c.args.parked b.game) (Ask c.args.worker) OutOfMemory) c.self.view_is (Think c.args.parked.frame c.args.parked.agent, ask_legal (seen_as c.self.inside.session.now c.self.inside.jobs) c.self.invariant.lawful c.args.worker run.0 c.in-Ok.held.job c.in-Ok.held.step run.1 c.args.parked yes.0 yes.1 yes.2 yes.3)
+pub ask_own-requires : goal.ask_own-requires
+ask_own-requires c = sym c.session.ensures ∙ (c.is_same.ensures.same c.if-not-is_same.false ∙ ap (λ (b : Played). b.game) c.self.view_is)

@@ -2,7 +2,7 @@ use Rattle.std.proofs.Common.{Ok, Err, sym, ap, subst}
 use Rattle.job_core.specs.declared.names.Event.TheVariants.{Emit}
 use Rattle.job_log.specs.Looks.{IsToShow}
 use Rattle.job_log.specs.declared.fault.BoardFault.TheVariants.{OutOfMemory}
-use Rattle.job_board.specs.Shelf.{Shelved}
+use Rattle.job_shelf.specs.Shelf.{Shelved}
 use Rattle.job_board.specs.Boards.{IsEmitRefused, IsShown, state_in}
 use Rattle.job_board.proofs.Boarding.{there_for, known, next, kept_after, happens, seen_as, emit_refused}
 use Rattle.job_board.proofs.run.Run.emit.Goals as goal

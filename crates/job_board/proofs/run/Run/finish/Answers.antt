@@ -1,43 +1,20 @@
-use Rattle.std.proofs.Common.{◌≡◌, Ok, Err, sym, subst}
+use Rattle.std.proofs.Common.{◌≡◌, Ok, Err, ap, ◌∙◌, inr, sym, subst}
 use Rattle.job_core.specs.declared.names.Event.TheVariants.{Finish}
-use Rattle.job_core.specs.Core.{Runs, IsLegal}
-use Rattle.board_law.specs.Board.{Held}
 use Rattle.job_log.specs.Looks.{IsRunning}
-use Rattle.job_log.specs.declared.fault.BoardFault.TheVariants.{WrongResult, Illegal, OutOfMemory}
-use Rattle.job_board.specs.Boards.{IsRefused, setup_in, state_in}
-use Rattle.job_board.specs.Dones.{IsOtherDone}
-use Rattle.job_board.proofs.Boarding.{known, not_running, other_result, finish_legal, finish_refused, seen_as}
+use Rattle.job_log.specs.declared.fault.BoardFault.TheVariants.{WrongResult}
+use Rattle.job_board.specs.Boards.{Played, IsRefused}
+use Rattle.job_shelf.specs.Dones.{IsOtherDone}
+use Rattle.job_board.proofs.Boarding.{known, not_running, other_result, seen_as}
 use Rattle.job_board.proofs.run.Run.finish.Goals as goal
 
 pub returns-in-Err-clause-refused : goal.returns-in-Err-clause-refused
 returns-in-Err-clause-refused c = subst (λ b. IsRefused b c.args.worker (IsOtherDone c.args.done b.game) (Finish c.args.worker) c.in-Err.fault) c.self.view_is (not_running (seen_as c.self.inside.session.now c.self.inside.jobs) c.args.worker (IsOtherDone c.args.done c.self.inside.session.now) (Finish c.args.worker) c.in-Err.fault (known c.self.inside.session.now c.self.inside.jobs c.self.inside.shelf c.self.invariant (IsRunning c.args.worker (Err c.in-Err.fault)) c.in-Err.ensures))
 
-pub returns-then-not-is_for-clause-refused : goal.returns-then-not-is_for-clause-refused
-returns-then-not-is_for-clause-refused c =
-    let run = known c.self.inside.session.now c.self.inside.jobs c.self.inside.shelf c.self.invariant (IsRunning c.args.worker (Ok c.in-Ok.held)) c.in-Ok.ensures in
-    let runs = subst (λ (h : Held). (state_in (seen_as c.self.inside.session.now c.self.inside.jobs)).phase h.job ≡ Runs c.args.worker h.step) (sym c.held.view_is) run.1 in
+pub returns-then-not-is_same-clause-refused : goal.returns-then-not-is_same-clause-refused
+returns-then-not-is_same-clause-refused c =
+    let run = known c.self.inside.session.now c.self.inside.jobs c.self.inside.shelf c.self.invariant (IsRunning c.args.worker (Ok c.in-Ok.field-0)) c.in-Ok.ensures in
     subst (λ b. IsRefused b c.args.worker (IsOtherDone c.args.done b.game) (Finish c.args.worker) WrongResult) c.self.view_is
-    (other_result (seen_as c.self.inside.session.now c.self.inside.jobs) c.self.invariant.lawful c.args.worker run.0 c.held.inside.job c.held.inside.step runs (IsOtherDone c.args.done c.self.inside.session.now) (Finish c.args.worker) (c.is_for.ensures.no c.if-not-is_for.true))
+    (other_result (seen_as c.self.inside.session.now c.self.inside.jobs) c.self.invariant.lawful c.args.worker run.0 c.in-Ok.field-0.job c.in-Ok.field-0.step run.1 (IsOtherDone c.args.done c.self.inside.session.now) (Finish c.args.worker) (inr (λ e. c.is_same.ensures.differs c.if-not-is_same.true (c.session.ensures ∙ e))))
 
-pub returns-then-not-is_at-clause-refused : goal.returns-then-not-is_at-clause-refused
-returns-then-not-is_at-clause-refused c =
-    let run = known c.self.inside.session.now c.self.inside.jobs c.self.inside.shelf c.self.invariant (IsRunning c.args.worker (Ok c.in-Ok.held)) c.in-Ok.ensures in
-    let runs = subst (λ (h : Held). (state_in (seen_as c.self.inside.session.now c.self.inside.jobs)).phase h.job ≡ Runs c.args.worker h.step) (sym c.held.view_is) run.1 in
-    let yes = c.is_for.ensures.yes c.if-not-is_for.false in
-    subst (λ b. IsRefused b c.args.worker (IsOtherDone c.args.done b.game) (Finish c.args.worker) Illegal) c.self.view_is
-    (finish_refused (seen_as c.self.inside.session.now c.self.inside.jobs) c.self.invariant.lawful c.args.worker run.0 c.held.inside.job c.held.inside.step runs (IsOtherDone c.args.done c.self.inside.session.now) c.args.done yes.0 yes.1 (c.is_at.ensures.no c.if-not-is_at.true))
-
-pub end-requires-clause-legal : goal.end-requires-clause-legal
-end-requires-clause-legal c =
-    let run = known c.self.inside.session.now c.self.inside.jobs c.self.inside.shelf c.self.invariant (IsRunning c.args.worker (Ok c.in-Ok.held)) c.in-Ok.ensures in
-    let runs = subst (λ (h : Held). (state_in (seen_as c.self.inside.session.now c.self.inside.jobs)).phase h.job ≡ Runs c.args.worker h.step) (sym c.held.view_is) run.1 in
-    let yes = c.is_for.ensures.yes c.if-not-is_for.false in
-    rw (← c.self.view_is) (subst (λ x. IsLegal (setup_in (seen_as c.self.inside.session.now c.self.inside.jobs)) (state_in (seen_as c.self.inside.session.now c.self.inside.jobs)) (Finish c.args.worker x)) (sym yes.0)
-    (finish_legal (seen_as c.self.inside.session.now c.self.inside.jobs) c.self.invariant.lawful c.args.worker run.0 c.held.inside.job c.held.inside.step runs c.args.done yes.0 yes.1 (c.is_at.ensures.yes c.if-not-is_at.false)))
-
-pub returns-in-Err-end-clause-refused : goal.returns-in-Err-end-clause-refused
-returns-in-Err-end-clause-refused c =
-    let run = known c.self.inside.session.now c.self.inside.jobs c.self.inside.shelf c.self.invariant (IsRunning c.args.worker (Ok c.in-Ok.held)) c.in-Ok.ensures in
-    let runs = subst (λ (h : Held). (state_in (seen_as c.self.inside.session.now c.self.inside.jobs)).phase h.job ≡ Runs c.args.worker h.step) (sym c.held.view_is) run.1 in
-    let yes = c.is_for.ensures.yes c.if-not-is_for.false in
-    subst (λ b. IsRefused b c.args.worker (IsOtherDone c.args.done b.game) (Finish c.args.worker) OutOfMemory) c.self.view_is (c.held.inside.job, finish_legal (seen_as c.self.inside.session.now c.self.inside.jobs) c.self.invariant.lawful c.args.worker run.0 c.held.inside.job c.held.inside.step runs c.args.done yes.0 yes.1 (c.is_at.ensures.yes c.if-not-is_at.false))
+pub finish_own-requires : goal.finish_own-requires
+finish_own-requires c = sym c.session.ensures ∙ (c.is_same.ensures.same c.if-not-is_same.false ∙ ap (λ (b : Played). b.game) c.self.view_is)

@@ -1,6 +1,6 @@
 use Rattle.std.proofs.Common.{subst}
 use Rattle.frame_params.specs.Tasks.{IsTaskAt}
-use Rattle.job_board.specs.Shelf.{Shelved}
+use Rattle.job_shelf.specs.Shelf.{Shelved}
 use Rattle.job_board.proofs.Boarding.{task_there}
 use Rattle.job_board.proofs.run.Run.work.Goals as goal
 

@@ -1,0 +1,5 @@
+pub mod Relays
+pub mod Named
+pub mod Putters
+pub mod Taken
+pub mod OfWorkers

@@ -1,0 +1,2 @@
+mod Consumed
+pub mod Parts

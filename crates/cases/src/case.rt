@@ -1,0 +1,90 @@
+use std::alloc::Global;
+
+/// A file by its path in the folder that the program runs in.
+#[derive(Drop)]
+pub struct NamedBytes {
+    pub path: String,
+    pub bytes: Vec<u8>,
+}
+
+/// What a stream has to be given.
+#[derive(Drop)]
+pub struct Wanted {
+    pub bytes: Vec<u8>,
+    /// Any text but none will do.
+    pub is_any: bool,
+}
+
+/// A file that a run has to make, by how many lines it has where that is said.
+#[derive(Drop)]
+pub struct NamedLines {
+    pub path: String,
+    pub lines: Option<usize>,
+}
+
+/// From the first number to the last, both among them.
+#[derive(Clone, Copy, Drop)]
+pub struct Span {
+    pub first: usize,
+    pub last: usize,
+}
+
+/// Which file is cut, or standard input where it is none, and to how many bytes.
+#[derive(Drop)]
+pub struct Cut {
+    pub path: Option<String>,
+    pub lengths: Span,
+}
+
+/// Words, what is there before, and what has to come of them.
+#[derive(Drop)]
+pub struct Case {
+    pub name: String,
+    /// Each list of words is a run of its own.
+    pub words: Vec<Vec<String>>,
+    /// Words of a run that comes after each, and has to write the same frames.
+    pub then: Option<Vec<String>>,
+    pub files: Vec<NamedBytes>,
+    pub input: Vec<u8>,
+    /// How many bytes a read gives at most.
+    pub pieces: usize,
+    pub input_fails: bool,
+    pub flush_fails: bool,
+    pub cut: Option<Cut>,
+    /// How many bytes standard output takes, one at a time, before it takes no more.
+    pub room: Option<Span>,
+    pub out: Wanted,
+    pub err: Wanted,
+    pub status: u8,
+    /// Files that the run has to make.
+    pub made: Vec<NamedBytes>,
+    pub counted: Vec<NamedLines>,
+}
+
+impl Case {
+    pub fn new(alloc: Global, name: String) -> Case {
+        Case {
+            name,
+            words: Vec::new(alloc),
+            then: None,
+            files: Vec::new(alloc),
+            input: Vec::new(alloc),
+            pieces: 65536,
+            input_fails: false,
+            flush_fails: false,
+            cut: None,
+            room: None,
+            out: Wanted {
+                bytes: Vec::new(alloc),
+                is_any: false,
+            },
+            err: Wanted {
+                bytes: Vec::new(alloc),
+                is_any: false,
+            },
+            status: 0,
+            made: Vec::new(alloc),
+            counted: Vec::new(alloc),
+        }
+    }
+}

@@ -1,0 +1,3 @@
+pub mod Untouched
+pub mod Shown
+pub mod Played

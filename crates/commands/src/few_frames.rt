@@ -1,0 +1,14 @@
+ghost use Rattle.std.specs.Prelude.{◌≡◌};
+ghost use Rattle.job_machine.specs.Numbers.{settings_of};
+
+use job_machine::Settings;
+
+/// How a level from standard input is played.
+pub fn few_frames() -> Settings
+    ensures { result ≡ settings_of 3 1 16 3 }
+{
+    match Settings::new(3, 1, 16, 3) {
+        Ok(settings) => settings,
+        Err(_) => unreachable!(),
+    }
+}

@@ -1,0 +1,73 @@
+// Levels that are played.
+ghost use Rattle.std.specs.Prelude.{◌≡◌, ℕ, List, [], None, IfErr, IfSome, IsSomeAnd, MatchOption, OnOk, OnErr};
+ghost use Rattle.std.specs.Io.KnownBytes.{Appends, Keeps};
+ghost use Rattle.game_rules.specs.Text.{texts};
+ghost use Rattle.commands.specs.Faults.{status_of};
+ghost use Rattle.play_run.specs.Games.{spelled_game};
+ghost use Rattle.byte_streams.specs.Streams.{AppendsPart};
+
+use crate::faults::Fault;
+use crate::few_frames::few_frames;
+use crate::files::{read_file, read_optional_file, write_file};
+use crate::play::play_bytes;
+use byte_streams::{ReadFault, read_whole};
+use job_machine::Settings;
+use log_text::write_log;
+use std::alloc::Global;
+use std::io::{Read, Write};
+use std::rt::Files;
+use std::sync::Wait;
+use std::thread::Threads;
+
+/// Plays three frames of the level that the input's bytes spell, with an empty script.
+pub fn play_input<H: Threads + Wait + Sync, R: Read, W: Write>(
+    rt: &H,
+    alloc: Global,
+    input: &mut R,
+    out: &mut W,
+) -> Result<(), Fault>
+    ensures ok { OnOk result (IfSome (R.remaining input.old) (λ bytes. IsSomeAnd (spelled_game bytes [])
+        (λ g. Appends (W.contents out.old) (W.contents out.new) (texts g 3)))) }
+    ensures err { OnErr result (IfSome (R.remaining input.old) (λ bytes. MatchOption (spelled_game bytes [])
+        (Keeps (W.contents out.old) (W.contents out.new))
+        (λ g. AppendsPart (W.contents out.old) (W.contents out.new) (texts g 3)))) }
+    ensures refused { IfErr result (λ fault. IfSome (R.remaining input.old)
+        (λ bytes. status_of fault ≡ 2 → spelled_game bytes [] ≡ None)) }
+{
+    let bytes = match read_whole(alloc, input) {
+        Ok(bytes) => bytes,
+        Err(ReadFault::OutOfMemory) => return Err(Fault::OutOfMemory),
+        Err(ReadFault::Read) => return Err(Fault::Input),
+    };
+    match play_bytes(rt, alloc, &bytes, &[], few_frames(), out) {
+        Ok(_) => Ok(()),
+        Err(fault) => Err(Fault::from(fault)),
+    }
+}
+
+/// Plays the level and the script that the words name; both files are read before either is parsed. The log is written once
+/// all frames are.
+pub fn play_files<H: Files + Threads + Wait + Sync, W: Write>(
+    rt: &H,
+    alloc: Global,
+    level: String,
+    settings: Settings,
+    script: Option<String>,
+    log: Option<String>,
+    out: &mut W,
+) -> Result<(), Fault>
+    ensures { OnOk result ((level : List ℕ) × (script : List ℕ) × IsSomeAnd (spelled_game level script)
+        (λ g. Appends (W.contents out.old) (W.contents out.new) (texts g settings.frames))) }
+{
+    let level = read_file(rt, alloc, level)?;
+    let script = read_optional_file(rt, alloc, script)?;
+    let events = match play_bytes(rt, alloc, &level, &script, settings, out) {
+        Ok(events) => events,
+        Err(fault) => return Err(Fault::from(fault)),
+    };
+    if let Some(path) = log {
+        let text = write_log(alloc, settings, &events)?;
+        write_file(rt, path, &text)?;
+    }
+    Ok(())
+}

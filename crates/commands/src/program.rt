@@ -1,0 +1,96 @@
+// What the program does with its words.
+ghost use Rattle.std.specs.Prelude.{◌≡◌, [], None, IfSome, IsSomeAnd, MatchOption};
+ghost use Rattle.std.specs.Io.KnownBytes.{Appends, Keeps};
+ghost use Rattle.game_rules.specs.Text.{texts};
+ghost use Rattle.commands.specs.Faults.{status_in};
+ghost use Rattle.play_run.specs.Games.{spelled_game};
+ghost use Rattle.byte_streams.specs.Streams.{AppendsPart};
+
+use crate::checking::check_file;
+use crate::faults::Fault;
+use crate::files::put;
+use crate::playing::{play_files, play_input};
+use crate::replaying::replay_files;
+use byte_streams::write_whole;
+use std::alloc::Global;
+use std::io::{Read, Write};
+use std::rt::Files;
+use std::sync::Wait;
+use std::thread::Threads;
+use words::{Words, WordsFault, read_words};
+
+/// Does what words ask for that name a level's file.
+fn act<H: Files + Threads + Wait + Sync, W: Write>(
+    rt: &H,
+    alloc: Global,
+    words: Words,
+    out: &mut W,
+) -> Result<(), Fault> {
+    match words {
+        Words::Piped => Ok(()),
+        Words::Play {
+            level,
+            settings,
+            script,
+            log,
+        } => play_files(rt, alloc, level, settings, script, log, out),
+        Words::Replay { level, log, script } => replay_files(rt, alloc, level, log, script, out),
+        Words::Check { level } => check_file(rt, alloc, level, out),
+    }
+}
+
+/// Says why words are not done, on `out` where help was asked for.
+fn refuse<W: Write, E: Write>(fault: WordsFault, out: &mut W, err: &mut E) -> u8 {
+    match fault {
+        WordsFault::OutOfMemory => Fault::OutOfMemory.report(err),
+        WordsFault::Help(text) => status_of(put(out, text.as_bytes()), err),
+        WordsFault::Refused(text) => {
+            let _ = write_whole(err, text.as_bytes());
+            2
+        }
+    }
+}
+
+/// The status with which the program ends.
+fn status_of<E: Write>(done: Result<(), Fault>, err: &mut E) -> u8
+    ensures { result ≡ status_in done }
+{
+    match done {
+        Ok(()) => 0,
+        Err(why) => why.report(err),
+    }
+}
+
+/// Does what the words after the program's name ask for, and gives the status with which the program ends: 0 done,
+/// 1 a file or a write failed, 2 refused words, level, script or log, 3 want of memory or the run failed otherwise. A
+/// fault is one line on `err`.
+///
+/// No words: the level comes from `input`, and three of its frames are written to `out`.
+pub fn command<H: Files + Threads + Wait + Sync, R: Read, W: Write, E: Write>(
+    rt: &H,
+    alloc: Global,
+    words: &[String],
+    input: &mut R,
+    out: &mut W,
+    err: &mut E,
+) -> u8
+    ensures piped { words.now ≡ [] → result ≡ 0 → IfSome (R.remaining input.old) (λ bytes.
+        IsSomeAnd (spelled_game bytes []) (λ g. Appends (W.contents out.old) (W.contents out.new) (texts g 3))) }
+    ensures part { words.now ≡ [] → IfSome (R.remaining input.old) (λ bytes. MatchOption (spelled_game bytes [])
+        (Keeps (W.contents out.old) (W.contents out.new))
+        (λ g. AppendsPart (W.contents out.old) (W.contents out.new) (texts g 3))) }
+    ensures refused { words.now ≡ [] → result ≡ 2 → IfSome (R.remaining input.old)
+        (λ bytes. spelled_game bytes [] ≡ None) }
+{
+    match read_words(alloc, words) {
+        Ok(Words::Piped) => match play_input(rt, alloc, input, out) {
+            Ok(()) => 0,
+            Err(fault) => fault.report(err),
+        },
+        Ok(words) => {
+            let done = act(rt, alloc, words, out);
+            status_of(done, err)
+        }
+        Err(fault) => refuse(fault, out, err),
+    }
+}

@@ -1,0 +1,119 @@
+ghost use Rattle.std.specs.Prelude.{◌≡◌, Contains, IfOk, IfSome};
+
+use crate::kept_distances::KeptDistances;
+use grid_world::{Place, Signals};
+use level_text::Session;
+use std::alloc::{AllocError, Global};
+use std::marker::Model;
+use std::sync::Arc;
+
+// The distances that were found on the ground of a session under one state of the signals, for a place once at most.
+#[derive(Drop)]
+pub(crate) struct Known<'t> {
+    session: &'t Session,
+    signals: Signals,
+    all: Arc<Vec<KeptDistances<'t>>>,
+}
+
+impl<'t> Model for Known<'t> {
+    ghost use Rattle.std.specs.Arc.{arc_value};
+    ghost use Rattle.frame_params.specs.Distances.{KnownOf, known_code, AllUnder};
+
+    ghost Value = { KnownOf };
+
+    ghost coded = { known_code };
+
+    ghost view = { λ k. record { game = k.session.now; signals = k.signals } };
+
+    ghost invariant = { λ k. AllUnder k.session.now k.signals (arc_value k.all).items };
+}
+
+// Those to a place.
+fn to_place<'a, 't>(all: &'a [KeptDistances<'t>], place: Place) -> Option<&'a KeptDistances<'t>>
+    ensures place { IfSome result (λ d. d.now.place ≡ place) }
+    ensures one { IfSome result (λ d. Contains all.now d.now) }
+{
+    all.iter().find(|d| d.place() == place)
+}
+
+impl<'t> Known<'t> {
+    ghost use Rattle.frame_params.specs.Distances.{known_of, distances_of, IsGivenIf};
+
+    // None are known.
+    pub(crate) fn none(
+        alloc: Global,
+        session: &'t Session,
+        signals: Signals,
+    ) -> Result<Known<'t>, AllocError>
+        ensures { IfOk result (λ k. k ≡ known_of session.now signals) }
+    {
+        Ok(Known {
+            session,
+            signals,
+            all: Arc::new(alloc, Vec::new(alloc))?,
+        })
+    }
+
+    // The same ones once more; nothing is copied.
+    pub(crate) fn share(&self) -> Result<Known<'t>, AllocError>
+        ensures { IfOk result (λ k. k ≡ self.now) }
+    {
+        Ok(Known {
+            session: self.session,
+            signals: self.signals,
+            all: Arc::try_clone(&self.all)?,
+        })
+    }
+
+    // What is known under these signals: the same ones while they are equal, and else none.
+    pub(crate) fn under(&self, alloc: Global, signals: Signals) -> Result<Known<'t>, AllocError>
+        ensures { IfOk result (λ k. k ≡ known_of self.now.game signals) }
+    {
+        if signals == self.signals {
+            return Ok(self.share()?);
+        }
+        Known::none(alloc, self.session, signals)
+    }
+
+    // Those to a place, where they are known.
+    pub(crate) fn to(&self, place: Place) -> Option<&KeptDistances<'t>>
+        ensures { IfSome result (λ d. d.now ≡ distances_of self.now.game self.now.signals place) }
+    {
+        to_place(&self.all, place)
+    }
+
+    // Those to a place once more, where they are known; nothing is copied.
+    pub(crate) fn shared_to(&self, place: Place) -> Result<Option<KeptDistances<'t>>, AllocError>
+        ensures { IfOk result (IsGivenIf self.now.game self.now.signals place) }
+    {
+        match self.to(place) {
+            None => Ok(None),
+            Some(known) => Ok(Some(known.share()?)),
+        }
+    }
+
+    // These and those that were found, where none were known to their place.
+    pub(crate) fn with(
+        &self,
+        alloc: Global,
+        found: &KeptDistances<'t>,
+    ) -> Result<Known<'t>, AllocError>
+        requires game { found.now.game ≡ self.now.game }
+        requires signals { found.now.signals ≡ self.now.signals }
+        ensures { IfOk result (λ k. k ≡ self.now) }
+    {
+        if self.to(found.place()).is_some() {
+            return Ok(self.share()?);
+        }
+        let mut all = Vec::with_capacity(alloc, self.all.len() + 1)?;
+        'known: for known in self.all.iter() {
+            all.push(known.share()?)?;
+        }
+        all.push(found.share()?)?;
+        Ok(Known {
+            session: self.session,
+            signals: self.signals,
+            all: Arc::new(alloc, all)?,
+        })
+    }
+}

@@ -1,0 +1,36 @@
+ghost use Rattle.std.specs.Prelude.{◌≡◌, ◌<◌, ◌⊎◌, true, false};
+ghost use Rattle.job_core.specs.declared.names.JobName.TheVariants.{Think};
+ghost use Rattle.frame_params.specs.Contents.{questions_in};
+ghost use Rattle.job_shelf.specs.Dones.{job_done};
+
+use frame_params::Parked;
+use job_core::names::JobName;
+use job_machine::Held;
+use job_queues::is_same;
+use job_shelf::Done;
+
+// Whether it is the end of this job.
+pub(crate) fn is_of(done: &Done, job: JobName) -> bool
+    ensures yes { result ≡ true → job_done done.now ≡ job }
+    ensures no { result ≡ false → job_done done.now ≡ job → ⊥ }
+{
+    if is_same(done.name(), job) {
+        return true;
+    }
+    false
+}
+
+// Whether a parked tick is that of the job and the question at which a worker stands.
+pub(crate) fn is_parked_at(parked: &Parked, held: Held) -> bool
+    ensures yes { result ≡ true → (Think parked.now.frame parked.now.agent ≡ held.job) × (parked.now.question ≡ held.step)
+        × (held.step < questions_in parked.now.game parked.now.frame parked.now.agent) }
+    ensures no { result ≡ false → (Think parked.now.frame parked.now.agent ≡ held.job → ⊥) ⊎ (parked.now.question ≡ held.step → ⊥) }
+{
+    if !is_same(parked.name(), held.job) {
+        return false;
+    }
+    if parked.index() != held.step {
+        return false;
+    }
+    true
+}

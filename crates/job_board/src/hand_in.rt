@@ -1,0 +1,84 @@
+ghost use Rattle.std.specs.Prelude.{◌≡◌, false, IfErr, OnOk, OnErr, slice_set};
+ghost use Rattle.job_core.specs.declared.names.Event.TheVariants.{Finish};
+ghost use Rattle.job_board.specs.Boards.{Happens, IsRefused};
+ghost use Rattle.job_shelf.specs.Dones.{game_done, job_done, step_done, IsOtherDone};
+ghost use Rattle.job_board.specs.HandedIn.{IsStepIn, HasBegun, IsBeginRefused, IsHandedIn, IsHandInRefused};
+
+use super::board::Board;
+use super::refused::Refused;
+use frame_params::{LogicStep, Step, ThinkStep};
+use job_log::BoardFault;
+use job_shelf::Done;
+
+impl<'t> Board<'t> {
+    /// Hands in what a worker's task came to: a frame that begins is spread, or held where it has no slot; a Think that
+    /// has a question asks it; every other job is over. The step is of the board's own game, as what comes of a task is
+    /// that `take` gave: no sessions are compared.
+    pub fn hand_in(&mut self, worker: u32, step: Step<'t>) -> Result<(), Refused<Step<'t>>>
+        requires { IsStepIn self.old.run.game step }
+        ensures ok { OnOk result (IsHandedIn self.old.run self.new.run worker step.entry) }
+        ensures worked { OnOk result (self.new.worked ≡ slice_set self.old.worked worker false) }
+        ensures refused { IfErr result (λ r. IsHandInRefused self.old.run worker step.entry r.fault) }
+        ensures back { IfErr result (λ r. r.value ≡ step.entry) }
+        ensures unchanged { OnErr result (self.new ≡ self.old) }
+    {
+        match step {
+            Step::Logic(logic) => match logic {
+                LogicStep::Begins => match self.begin_frame(worker) {
+                    Ok(()) => Ok(()),
+                    Err(fault) => Err(Refused {
+                        fault,
+                        value: Step::Logic(LogicStep::Begins),
+                    }),
+                },
+                LogicStep::Turned(turn) => self.hand_in_end(worker, Done::Turned(turn)),
+            },
+            Step::Think(think) => match think {
+                ThinkStep::Ended(thought) => self.hand_in_end(worker, Done::Thought(thought)),
+                ThinkStep::Asks(parked) => match self.ask_own(worker, parked) {
+                    Ok(()) => Ok(()),
+                    Err(refused) => Err(Refused {
+                        fault: refused.fault,
+                        value: Step::Think(ThinkStep::Asks(refused.value)),
+                    }),
+                },
+            },
+            Step::Path(way) => self.hand_in_end(worker, Done::Way(way)),
+            Step::Draw(band) => self.hand_in_end(worker, Done::Drawn(band)),
+        }
+    }
+
+    // The worker's frame begins: its thinks are queued, or it waits for its slot.
+    fn begin_frame(&mut self, worker: u32) -> Result<(), BoardFault>
+        ensures ok { OnOk result (HasBegun self.old.run self.new.run worker) }
+        ensures worked { OnOk result (self.new.worked ≡ slice_set self.old.worked worker false) }
+        ensures refused { IfErr result (IsBeginRefused self.old.run worker) }
+        ensures unchanged { OnErr result (self.new ≡ self.old) }
+    {
+        let Err(fault) = self.spread(worker) else {
+            return Ok(());
+        };
+        match fault {
+            BoardFault::Illegal => self.hold(worker),
+            _ => Err(fault),
+        }
+    }
+
+    // The worker's job is over; it comes back as the step that it was.
+    fn hand_in_end(&mut self, worker: u32, done: Done<'t>) -> Result<(), Refused<Step<'t>>>
+        requires { game_done done ≡ self.old.run.game }
+        ensures ok { OnOk result (Happens self.old.run self.new.run (Finish worker (job_done done.entry))) }
+        ensures worked { OnOk result (self.new.worked ≡ slice_set self.old.worked worker false) }
+        ensures refused { IfErr result (λ r. IsRefused self.old.run worker (IsOtherDone done.entry self.old.run.game) (Finish worker) r.fault) }
+        ensures back { IfErr result (λ r. r.value ≡ step_done done.entry) }
+        ensures unchanged { OnErr result (self.new ≡ self.old) }
+    {
+        match self.finish_own(worker, done) {
+            Ok(()) => Ok(()),
+            Err(refused) => Err(Refused {
+                fault: refused.fault,
+                value: refused.value.into_step(),
+            }),
+        }
+    }
+}

@@ -1,0 +1,5 @@
+pub mod Parting
+pub mod Shelving
+pub mod SameSizes
+pub mod Handed
+pub mod Crossing

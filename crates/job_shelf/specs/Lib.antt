@@ -1,0 +1,4 @@
+pub mod Parts
+pub mod Shelf
+pub mod ShelfCode
+pub mod Dones

@@ -1,0 +1,65 @@
+ghost use Rattle.std.specs.Prelude.{◌≡◌, true, false};
+
+use frame_params::{BandOut, LogicStep, Step, ThinkStep, Thought, Turn, Way};
+use job_core::names::JobName;
+use level_text::Session;
+
+/// What the work of a job came to.
+#[derive(Drop)]
+pub enum Done<'t> {
+    Turned(Turn<'t>),
+    Thought(Thought<'t>),
+    Way(Way<'t>),
+    Drawn(BandOut<'t>),
+}
+
+impl<'t> Done<'t> {
+    ghost use Rattle.job_shelf.specs.Dones.{game_done, job_done, step_done, IsDoneAt};
+
+    pub fn session(&self) -> &'t Session
+        ensures { result.now ≡ game_done self.now }
+    {
+        match self {
+            Done::Turned(turn) => turn.session(),
+            Done::Thought(thought) => thought.session(),
+            Done::Way(way) => way.session(),
+            Done::Drawn(band) => band.session(),
+        }
+    }
+
+    /// The job that it is the end of.
+    pub fn name(&self) -> JobName
+        ensures { result ≡ job_done self.now }
+    {
+        match self {
+            Done::Turned(turn) => turn.name(),
+            Done::Thought(thought) => thought.name(),
+            Done::Way(way) => way.name(),
+            Done::Drawn(band) => band.name(),
+        }
+    }
+
+    /// The step that it came of.
+    pub fn into_step(self) -> Step<'t>
+        ensures { result ≡ step_done self.entry }
+    {
+        match self {
+            Done::Turned(turn) => Step::Logic(LogicStep::Turned(turn)),
+            Done::Thought(thought) => Step::Think(ThinkStep::Ended(thought)),
+            Done::Way(way) => Step::Path(way),
+            Done::Drawn(band) => Step::Draw(band),
+        }
+    }
+
+    /// Whether the job is over once it has come to this step.
+    pub fn is_at(&self, step: u32) -> bool
+        ensures yes { result ≡ true → IsDoneAt self.now step }
+        ensures no { result ≡ false → IsDoneAt self.now step → ⊥ }
+    {
+        match self {
+            Done::Turned(_) => step == 1,
+            Done::Thought(thought) => step == thought.questions(),
+            Done::Way(_) | Done::Drawn(_) => true,
+        }
+    }
+}

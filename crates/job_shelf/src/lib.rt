@@ -1,0 +1,14 @@
+// What the work of the frames under way came to, kept for the tasks that are made of it.
+#![tactic(auto)]
+
+mod asking;
+mod done;
+mod drawn;
+mod shelf;
+mod shown;
+mod thoughts;
+
+pub use done::Done;
+pub use drawn::Drawn;
+pub use shelf::{Shelf, next_of};
+pub use shown::Shown;

@@ -1,0 +1,271 @@
+ghost use Rattle.std.specs.Prelude.{◌≡◌, ◌<◌, ◌≤◌, ◌%◌, ◌+◌, ℕ, IfOk, Some, None, false, length, replicate, slice_get, slice_set};
+ghost use Rattle.std.specs.List.{All};
+ghost use Rattle.std.specs.Option.{IsSomeAnd};
+ghost use Rattle.job_core.specs.Core.{State};
+ghost use Rattle.job_core.specs.declared.names.Event.TheVariants.{Spread, Finish, Emit};
+ghost use Rattle.job_core.specs.declared.names.JobName.TheVariants.{Logic, Path, Draw};
+ghost use Rattle.board_law.specs.Stored.{stored_first, asked, nothing, turned, parts};
+ghost use Rattle.board_law.specs.Needed.{HasParts, IsThere, IsInSlot, IsAsked};
+ghost use Rattle.frame_params.specs.Names.{frame_of};
+ghost use Rattle.frame_params.specs.Contents.{bands_in};
+ghost use Rattle.frame_params.specs.Tasks.{IsTaskAt};
+ghost use Rattle.job_shelf.specs.Shelf.{AskedOf, DrawnOf, IsOfGame, Stores, IsWanted, IsBeforeLast, next_done, sizes};
+ghost use Rattle.job_shelf.specs.Dones.{game_done, job_done};
+
+use super::asking::Asking;
+use super::done::Done;
+use super::drawn::Drawn;
+use super::shown::Shown;
+use super::thoughts::Thoughts;
+use frame_params::{
+    BandOut, FrameParams, LogicTask, Parked, PathTask, Slots, Task, ThinkTask, Turn, Way,
+};
+use job_core::names::JobName;
+use level_text::Session;
+use std::alloc::{AllocError, Global};
+use std::marker::Model;
+use std::mem;
+
+/// What the work of the frames under way came to, for the tasks that are made of it.
+#[derive(Drop)]
+pub struct Shelf<'t> {
+    session: &'t Session,
+    // Those of the next frame to spread.
+    next: Option<FrameParams<'t>>,
+    slots: Slots<'t>,
+    // By agent number.
+    asking: Vec<Asking<'t>>,
+    thoughts: Thoughts<'t>,
+    // Of the frames in the slots.
+    drawn: Vec<Drawn<'t>>,
+}
+
+impl<'t> Model for Shelf<'t> {
+    ghost use Rattle.job_shelf.specs.Shelf.{Shelved, IsShelf, stored_as};
+    ghost use Rattle.job_shelf.specs.ShelfCode.{shelved_code};
+
+    ghost Value = { Shelved };
+
+    ghost coded = { shelved_code };
+
+    ghost view = { λ s. record { game = s.session.now; stored = stored_as s.next s.slots s.asking.items s.thoughts s.drawn.items } };
+
+    ghost invariant = { λ s. IsShelf s.session.now s.next s.slots s.asking.items s.thoughts s.drawn.items };
+}
+
+fn no_questions<'t>(
+    alloc: Global,
+    session: &'t Session,
+    agents: u32,
+) -> Result<Vec<Asking<'t>>, AllocError>
+    ensures { IfOk result (λ asking. asking.items ≡ replicate agents (record { game = session.now; asked = None })) }
+{
+    let mut asking = Vec::with_capacity(alloc, agents as usize)?;
+    'agents: for _agent in 0..agents {
+        asking.push(Asking::new(session))?;
+    }
+    Ok(asking)
+}
+
+fn nothing_drawn<'t>(
+    alloc: Global,
+    session: &'t Session,
+    slots: u32,
+    bands: u32,
+) -> Result<Vec<Drawn<'t>>, AllocError>
+    requires { bands ≡ bands_in session.now }
+    ensures { IfOk result (λ drawn. drawn.items ≡ replicate slots (record { game = session.now; drawn = nothing })) }
+{
+    let mut drawn = Vec::with_capacity(alloc, slots as usize)?;
+    'slots: for _slot in 0..slots {
+        drawn.push(Drawn::new(alloc, session, bands)?)?;
+    }
+    Ok(drawn)
+}
+
+/// The parameters of the frame after a turn's, where a job came to a turn.
+pub fn next_of<'t>(alloc: Global, done: &Done<'t>) -> Result<Option<FrameParams<'t>>, AllocError>
+    requires { IsBeforeLast done.now }
+    ensures { IfOk result (λ next. next ≡ next_done done.now) }
+{
+    match done {
+        Done::Turned(turn) => Ok(Some(FrameParams::after(alloc, turn)?)),
+        Done::Thought(_) | Done::Way(_) | Done::Drawn(_) => Ok(None),
+    }
+}
+
+impl<'t> Shelf<'t> {
+    pub fn new(
+        alloc: Global,
+        session: &'t Session,
+        slots: u32,
+        agents: u32,
+        bands: u32,
+    ) -> Result<Shelf<'t>, AllocError>
+        requires slots { 1 ≤ slots }
+        requires agents { agents ≡ length session.now.trees }
+        requires bands { bands ≡ bands_in session.now }
+        ensures game { IfOk result (λ shelf. shelf.game ≡ session.now) }
+        ensures slots { IfOk result (λ shelf. (sizes shelf).slots ≡ slots) }
+        ensures first { IfOk result (λ shelf. shelf.stored ≡ stored_first (sizes shelf)) }
+    {
+        Ok(Shelf {
+            session,
+            next: Some(FrameParams::first(alloc, session)?),
+            slots: Slots::new(alloc, slots)?,
+            asking: no_questions(alloc, session, agents)?,
+            thoughts: Thoughts::new(alloc, session, agents)?,
+            drawn: nothing_drawn(alloc, session, slots, bands)?,
+        })
+    }
+
+    // The parameters of a frame that is in its slot.
+    fn params(&self, frame: u32) -> &FrameParams<'t>
+        requires { IsInSlot (sizes self.now) self.now.stored frame }
+        ensures { result.now ≡ frame_of self.now.game frame }
+    {
+        match self.slots.at(frame) {
+            Some(params) => params,
+            None => unreachable!(),
+        }
+    }
+
+    // The last question of an agent.
+    fn asking_of(&self, agent: u32) -> &Asking<'t>
+        requires { agent < length self.now.stored.asking }
+        ensures { (result.now.game ≡ self.now.game) × (slice_get self.now.stored.asking agent ≡ Some result.now.asked) }
+    {
+        &self.asking[agent as usize]
+    }
+
+    // What came of the frame in a frame's slot.
+    fn drawn_of(&self, frame: u32) -> &Drawn<'t>
+        ensures { (result.now.game ≡ self.now.game) × (slice_get self.now.stored.drawn (frame % length self.now.stored.slots) ≡ Some result.now.drawn) }
+    {
+        &self.drawn[frame as usize % self.drawn.len()]
+    }
+
+    /// The task of a job that stands at this step.
+    pub fn task(&self, alloc: Global, job: JobName, step: u32) -> Result<Task<'t>, AllocError>
+        requires { HasParts (sizes self.now) self.now.stored job step }
+        ensures { IfOk result (IsTaskAt self.now.game job step) }
+    {
+        match job {
+            JobName::Logic { frame } => {
+                if step == 0 {
+                    return Ok(Task::Logic(LogicTask::start(alloc, self.session, frame)?));
+                }
+                Ok(Task::Logic(self.thoughts.logic(alloc, self.params(frame))?))
+            }
+            JobName::Think { frame, agent } => {
+                let params = self.params(frame);
+                if step == 0 {
+                    return Ok(Task::Think(ThinkTask::start(alloc, params, agent)?));
+                }
+                let asking = self.asking_of(agent);
+                Ok(Task::Think(ThinkTask::resume(alloc, params, asking.parked(), asking.way())?))
+            }
+            JobName::Path {
+                frame,
+                agent,
+                question: _,
+            } => Ok(Task::Path(PathTask::of(
+                alloc,
+                self.params(frame),
+                self.asking_of(agent).parked(),
+            )?)),
+            JobName::Draw { frame, band } => {
+                Ok(Task::Draw(self.drawn_of(frame).draw(alloc, frame, band)?))
+            }
+        }
+    }
+
+    /// A frame has spread: its parameters go into its slot.
+    pub fn spread(&mut self)
+        requires { IsSomeAnd self.old.stored.next (λ f. slice_get self.old.stored.slots (f % length self.old.stored.slots) ≡ Some None) }
+        ensures { (st : State) (w f : ℕ) → self.old.stored.next ≡ Some f → Stores self.old self.new st (Spread w (Logic f)) }
+    {
+        match self.next.take() {
+            Some(params) => self.slots.fill(params),
+            None => unreachable!(),
+        }
+        self.thoughts.clear();
+    }
+
+    /// An agent's thought stands at a question.
+    pub fn park(&mut self, agent: u32, parked: Parked<'t>)
+        requires game { parked.game ≡ self.old.game }
+        requires agent { (agent ≡ parked.agent) × (agent < length self.old.stored.asking) }
+        ensures { self.new ≡ record self.old { stored = record self.old.stored { asking = slice_set self.old.stored.asking agent (Some (asked parked.entry.frame agent parked.entry.question false)) } } }
+    {
+        self.asking[agent as usize].park(parked);
+    }
+
+    /// Keeps what a job came to, for the tasks that are made of it.
+    pub fn keep(&mut self, alloc: Global, done: Done<'t>, next: Option<FrameParams<'t>>)
+        requires game { game_done done ≡ self.old.game }
+        requires wanted { IsWanted self.old done }
+        requires next { next ≡ next_done done }
+        ensures { (st : State) (w : ℕ) → Stores self.old self.new st (Finish w (job_done done.entry)) }
+    {
+        match done {
+            Done::Turned(turn) => self.turned(turn, next),
+            Done::Thought(thought) => self.thoughts.keep(thought),
+            Done::Way(way) => {
+                self.learn(alloc, &way);
+                self.answer(way);
+            }
+            Done::Drawn(band) => self.band(band),
+        }
+    }
+
+    fn turned(&mut self, turn: Turn<'t>, next: Option<FrameParams<'t>>)
+        requires game { turn.game ≡ self.old.game }
+        requires nothing { slice_get self.old.stored.drawn (turn.frame % length self.old.stored.slots) ≡ Some nothing }
+        requires next { next ≡ Some (frame_of turn.game (turn.frame + 1)) }
+        ensures { (st : State) (w : ℕ) → Stores self.old self.new st (Finish w (Logic turn.entry.frame)) }
+    {
+        let at = turn.frame() as usize % self.drawn.len();
+        self.drawn[at].turned(turn);
+        self.next = next;
+    }
+
+    // Keeps the distances that a way's search found with the parameters of its frame, for the questions that come later.
+    fn learn(&mut self, alloc: Global, way: &Way<'t>)
+        requires { way.now.game ≡ self.old.game }
+        ensures { self.new ≡ self.old }
+    {
+        self.slots.learn(alloc, way);
+    }
+
+    fn answer(&mut self, way: Way<'t>)
+        requires game { way.game ≡ self.old.game }
+        requires asked { IsAsked self.old.stored way.frame way.agent way.question false }
+        ensures { (st : State) (w : ℕ) → Stores self.old self.new st (Finish w (Path way.entry.frame way.entry.agent way.entry.question)) }
+    {
+        let agent = way.agent();
+        self.asking[agent as usize].answer(way);
+    }
+
+    fn band(&mut self, band: BandOut<'t>)
+        requires game { band.game ≡ self.old.game }
+        requires room { IsSomeAnd (slice_get self.old.stored.drawn (band.frame % length self.old.stored.slots)) (λ d. length d.bands < bands_in self.old.game) }
+        ensures { (st : State) (w : ℕ) → Stores self.old self.new st (Finish w (Draw band.entry.frame band.entry.number)) }
+    {
+        let at = band.frame() as usize % self.drawn.len();
+        self.drawn[at].keep(band);
+    }
+
+    /// Takes out a frame that is shown; nothing stands in its place.
+    pub fn show(&mut self, frame: u32, empty: Drawn<'t>) -> Shown<'t>
+        requires empty { empty ≡ record { game = self.old.game; drawn = nothing } }
+        requires slot { IsInSlot (sizes self.old) self.old.stored frame }
+        requires drawn { slice_get self.old.stored.drawn (frame % length self.old.stored.slots) ≡ Some (turned frame (parts frame (bands_in self.old.game))) }
+        ensures shown { result ≡ frame_of self.old.game frame }
+        ensures stored { (st : State) → Stores self.old self.new st (Emit frame) }
+    {
+        self.slots.clear(frame);
+        let at = frame as usize % self.drawn.len();
+        mem::replace(&mut self.drawn[at], empty).into_shown(frame)
+    }
+}

@@ -1,0 +1,7 @@
+mod Steps
+mod Texts
+mod Drawn
+mod Spelled
+mod Once
+mod Sends
+pub mod Leaving

@@ -1,0 +1,17 @@
+use Rattle.std.proofs.Common.{◌≡◌}
+use Rattle.level_text.specs.Levels.{value_of}
+use Rattle.play_run.proofs.Spelled.{played}
+use Rattle.play_run.proofs.bytes.run_bytes.Goals as goal
+
+pub returns-in-Ok-run-clause-ok : goal.returns-in-Ok-run-clause-ok
+returns-in-Ok-run-clause-ok g c =
+    played (g.W.Write.contents c.args.out.now) (g.W.Write.contents c.run.new.out) c.args.level.now c.args.script.now (value_of c.in-Ok.level) c.in-Ok-read_script.script c.new-session.result c.args.settings c.in-Ok-run.report
+    c.in-Ok.ensures.ok c.in-Ok-read_script.ensures.ok c.new-session.ensures
+    (record {
+      text = c.in-Ok-run.ensures.ok;
+      frames = c.in-Ok-run.ensures.frames;
+      complete = c.in-Ok-run.ensures.complete;
+      once = c.in-Ok-run.ensures.once;
+      steps = c.in-Ok-run.ensures.steps;
+      total = c.in-Ok-run.ensures.sum;
+    })

@@ -1,0 +1,6 @@
+use Rattle.std.proofs.Common.{◌≡◌, ◌<◌, ℕ, vec_len, vec_items}
+use Rattle.play_run.specs.Reports.{AreStepsOf}
+use Rattle.play_run.proofs.report.all_steps.Given as goal
+
+abbrev pub invariant-workers : goal.invariant-workers
+invariant-workers l = AreStepsOf l.worker l.events (vec_items l.all)

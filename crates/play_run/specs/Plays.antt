@@ -1,0 +1,43 @@
+-- What comes of playing a game to its end, and of failing to.
+use Rattle.std.specs.Prelude.{◌≡◌, ℕ, ◌⊎◌, List, Option, Err, MatchResult, IsSomeAnd, count_by, sum}
+use Rattle.std.specs.Io.KnownBytes.{Appends, Keeps}
+use Rattle.game_rules.specs.Game.{Game}
+use Rattle.game_rules.specs.Text.{texts}
+use Rattle.level_text.specs.Levels.{spelled, IsFaultOf}
+use Rattle.level_text.specs.Scripts.{script_of}
+use Rattle.level_text.specs.declared.script_file.ScriptFault.TheVariants.{OutOfMemory}
+use Rattle.job_core.specs.declared.names.JobName.{JobName}
+use Rattle.job_core.specs.declared.names.Event.{Event}
+use Rattle.job_core.specs.Core.{Setup, IsJob, IsComplete}
+use Rattle.job_core.specs.Amounts.{starts, finishes}
+use Rattle.job_machine.specs.Numbers.{Numbers}
+use Rattle.shared_board.specs.Counts.{names_worker}
+use Rattle.shared_board.specs.Runs.{setup_for}
+use Rattle.play_run.specs.Games.{spelled_game}
+use Rattle.play_run.specs.Printed.{WrotePart}
+use Rattle.play_run.specs.Reports.{AreStepsOf}
+use Rattle.play_run.specs.declared.fault.PlayFault.{PlayFault}
+use Rattle.play_run.specs.declared.fault.PlayFault.TheVariants.{Level, Script, Run}
+use Rattle.play_run.specs.declared.report.RunReport.{RunReport}
+
+-- each job of the run is started and finished once, and no other
+abbrev pub RunsEachJobOnce : Setup → List Event → Type 0
+RunsEachJobOnce s events =
+    (job : JobName) → (IsJob s job → (starts job events ≡ 1) × (finishes job events ≡ 1))
+    × ((IsJob s job → ⊥) → (starts job events ≡ 0) × (finishes job events ≡ 0))
+
+-- All frames are written and nothing else, by a complete list of events, and the report counts them.
+pub record IsPlayed (old new : Option (List ℕ)) (g : Game) (n : Numbers) (r : RunReport) : Type 0 where
+  pub text : Appends old new (texts g n.frames)
+  pub frames : r.frames ≡ n.frames
+  pub complete : IsComplete (setup_for g n) r.events.items
+  pub once : RunsEachJobOnce (setup_for g n) r.events.items
+  pub steps : AreStepsOf n.workers r.events.items r.steps.items
+  pub total : sum r.steps.items ≡ count_by names_worker r.events.items
+
+-- a fault of the level comes before one of the script, and after neither is anything written
+abbrev pub IsPlayFault : (old new : Option (List ℕ)) → (level script : List ℕ) → Numbers → PlayFault → Type 0
+IsPlayFault old new level script n (Level fault) = IsFaultOf (spelled level) fault × Keeps old new
+IsPlayFault old new level script n (Script fault) =
+    MatchResult (spelled level) (λ _. (fault ≡ OutOfMemory) ⊎ (script_of script ≡ Err fault)) (λ _. ⊥) × Keeps old new
+IsPlayFault old new level script n (Run fault) = IsSomeAnd (spelled_game level script) (λ g. WrotePart old new g n.frames fault.frames)

@@ -1,0 +1,45 @@
+ghost use Rattle.std.specs.Prelude.{◌≡◌, OnOk, OnErr, IfOk, IfErr, IsSomeAnd, MatchOption};
+ghost use Rattle.std.specs.Io.KnownBytes.{Appends, Keeps};
+ghost use Rattle.game_rules.specs.Text.{texts};
+ghost use Rattle.play_run.specs.Games.{spelled_game};
+ghost use Rattle.play_run.specs.Plays.{IsPlayed, IsPlayFault};
+
+use crate::fault::{PlayFault, RunFault};
+use crate::gate::Gate;
+use crate::report::RunReport;
+use crate::whole_run::run;
+use job_board::Settings;
+use level_text::{Session, read_level, read_script};
+use std::alloc::Global;
+use std::io::Write;
+use std::sync::Wait;
+use std::thread::Threads;
+
+/// Plays the game that the level's and the script's bytes spell. The level is read before the script, and a fault of either
+/// is answered before anything is written.
+pub fn run_bytes<W: Write, G: Gate, R: Threads + Wait + Sync>(
+    rt: &R,
+    alloc: Global,
+    level: &[u8],
+    script: &[u8],
+    settings: Settings,
+    out: &mut W,
+    gate: &G,
+) -> Result<RunReport, PlayFault>
+    ensures ok { IfOk result (λ r. IsSomeAnd (spelled_game level.now script.now) (λ g. IsPlayed (W.contents out.old) (W.contents out.new) g settings r)) }
+    ensures err { IfErr result (IsPlayFault (W.contents out.old) (W.contents out.new) level.now script.now settings) }
+{
+    let level = match read_level(alloc, level) {
+        Ok(level) => level,
+        Err(fault) => return Err(PlayFault::Level(fault)),
+    };
+    let script = match read_script(alloc, script) {
+        Ok(script) => script,
+        Err(fault) => return Err(PlayFault::Script(fault)),
+    };
+    let session = Session::new(level, script);
+    match run(rt, alloc, &session, settings, out, gate) {
+        Ok(report) => Ok(report),
+        Err(fault) => Err(PlayFault::Run(fault)),
+    }
+}

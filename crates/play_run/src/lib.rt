@@ -1,0 +1,20 @@
+// Plays a session's frames on worker threads, and writes them in order.
+#![tactic(auto)]
+
+mod bytes;
+mod crew;
+mod drawing;
+mod fault;
+mod gate;
+mod hall;
+mod printer;
+mod report;
+mod waiters;
+mod whole_run;
+mod worker;
+
+pub use bytes::run_bytes;
+pub use fault::{Cause, PlayFault, RunFault};
+pub use gate::{EveryJob, Gate};
+pub use report::RunReport;
+pub use whole_run::run;

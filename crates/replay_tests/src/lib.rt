@@ -1,0 +1,7 @@
+// Whole lists of events that are replayed and completed: tests alone.
+#![tactic(auto)]
+
+#[cfg(test)]
+mod games;
+#[cfg(test)]
+mod walk;

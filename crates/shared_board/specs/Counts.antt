@@ -1,0 +1,33 @@
+-- Which events name a worker, and which show a frame.
+use Rattle.std.specs.Prelude.{ℕ, Bool, true, false, ◌==◌, List, count_by}
+use Rattle.job_core.specs.declared.names.Event.{Event}
+use Rattle.job_core.specs.declared.names.Event.TheVariants.{Start, Resume, Ask, Spread, Hold, Finish, Emit, Stop}
+
+abbrev pub names_worker : Event → Bool
+names_worker (Start w j) = true
+names_worker (Resume w j) = true
+names_worker (Ask w j) = true
+names_worker (Spread w j) = true
+names_worker (Hold w j) = true
+names_worker (Finish w j) = true
+names_worker (Emit f) = false
+names_worker Stop = false
+
+abbrev pub is_emit : Event → Bool
+is_emit (Emit f) = true
+is_emit event = false
+
+-- it names this worker
+abbrev pub names : ℕ → Event → Bool
+names worker (Start w j) = w == worker
+names worker (Resume w j) = w == worker
+names worker (Ask w j) = w == worker
+names worker (Spread w j) = w == worker
+names worker (Hold w j) = w == worker
+names worker (Finish w j) = w == worker
+names worker (Emit f) = false
+names worker Stop = false
+
+-- the steps of a worker
+abbrev pub steps_of : ℕ → List Event → ℕ
+steps_of worker events = count_by (names worker) events

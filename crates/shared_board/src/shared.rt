@@ -1,0 +1,183 @@
+ghost use Rattle.std.specs.Prelude.{◌≡◌, ◌+◌, ◌<◌, ◌≤◌, ◌⊎◌, MatchResult, MatchOption, IfOk, IfSome, count_by, [], true, Some};
+ghost use Rattle.std.specs.Coded.{Coded-set, coded_option};
+ghost use Rattle.level_text.specs.GameCode.{game_code};
+ghost use Rattle.job_core.specs.Core.{IsComplete};
+ghost use Rattle.frame_params.specs.Tasks.{game_of};
+ghost use Rattle.shared_board.specs.Counts.{names_worker, is_emit};
+ghost use Rattle.shared_board.specs.Runs.{setup_for, IsStepIn};
+
+use crate::handing::hand_in;
+use crate::run_ledger::RunLedger;
+use frame_params::{Step, Task};
+use job_board::{Board, BoardFault, Event, Settings, Shown};
+use level_text::Session;
+use std::sync::ledger::{Book, Ledger, Share};
+
+/// A board with two books: one of its events that name a worker, one of those that show a frame. A thread that makes
+/// such an event happen adds one to its share of the book.
+#[derive(Drop)]
+pub struct SharedBoard<'t, L: RunLedger, M: Ledger> {
+    board: Board<'t>,
+    named: Book<L>,
+    emitted: Book<M>,
+    ghost game_is: { L.game ≡ Some board.run.game } by { Coded-set (coded_option game_code) L.game (Some board.run.game) },
+    ghost numbers_are: { L.numbers ≡ Some board.run.numbers },
+    ghost named_is: { named.total ≡ count_by names_worker board.run.events },
+    ghost emitted_is: { emitted.total ≡ count_by is_emit board.run.events },
+}
+
+impl<'t, L: RunLedger, M: Ledger> SharedBoard<'t, L, M> {
+    /// A board on which nothing has happened, with empty books.
+    pub fn new(board: Board<'t>, named: Book<L>, emitted: Book<M>) -> SharedBoard<'t, L, M>
+        requires run { (L.game ≡ Some board.run.game) × (L.numbers ≡ Some board.run.numbers) }
+        requires log { board.run.events ≡ [] }
+        requires books { (named.total ≡ 0) × (emitted.total ≡ 0) }
+    {
+        SharedBoard {
+            board,
+            named,
+            emitted,
+        }
+    }
+
+    /// Takes a task for an idle worker. None where it can neither start nor resume a job.
+    pub fn take(
+        &mut self,
+        worker: u32,
+        session: &Session,
+        mine: &mut Share<L>,
+    ) -> Result<Option<Task<'t>>, BoardFault>
+        requires run { L.game ≡ Some session.now }
+        requires part { 0 < mine.old.parts }
+        ensures parts { mine.new.parts ≡ mine.old.parts }
+        ensures counted { MatchResult result (λ t. MatchOption t (mine.new.amount ≡ mine.old.amount) (λ _. mine.new.amount ≡ mine.old.amount + 1)) (λ _. mine.new.amount ≡ mine.old.amount) }
+        ensures game { IfOk result (λ t. IfSome t (λ task. game_of task ≡ session.now)) }
+    {
+        let _ = session;
+        match self.board.take(worker) {
+            Ok(Some(task)) => {
+                self.named.add(mine, 1);
+                Ok(Some(task))
+            }
+            Ok(None) => Ok(None),
+            Err(fault) => Err(fault),
+        }
+    }
+
+    /// Hands in what the work of a worker's job came to. At a Logic's beginning its thinks are spread, or it holds where
+    /// that is illegal.
+    pub fn hand_in(
+        &mut self,
+        worker: u32,
+        session: &Session,
+        step: Step<'t>,
+        mine: &mut Share<L>,
+    ) -> Result<(), BoardFault>
+        requires run { L.game ≡ Some session.now }
+        requires own { IsStepIn session.now step }
+        requires part { 0 < mine.old.parts }
+        ensures parts { mine.new.parts ≡ mine.old.parts }
+        ensures counted { MatchResult result (λ _. mine.new.amount ≡ mine.old.amount + 1) (λ _. mine.new.amount ≡ mine.old.amount) }
+    {
+        let SharedBoard { board, named, .. } = self;
+        let _ = session;
+        match hand_in(board, worker, step) {
+            Ok(()) => {
+                named.add(mine, 1);
+                Ok(())
+            }
+            Err(fault) => Err(fault),
+        }
+    }
+
+    /// Hands in what the work of a worker's job came to, and takes its next task.
+    pub fn next(
+        &mut self,
+        worker: u32,
+        session: &Session,
+        step: Step<'t>,
+        mine: &mut Share<L>,
+    ) -> Result<Option<Task<'t>>, BoardFault>
+        requires run { L.game ≡ Some session.now }
+        requires own { IsStepIn session.now step }
+        requires part { 0 < mine.old.parts }
+        ensures parts { mine.new.parts ≡ mine.old.parts }
+        ensures counted { MatchResult result
+            (λ t. MatchOption t (mine.new.amount ≡ mine.old.amount + 1) (λ _. mine.new.amount ≡ mine.old.amount + 2))
+            (λ _. (mine.new.amount ≡ mine.old.amount) ⊎ (mine.new.amount ≡ mine.old.amount + 1)) }
+        ensures game { IfOk result (λ t. IfSome t (λ task. game_of task ≡ session.now)) }
+    {
+        match self.hand_in(worker, session, step, mine) {
+            Ok(()) => self.take(worker, session, mine),
+            Err(fault) => Err(fault),
+        }
+    }
+
+    /// Shows the next frame. Whoever holds the whole share of frames knows which one that is.
+    pub fn emit(
+        &mut self,
+        session: &Session,
+        settings: Settings,
+        mine: &mut Share<M>,
+    ) -> Result<Shown<'t>, BoardFault>
+        requires run { (L.game ≡ Some session.now) × (L.numbers ≡ Some settings) }
+        requires mine { (mine.old.parts ≡ M.parts) × (0 < M.parts) }
+        ensures parts { mine.new.parts ≡ mine.old.parts }
+        ensures counted { MatchResult result (λ _. mine.new.amount ≡ mine.old.amount + 1) (λ _. mine.new.amount ≡ mine.old.amount) }
+        ensures next { IfOk result (λ shown. shown.frame ≡ mine.old.amount + 1) }
+        ensures game { IfOk result (λ shown. shown.game ≡ session.now) }
+        ensures within { IfOk result (λ shown. shown.frame ≤ settings.frames) }
+    {
+        let SharedBoard { board, emitted, .. } = self;
+        emitted.audit(mine);
+        match board.emit() {
+            Ok(shown) => {
+                emitted.add(mine, 1);
+                Ok(shown)
+            }
+            Err(fault) => Err(fault),
+        }
+    }
+
+    /// Nothing happens any more.
+    pub fn stop(&mut self) {
+        self.board.stop();
+    }
+
+    /// Whether all frames are shown, and the board isn't stopped.
+    pub fn is_done(&self) -> bool {
+        self.board.is_done()
+    }
+
+    /// Whether an idle worker could be given a task.
+    pub fn may_take(&self) -> bool {
+        self.board.may_take()
+    }
+
+    /// Whether the next frame can be shown.
+    pub fn may_show(&self) -> bool {
+        self.board.may_show()
+    }
+
+    /// The events, once all shares are joined; None where they are not a complete list.
+    pub fn events(
+        &mut self,
+        session: &Session,
+        settings: Settings,
+        all: &mut Share<L>,
+        emits: &mut Share<M>,
+    ) -> Option<&[Event]>
+        requires run { (L.game ≡ Some session.now) × (L.numbers ≡ Some settings) }
+        requires whole { (all.old.parts ≡ L.parts) × (emits.old.parts ≡ M.parts) }
+        ensures complete { IfSome result (λ events. IsComplete (setup_for session.now settings) events.now) }
+        ensures named { IfSome result (λ events. count_by names_worker events.now ≡ all.old.amount) }
+        ensures emitted { IfSome result (λ events. count_by is_emit events.now ≡ emits.old.amount) }
+    {
+        self.named.audit(all);
+        self.emitted.audit(emits);
+        if self.board.is_done() {
+            return Some(self.board.events());
+        }
+        None
+    }
+}

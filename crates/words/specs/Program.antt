@@ -1,0 +1,71 @@
+-- The program's words, and what they ask for.
+use Rattle.std.specs.Prelude.{ℕ, ◌≡◌, ◌≢◌, List, [], ◌∷◌, Some, Option, codes, pos, string_bytes, true, option_map, String}
+use Rattle.std.specs.Str.Parse.{digits_value, without_leading_plus}
+use Rattle.clap.specs.Words.{App, Row, Rule, Text, first_of, new_app, new_rule, subcommand_of, with_rule, with_subcommand}
+use Rattle.clap.specs.Simple.{on_top}
+use Rattle.clap.specs.declared.builder.value_parser.ValueParser.TheVariants as parsers
+use Rattle.job_machine.specs.Numbers.{Numbers}
+use Rattle.words.specs.declared.request.Words.{Words}
+use Rattle.words.specs.declared.request.Words.TheVariants.{Piped, Play, Replay, Check}
+
+-- a required option with a number in a range
+abbrev pub number_rule : Text → ℕ → ℕ → Rule
+number_rule name least most = record (new_rule name) { long = Some name; required = true; parser = Some (parsers.Signed (pos least) (pos most)) }
+
+-- an option with a number in a range, and its default
+abbrev pub default_rule : Text → ℕ → ℕ → Text → Rule
+default_rule name least most value = record (new_rule name) { long = Some name; defaults = value ∷ []; parser = Some (parsers.Signed (pos least) (pos most)) }
+
+-- an option with a path
+abbrev pub path_rule : Text → Rule
+path_rule name = record (new_rule name) { long = Some name }
+
+-- a required word
+abbrev pub word_rule : Text → Rule
+word_rule name = record (new_rule name) { required = true }
+
+-- `play LEVEL --frames N --workers K [--fibers F] [--slots P] [--script FILE] [--log FILE]`
+abbrev pub play : App
+play = with_rule (with_rule (with_rule (with_rule (with_rule (with_rule (with_rule (new_app (codes "play")) (word_rule (codes "level")))
+    (number_rule (codes "frames") 0 9999)) (number_rule (codes "workers") 1 16)) (default_rule (codes "fibers") 3 64 (codes "16")))
+    (default_rule (codes "slots") 1 16 (codes "3"))) (path_rule (codes "script"))) (path_rule (codes "log"))
+
+-- `replay LEVEL LOG [--script FILE]`
+abbrev pub replay : App
+replay = with_rule (with_rule (with_rule (new_app (codes "replay")) (word_rule (codes "level"))) (word_rule (codes "log"))) (path_rule (codes "script"))
+
+-- `check LEVEL`
+abbrev pub check : App
+check = with_rule (new_app (codes "check")) (word_rule (codes "level"))
+
+abbrev pub program : App
+program = with_subcommand (with_subcommand (with_subcommand
+    (on_top (λ s. record s { no_binary_name = true }) (new_app (codes "btworld"))) play.top) replay.top) check.top
+
+-- the decimal value of an entry
+abbrev pub IsNumber : Option Text → ℕ → Type 0
+IsNumber entry n = (t : Text) × (entry ≡ Some t) × (n ≡ digits_value 10 (without_leading_plus t))
+
+abbrev pub IsText : {A : Type 0} → List Row → Text → String A → Type 0
+IsText rows name s = first_of name rows ≡ Some (string_bytes s)
+
+abbrev pub IsOptional : {A : Type 0} → List Row → Text → Option (String A) → Type 0
+IsOptional rows name s = first_of name rows ≡ option_map (λ t. string_bytes t) s
+
+-- each number is its entry's; clap's reading has an entry with the default where the words have none
+abbrev pub AreNumbers : List Row → Numbers → Type 0
+AreNumbers rows settings = IsNumber (first_of (codes "frames") rows) settings.frames × IsNumber (first_of (codes "workers") rows) settings.workers
+    × IsNumber (first_of (codes "fibers") rows) settings.fibers × IsNumber (first_of (codes "slots") rows) settings.slots
+
+-- clap's reading of the words is this subcommand with these entries
+abbrev pub Enters : List Text → Text → List Row → Type 0
+Enters words name rows = (words ≢ []) × (subcommand_of program words ≡ Some (name, rows))
+
+-- no words, or the subcommand and the entries of clap's reading
+abbrev pub IsReading : List Text → Words → Type 0
+IsReading words Piped = words ≡ []
+IsReading words (Play level settings script log) = (rows : List Row) × Enters words (codes "play") rows × IsText rows (codes "level") level
+    × AreNumbers rows settings × IsOptional rows (codes "script") script × IsOptional rows (codes "log") log
+IsReading words (Replay level log script) = (rows : List Row) × Enters words (codes "replay") rows × IsText rows (codes "level") level
+    × IsText rows (codes "log") log × IsOptional rows (codes "script") script
+IsReading words (Check level) = (rows : List Row) × Enters words (codes "check") rows × IsText rows (codes "level") level

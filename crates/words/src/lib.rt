@@ -1,0 +1,15 @@
+// The words after the program's name, and what they ask for.
+#![tactic(auto)]
+
+mod arguments;
+mod entries;
+mod fault;
+mod negative;
+mod reading;
+mod request;
+#[cfg(test)]
+mod tests;
+
+pub use fault::WordsFault;
+pub use reading::read_words;
+pub use request::Words;

@@ -1,0 +1,108 @@
+ghost use Rattle.std.specs.Prelude.{◌≡◌, ℕ, List, [], codes, map, string_bytes, IfOk};
+ghost use Rattle.words.specs.Program.{IsReading, Enters, AreNumbers};
+ghost use Rattle.clap.specs.Words.{found_of, rows_of};
+
+use crate::arguments::program_command;
+use crate::entries::{missing, number_entry, optional_entry, text_entry};
+use crate::fault::WordsFault;
+use crate::negative::negative_text;
+use crate::request::Words;
+use clap::error::ErrorKind;
+use clap::{ArgMatches, Error};
+use job_machine::Settings;
+use std::alloc::Global;
+
+/// What clap answers in place of matches.
+fn fault_of(alloc: Global, words: &[String], error: &Error) -> WordsFault {
+    if error.kind() == ErrorKind::OutOfMemory {
+        return WordsFault::OutOfMemory;
+    }
+    if error.kind() == ErrorKind::UnknownArgument {
+        match negative_text(alloc, words) {
+            Ok(Some(text)) => return WordsFault::Refused(text),
+            Ok(None) => {}
+            Err(_) => return WordsFault::OutOfMemory,
+        }
+    }
+    let Ok(text) = error.to_string(alloc) else {
+        return WordsFault::OutOfMemory;
+    };
+    if error.use_stderr() {
+        WordsFault::Refused(text)
+    } else {
+        WordsFault::Help(text)
+    }
+}
+
+fn settings_entry(alloc: Global, matches: &ArgMatches<'_>) -> Result<Settings, WordsFault>
+    ensures { IfOk result (AreNumbers (rows_of (found_of matches.now))) }
+{
+    let frames = number_entry(alloc, matches, "frames")?;
+    let workers = number_entry(alloc, matches, "workers")?;
+    let fibers = number_entry(alloc, matches, "fibers")?;
+    let slots = number_entry(alloc, matches, "slots")?;
+    match Settings::new(frames, workers, fibers, slots) {
+        Ok(settings) => Ok(settings),
+        Err(_) => Err(missing(alloc, "settings")),
+    }
+}
+
+fn play_words(alloc: Global, matches: &ArgMatches<'_>) -> Result<Words, WordsFault>
+    ensures { IfOk result (λ w. (ws : List (List ℕ))
+        → Enters ws (codes "play") (rows_of (found_of matches.now)) → IsReading ws w) }
+{
+    Ok(Words::Play {
+        level: text_entry(alloc, matches, "level")?,
+        settings: settings_entry(alloc, matches)?,
+        script: optional_entry(alloc, matches, "script")?,
+        log: optional_entry(alloc, matches, "log")?,
+    })
+}
+
+fn replay_words(alloc: Global, matches: &ArgMatches<'_>) -> Result<Words, WordsFault>
+    ensures { IfOk result (λ w. (ws : List (List ℕ))
+        → Enters ws (codes "replay") (rows_of (found_of matches.now)) → IsReading ws w) }
+{
+    Ok(Words::Replay {
+        level: text_entry(alloc, matches, "level")?,
+        log: text_entry(alloc, matches, "log")?,
+        script: optional_entry(alloc, matches, "script")?,
+    })
+}
+
+fn check_words(alloc: Global, matches: &ArgMatches<'_>) -> Result<Words, WordsFault>
+    ensures { IfOk result (λ w. (ws : List (List ℕ))
+        → Enters ws (codes "check") (rows_of (found_of matches.now)) → IsReading ws w) }
+{
+    Ok(Words::Check {
+        level: text_entry(alloc, matches, "level")?,
+    })
+}
+
+/// Reads the words after the program's name.
+///
+/// Words that clap refuses, numbers out of their limits among them, are `Refused` with clap's text; `--help` is
+/// `Help` with its text. Where a growth is refused while clap makes that text, the text may be shorter.
+pub fn read_words(alloc: Global, words: &[String]) -> Result<Words, WordsFault>
+    ensures reading { IfOk result (IsReading (map string_bytes words.now)) }
+    ensures none { words.now ≡ [] → result ≡ Ok Words.Piped }
+{
+    if words.is_empty() {
+        return Ok(Words::Piped);
+    }
+    let command = program_command(alloc)?;
+    let matches = match command.try_get_matches_from(words) {
+        Ok(matches) => matches,
+        Err(error) => return Err(fault_of(alloc, words, &error)),
+    };
+    if let Some(play) = matches.subcommand_matches("play") {
+        return play_words(alloc, play);
+    }
+    if let Some(replay) = matches.subcommand_matches("replay") {
+        return replay_words(alloc, replay);
+    }
+    if let Some(check) = matches.subcommand_matches("check") {
+        return check_words(alloc, check);
+    }
+    Err(missing(alloc, "command"))
+}
