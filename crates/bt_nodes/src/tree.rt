@@ -115,6 +115,3 @@ impl<A: Allocator> Tree<A> {
         })
     }
 }
-
-#[cfg(test)]
-mod tests;

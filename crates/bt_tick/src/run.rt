@@ -20,9 +20,6 @@ use fiber_stack::{Frame, Stack};
 use grid_world::{Answer, Intent};
 use std::alloc::{AllocError, Allocator};
 
-#[cfg(test)]
-mod tests;
-
 // The intent of an agent with these wants.
 fn first_want(wants: &[Intent]) -> Intent
     ensures { result ≡ first_want wants.now }

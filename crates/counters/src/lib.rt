@@ -8,6 +8,3 @@ mod key;
 pub use counters::{CounterFault, Counters, Lowered, Waits};
 pub use job_queues::Fiber;
 pub use key::CounterKey;
-
-#[cfg(test)]
-mod tests;

@@ -12,6 +12,3 @@ pub use band::{BAND_ROWS, Band, Rows};
 pub use draw::draw_band;
 pub use fault::DrawFault;
 pub use frame::frame_text;
-
-#[cfg(test)]
-mod tests;

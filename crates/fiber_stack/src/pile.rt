@@ -155,6 +155,3 @@ impl<F: Copy, A: Allocator> Pile<F, A> {
         })
     }
 }
-
-#[cfg(test)]
-mod tests;

@@ -13,18 +13,12 @@ mod logic_task;
 mod params;
 mod parked;
 mod path_task;
-#[cfg(test)]
-mod play_tests;
 mod slots;
 mod stand;
 mod step;
 mod task;
-#[cfg(test)]
-mod tests;
 mod think_step;
 mod think_task;
-#[cfg(test)]
-mod think_tests;
 mod thought;
 mod turn;
 mod way;

@@ -9,8 +9,6 @@ mod question;
 mod search;
 mod searcher;
 mod table;
-#[cfg(test)]
-mod tests;
 
 pub use distances::Distances;
 pub use fault::PathFault;

@@ -21,8 +21,6 @@ use std::sync::Arc;
 mod changes;
 mod draw;
 mod same;
-#[cfg(test)]
-mod tests;
 
 pub use changes::resolve;
 

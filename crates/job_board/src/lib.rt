@@ -6,16 +6,12 @@ mod board;
 mod enabled;
 mod fitting;
 mod hand_in;
-#[cfg(test)]
-mod hand_tests;
 pub mod laws;
 mod moves;
 mod next;
 mod refused;
 mod results;
 mod run;
-#[cfg(test)]
-mod tests;
 mod work;
 mod works;
 

@@ -17,6 +17,3 @@ pub use job_core::names::{Event, JobName};
 pub use job_queues::{Fiber, Pick, fibers_wanted};
 pub use machine::Machine;
 pub use settings::{Settings, SettingsFault};
-
-#[cfg(test)]
-mod tests;

@@ -14,6 +14,3 @@ pub use pick::Pick;
 pub use pool::{FiberPool, NoFiber, NotTaken};
 pub use priority::{Priority, fibers_wanted, is_same, job_priority};
 pub use queues::{QueueFault, Queues};
-
-#[cfg(test)]
-mod tests;

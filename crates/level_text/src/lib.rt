@@ -5,8 +5,6 @@ mod draft;
 mod leaves;
 mod level;
 mod level_fault;
-#[cfg(test)]
-mod level_tests;
 mod named_tree;
 mod nodes;
 mod parts;
@@ -14,11 +12,7 @@ mod placed;
 mod read;
 mod script;
 mod script_file;
-#[cfg(test)]
-mod script_tests;
 mod session;
-#[cfg(test)]
-mod session_tests;
 mod write;
 mod write_nodes;
 

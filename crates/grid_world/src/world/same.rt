@@ -44,22 +44,3 @@ impl World {
         are_same_cells(self.cells(), other.cells())
     }
 }
-
-#[cfg(test)]
-mod tests {
-    use crate::world::World;
-    use std::test::Fail;
-
-    #[test]
-    fn worlds_differ_in_cells_items_and_agents(rt: HostRuntime) -> Result<(), Fail> {
-        let alloc = rt.alloc();
-        let rows = [String::from_str(alloc, "A*.a")?];
-        let world = World::from_rows(alloc, &rows)?;
-        assert!(rt; world.is_same(&World::from_rows(alloc, &rows)?));
-        for other in ["A*.b", "A.*a", "*A.a", "A*..", "A*.a."] {
-            let rows = [String::from_str(alloc, other)?];
-            assert!(rt; !world.is_same(&World::from_rows(alloc, &rows)?), "{other}");
-        }
-        Ok(())
-    }
-}

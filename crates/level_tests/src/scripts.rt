@@ -1,5 +1,5 @@
-use crate::{Script, Session, read_level, read_script};
 use grid_world::Signal;
+use level_text::{Script, Session, read_level, read_script};
 use std::test::Fail;
 
 #[test]

@@ -1,7 +1,7 @@
-use super::*;
+use bt_nodes::{Node, Tree, TreeFault};
 use bumpalo::Bump;
 use grid_world::{Place, Signal};
-use std::alloc::Global;
+use std::alloc::{AllocError, Allocator, Global};
 use std::test::Fail;
 
 fn list(alloc: Global, length: u64) -> Result<Vec<Node<Global>>, AllocError> {

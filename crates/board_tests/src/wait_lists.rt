@@ -1,5 +1,4 @@
-use super::counters::{CounterFault, Counters, Lowered, Waits};
-use super::key::CounterKey;
+use counters::{CounterFault, CounterKey, Counters, Lowered, Waits};
 use job_queues::Fiber;
 use std::test::Fail;
 

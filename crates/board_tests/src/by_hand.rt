@@ -1,7 +1,7 @@
 // A board that worker 0 plays by hand.
-use crate::tests::{PATH, WALK, board_of, ends_with_stop, is_walked, session_of};
-use crate::{Board, BoardFault, Done, JobName};
+use crate::walk::{PATH, WALK, board_of, ends_with_stop, is_walked, session_of};
 use frame_params::{LogicStep, Step, Task, ThinkStep, Way};
+use job_board::{Board, BoardFault, Done, JobName};
 use level_text::Session;
 use std::alloc::Global;
 use std::test::Fail;

@@ -1,5 +1,5 @@
-use crate::{Band, DrawFault, draw_band, frame_text};
 use bt_nodes::Status;
+use draw_list::{Band, DrawFault, draw_band, frame_text};
 use grid_world::{Dir, Intent, Signal, Signals, World, resolve};
 use std::alloc::Global;
 use std::test::Fail;

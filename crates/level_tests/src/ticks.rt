@@ -1,5 +1,6 @@
-use super::*;
-use grid_world::{Dir, Place, Signal, Signals, World};
+use bt_nodes::{Node, Status, Tree};
+use bt_tick::{Memory, Outcome, View, begin, resume};
+use grid_world::{Answer, Dir, Intent, Place, Signal, Signals, World};
 use std::alloc::Global;
 use std::test::Fail;
 

@@ -1,6 +1,6 @@
 //! Questions with known answers, and a search compared with numbers of steps that are found another way.
-use crate::{Answer, PathFault, ask};
-use grid_world::{Dir, Place, Signal, Signals, World};
+use grid_path::{PathFault, ask};
+use grid_world::{Answer, Dir, Place, Signal, Signals, World};
 use linked_list_allocator::LocalHeap;
 use std::alloc::Global;
 use std::test::Fail;

@@ -1,4 +1,4 @@
-use crate::{Session, read_level, read_script};
+use level_text::{Session, read_level, read_script};
 use std::alloc::Global;
 use std::test::Fail;
 

@@ -1,6 +1,6 @@
-use super::*;
 use bt_nodes::Node;
 use bumpalo::Bump;
+use fiber_stack::{Frame, Pile, Stack};
 use linked_list_allocator::LocalHeap;
 use std::alloc::{AllocError, Global};
 use std::test::Fail;

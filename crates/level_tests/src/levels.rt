@@ -1,4 +1,4 @@
-use crate::{level_of, read_level, write_level};
+use level_text::{level_of, read_level, write_level};
 use serde_json::Value;
 use std::test::Fail;
 

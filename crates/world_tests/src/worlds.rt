@@ -1,8 +1,6 @@
-use super::{World, resolve};
-use crate::cell::{Agent, Cell, Dir, Intent};
-use crate::fault::{MapFault, ResolveFault};
-use crate::place::Place;
-use crate::signal::{Signal, Signals};
+use grid_world::{
+    Agent, Cell, Dir, Intent, MapFault, Place, ResolveFault, Signal, Signals, World, resolve,
+};
 use std::alloc::{AllocError, Global};
 use std::process::Abort;
 use std::test::Fail;
@@ -189,5 +187,18 @@ fn carries_an_item(rt: HostRuntime) -> Result<(), Fail> {
         picture(alloc, &world, Signals::off())?.as_slice(),
         b"..A*\n".as_slice()
     );
+    Ok(())
+}
+
+#[test]
+fn worlds_differ_in_cells_items_and_agents(rt: HostRuntime) -> Result<(), Fail> {
+    let alloc = rt.alloc();
+    let rows = [String::from_str(alloc, "A*.a")?];
+    let world = World::from_rows(alloc, &rows)?;
+    assert!(rt; world.is_same(&World::from_rows(alloc, &rows)?));
+    for other in ["A*.b", "A.*a", "*A.a", "A*..", "A*.a."] {
+        let rows = [String::from_str(alloc, other)?];
+        assert!(rt; !world.is_same(&World::from_rows(alloc, &rows)?), "{other}");
+    }
     Ok(())
 }

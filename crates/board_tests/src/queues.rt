@@ -1,9 +1,5 @@
-use super::fiber::Fiber;
-use super::pick::Pick;
-use super::pool::{FiberPool, NoFiber, NotTaken};
-use super::priority::Priority;
-use super::queues::{QueueFault, Queues};
 use job_core::names::JobName;
+use job_queues::{Fiber, FiberPool, NoFiber, NotTaken, Pick, Priority, QueueFault, Queues};
 use std::test::Fail;
 
 const LOGIC: JobName = JobName::Logic { frame: 1 };
