@@ -1,0 +1,156 @@
+// Jobs that are held until others have come: with workers enough the run comes to its end, with one fewer its gate closes.
+use crate::gates::{Four, Until};
+use crate::levels::{FOUR_BANDS, FOUR_NEIGHBOURS, NEIGHBOURS, RACE, WALK};
+use job_board::{JobName, Settings};
+use play_run::{Cause, Gate, PlayFault, RunFault, run_bytes};
+use std::alloc::Global;
+use std::sync::Wait;
+use std::sync::atomic::AtomicU64;
+use std::test::Fail;
+use std::thread::Threads;
+
+// How often a held job looks for others that come, and for others that can't come.
+const MANY: u64 = 1_000_000_000;
+
+const FEW: u64 = 10_000_000;
+
+// Two jobs of a level, of which the first is held until the second has come.
+struct Meeting {
+    level: &'static [u8],
+    frames: u32,
+    held: JobName,
+    other: JobName,
+    worked: bool,
+    written: usize,
+}
+
+static MEETINGS: [Meeting; 4] = [
+    Meeting {
+        level: NEIGHBOURS,
+        frames: 1,
+        held: JobName::Think { frame: 1, agent: 0 },
+        other: JobName::Think { frame: 1, agent: 1 },
+        worked: false,
+        written: 31,
+    },
+    Meeting {
+        level: NEIGHBOURS,
+        frames: 1,
+        held: JobName::Think { frame: 1, agent: 0 },
+        other: JobName::Think { frame: 1, agent: 1 },
+        worked: true,
+        written: 31,
+    },
+    Meeting {
+        level: RACE,
+        frames: 1,
+        held: JobName::Path {
+            frame: 1,
+            agent: 0,
+            question: 0,
+        },
+        other: JobName::Path {
+            frame: 1,
+            agent: 1,
+            question: 0,
+        },
+        worked: false,
+        written: 32,
+    },
+    Meeting {
+        level: WALK,
+        frames: 2,
+        held: JobName::Think { frame: 2, agent: 0 },
+        other: JobName::Draw { frame: 1, band: 0 },
+        worked: false,
+        written: 44,
+    },
+];
+
+impl Meeting {
+    fn gate(&self, looks: u64) -> Until {
+        Until {
+            held: self.held,
+            other: self.other,
+            worked: self.worked,
+            looks,
+            come: AtomicU64::new(0),
+        }
+    }
+}
+
+// How many bytes a run of a level writes, where it comes to its end, and none where its gate closes at once.
+fn written<G: Gate, R: Threads + Wait + Sync>(
+    rt: &R,
+    alloc: Global,
+    level: &[u8],
+    frames: u32,
+    workers: u32,
+    gate: &G,
+) -> Result<Option<usize>, Fail> {
+    let settings = Settings::new(frames, workers, 16, 3)?;
+    let mut out: Vec<u8> = Vec::new(alloc);
+    match run_bytes(rt, alloc, level, b"", settings, &mut out, gate) {
+        Ok(_) => Ok(Some(out.len())),
+        Err(
+            PlayFault::Run(
+                RunFault {
+                    cause: Cause::GateClosed,
+                    frames: 0,
+                },
+            ),
+        ) if out.is_empty() => Ok(None),
+        Err(_) => Err(Fail::from("another fault")),
+    }
+}
+
+#[test]
+fn two_workers_work_two_jobs_at_once(rt: HostRuntime) -> Result<(), Fail> {
+    for meeting in &MEETINGS {
+        for workers in [2, 16] {
+            let gate = meeting.gate(MANY);
+            let ended = written(
+                &rt,
+                rt.alloc(),
+                meeting.level,
+                meeting.frames,
+                workers,
+                &gate,
+            )?;
+            assert_eq!(rt; ended, Some(meeting.written), "{workers}");
+        }
+    }
+    Ok(())
+}
+
+#[test]
+fn one_worker_works_one_job_at_a_time(rt: HostRuntime) -> Result<(), Fail> {
+    for meeting in &MEETINGS {
+        let gate = meeting.gate(FEW);
+        let ended = written(&rt, rt.alloc(), meeting.level, meeting.frames, 1, &gate)?;
+        assert_eq!(rt; ended, None);
+    }
+    Ok(())
+}
+
+#[test]
+fn four_workers_work_four_jobs_at_once(rt: HostRuntime) -> Result<(), Fail> {
+    for (level, draws, bytes) in [(FOUR_NEIGHBOURS, false, 106), (FOUR_BANDS, true, 144)] {
+        for workers in [4, 16] {
+            let gate = Four::new(draws, MANY);
+            let ended = written(&rt, rt.alloc(), level, 2, workers, &gate)?;
+            assert_eq!(rt; ended, Some(bytes), "{workers}");
+        }
+    }
+    Ok(())
+}
+
+#[test]
+fn three_workers_work_three_jobs_at_once(rt: HostRuntime) -> Result<(), Fail> {
+    for (level, draws) in [(FOUR_NEIGHBOURS, false), (FOUR_BANDS, true)] {
+        let gate = Four::new(draws, FEW);
+        let ended = written(&rt, rt.alloc(), level, 2, 3, &gate)?;
+        assert_eq!(rt; ended, None);
+    }
+    Ok(())
+}

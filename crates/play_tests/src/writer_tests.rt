@@ -1,0 +1,72 @@
+// A writer whose call fails, and what is written before.
+use crate::levels::{WALK, WALK_TEXT};
+use job_board::Settings;
+use play_run::{Cause, EveryJob, PlayFault, RunFault, run_bytes};
+use std::alloc::Global;
+use std::io;
+use std::io::Write;
+use std::sync::Wait;
+use std::test::Fail;
+use std::thread::Threads;
+
+/// Takes one byte a call, so many in all.
+#[derive(Drop)]
+struct Narrow {
+    bytes: Vec<u8>,
+    room: usize,
+}
+
+impl Write for Narrow {
+    fn write(&mut self, buf: &[u8]) -> io::Result<usize> {
+        if buf.is_empty() {
+            return Ok(0);
+        }
+        if self.bytes.len() >= self.room {
+            return Err(io::Error::from(io::ErrorKind::Other));
+        }
+        self.bytes.push(buf[0])?;
+        Ok(1)
+    }
+
+    fn flush(&mut self) -> io::Result<()> {
+        Ok(())
+    }
+}
+
+// After how many frames a run of a walk fails to write.
+fn failed_after<R: Threads + Wait + Sync>(
+    rt: &R,
+    alloc: Global,
+    workers: u32,
+    out: &mut Narrow,
+) -> Result<u32, Fail> {
+    let settings = Settings::new(3, workers, 16, 3)?;
+    match run_bytes(rt, alloc, WALK, b"", settings, out, &EveryJob) {
+        Err(
+            PlayFault::Run(
+                RunFault {
+                    cause: Cause::Write,
+                    frames,
+                },
+            ),
+        ) => Ok(frames),
+        _ => Err(Fail::from("no failed write")),
+    }
+}
+
+#[test]
+fn the_first_bytes_are_written(rt: HostRuntime) -> Result<(), Fail> {
+    let alloc = rt.alloc();
+    for workers in [1, 2, 16] {
+        for room in 0..66usize {
+            let mut out = Narrow {
+                bytes: Vec::new(alloc),
+                room,
+            };
+            let frames = failed_after(&rt, alloc, workers, &mut out)?;
+            assert_eq!(rt; frames as usize, room / 22, "{room}");
+            assert_eq!(rt; out.bytes.as_slice(), &WALK_TEXT[..room], "{room}");
+        }
+    }
+    Ok(())
+}
