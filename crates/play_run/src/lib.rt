@@ -9,6 +9,7 @@ mod gate;
 mod hall;
 mod printer;
 mod report;
+mod scratch;
 mod waiters;
 mod whole_run;
 mod worker;

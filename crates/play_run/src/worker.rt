@@ -7,6 +7,7 @@ ghost use Rattle.play_run.specs.Turns.{IsTurnIn};
 use crate::fault::Cause;
 use crate::gate::Gate;
 use crate::hall::Hall;
+use crate::scratch::Scratch;
 use frame_params::{Step, Task};
 use job_board::BoardFault;
 use level_text::Session;
@@ -115,6 +116,7 @@ fn next_turn<'t, L: RunLedger, M: Ledger, R: Wait>(
 // The work of a task, between the two questions to the gate. The task is let go with the lock free.
 fn work_of<'t, G: Gate>(
     alloc: Global,
+    scratch: &mut Scratch,
     session: &Session,
     gate: &G,
     worker: u32,
@@ -128,7 +130,7 @@ fn work_of<'t, G: Gate>(
     if !gate.pass(worker, job, false) {
         return Err(Cause::GateClosed);
     }
-    let step = match task.work(alloc) {
+    let step = match scratch.work(alloc, &task) {
         Ok(step) => step,
         Err(_) => return Err(Cause::OutOfMemory),
     };
@@ -158,6 +160,7 @@ pub fn work<'t, L: RunLedger, M: Ledger, G: Gate, R: Wait>(
     requires part { share.parts ≡ 1 }
 {
     let mut share = share;
+    let mut scratch = Scratch::new(alloc);
     let mut turn = wait_for_task(rt, session, hall, worker, &mut share);
     for _ in rt.forever() {
         let task = match turn {
@@ -168,7 +171,7 @@ pub fn work<'t, L: RunLedger, M: Ledger, G: Gate, R: Wait>(
                 return hand_back(share, Some(cause));
             }
         };
-        match work_of(alloc, session, gate, worker, task) {
+        match work_of(alloc, &mut scratch, session, gate, worker, task) {
             Ok(step) => turn = next_turn(rt, session, hall, worker, step, &mut share),
             Err(cause) => {
                 hall.stop(rt);
