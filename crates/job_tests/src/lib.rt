@@ -1,8 +1,6 @@
-// Queues, counters, logs and boards by example: tests alone.
+// Queues, counters, settings and logs by example: tests alone.
 #![tactic(auto)]
 
-#[cfg(test)]
-mod by_hand;
 #[cfg(test)]
 mod logs;
 #[cfg(test)]
@@ -11,5 +9,3 @@ mod machines;
 mod queues;
 #[cfg(test)]
 mod wait_lists;
-#[cfg(test)]
-mod walk;
