@@ -64,6 +64,14 @@ AreNumbers rows settings = IsNumber (first_of (codes "frames") rows) settings.fr
 abbrev pub Enters : List Text → Text → List Row → Type 0
 Enters words name rows = (words ≢ []) × (fault_of program words ≡ []) × (subcommand_of program words ≡ Some (name, rows))
 
+-- the words are taken for `play` with so many frames
+abbrev pub AsksToPlay : List Text → ℕ → Type 0
+AsksToPlay words frames = (rows : List Row) × Enters words (codes "play") rows × IsNumber (first_of (codes "frames") rows) frames
+
+-- the words are taken for `replay`
+abbrev pub AsksToReplay : List Text → Type 0
+AsksToReplay words = (rows : List Row) × Enters words (codes "replay") rows
+
 -- no words, or the subcommand and the entries of clap's reading
 abbrev pub IsReading : List Text → Words → Type 0
 IsReading words Piped = words ≡ []
