@@ -29,19 +29,45 @@ pub struct Span {
     pub last: usize,
 }
 
-/// Which file is cut, or standard input where it is none, and to how many bytes.
+/// What the length of a cut file is counted in.
+#[derive(Clone, Copy, Drop)]
+pub enum Unit {
+    Bytes,
+    Lines,
+}
+
+/// Which file is cut, or standard input where it is none, and to what lengths.
 #[derive(Drop)]
 pub struct Cut {
     pub path: Option<String>,
+    pub unit: Unit,
     pub lengths: Span,
 }
 
-/// Words, what is there before, and what has to come of them.
+/// The files of a log that is completed.
+#[derive(Drop)]
+pub struct Completion {
+    pub level: String,
+    pub log: String,
+    /// Where the whole log is written.
+    pub whole: String,
+}
+
+/// What a run does.
+#[derive(Drop)]
+pub enum Act {
+    /// What these words ask the program for.
+    Words(Vec<String>),
+    /// Completes a log, which no words of the program ask for.
+    Complete(Completion),
+}
+
+/// What is done, what is there before, and what has to come of it.
 #[derive(Drop)]
 pub struct Case {
     pub name: String,
-    /// Each list of words is a run of its own.
-    pub words: Vec<Vec<String>>,
+    /// Each is a run of its own.
+    pub acts: Vec<Act>,
     /// Words of a run that comes after each, and has to write the same frames.
     pub then: Option<Vec<String>>,
     pub files: Vec<NamedBytes>,
@@ -65,7 +91,7 @@ impl Case {
     pub fn new(alloc: Global, name: String) -> Case {
         Case {
             name,
-            words: Vec::new(alloc),
+            acts: Vec::new(alloc),
             then: None,
             files: Vec::new(alloc),
             input: Vec::new(alloc),

@@ -1,5 +1,5 @@
 // Cases as their files spell them.
-use crate::case::{Case, Cut, NamedBytes, NamedLines, Span};
+use crate::case::{Act, Case, Completion, Cut, NamedBytes, NamedLines, Span, Unit};
 use anyhow::{Context, Result, bail};
 use std::alloc::Global;
 use std::fs;
@@ -34,7 +34,7 @@ fn span_in(line: &str) -> Result<Span> {
     })
 }
 
-fn cut_in(alloc: Global, line: &str) -> Result<Cut> {
+fn cut_in(alloc: Global, line: &str, unit: Unit) -> Result<Cut> {
     let (path, lengths) = line.split_once(' ').context("cut without lengths")?;
     let path = if path == "stdin" {
         None
@@ -43,7 +43,29 @@ fn cut_in(alloc: Global, line: &str) -> Result<Cut> {
     };
     Ok(Cut {
         path,
+        unit,
         lengths: span_in(lengths)?,
+    })
+}
+
+fn completion_in(alloc: Global, line: &str) -> Result<Completion> {
+    let mut paths = line.split_ascii_whitespace();
+    let level = paths.next().context("no level")?;
+    let log = paths.next().context("no log")?;
+    let whole = paths.next().context("no whole log")?;
+    Ok(Completion {
+        level: String::from_str(alloc, level)?,
+        log: String::from_str(alloc, log)?,
+        whole: String::from_str(alloc, whole)?,
+    })
+}
+
+/// A file that is there before each run, and is a copy of one that always is.
+fn copy_in<H: Files + Alloc<A = Global>>(rt: &H, alloc: Global, line: &str) -> Result<NamedBytes> {
+    let (from, path) = line.split_once(' ').context("copy without a path")?;
+    Ok(NamedBytes {
+        path: String::from_str(alloc, path)?,
+        bytes: fs::read(rt, from).context("no file to copy")?,
     })
 }
 
@@ -111,11 +133,13 @@ fn put_line(case: &mut Case, part: Part, line: &str) -> Result<()> {
 /// Takes a line that begins with a word of its own, and says what the content behind it belongs to.
 fn put_word(alloc: Global, case: &mut Case, word: &str, rest: &str) -> Result<Option<Part>> {
     match word {
-        "words" => case.words.push(words_in(alloc, rest)?)?,
+        "words" => case.acts.push(Act::Words(words_in(alloc, rest)?))?,
+        "complete" => case.acts.push(Act::Complete(completion_in(alloc, rest)?))?,
         "then" => case.then = Some(words_in(alloc, rest)?),
         "lines" => case.counted.push(counted(alloc, rest)?)?,
         "status" => case.status = rest.parse::<u8>().context("status")?,
-        "cut" => case.cut = Some(cut_in(alloc, rest)?),
+        "cut" => case.cut = Some(cut_in(alloc, rest, Unit::Bytes)?),
+        "cut_lines" => case.cut = Some(cut_in(alloc, rest, Unit::Lines)?),
         "room" => case.room = Some(span_in(rest)?),
         "pieces" => case.pieces = rest.parse::<usize>().context("pieces")?,
         "file" => {
@@ -166,6 +190,11 @@ pub fn cases_in<H: Files + Alloc<A = Global>>(
         let Some(case) = cases.last_mut() else {
             bail!("a line before the first case: {line}");
         };
+        if word == "copy" {
+            case.files.push(copy_in(rt, alloc, rest)?)?;
+            part = Part::Nothing;
+            continue;
+        }
         match put_word(alloc, case, word, rest)? {
             Some(next) => part = next,
             None => put_line(case, part, line)?,

@@ -4,6 +4,7 @@
 #![tactic(auto)]
 
 mod case;
+mod completing;
 mod listing;
 mod outcome;
 mod playing;

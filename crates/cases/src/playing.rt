@@ -1,5 +1,6 @@
 // Runs of the program, and what comes of them.
-use crate::case::{Case, NamedBytes, NamedLines, Span};
+use crate::case::{Act, Case, Cut, NamedBytes, NamedLines, Span, Unit};
+use crate::completing::complete_files;
 use crate::outcome::Outcome;
 use crate::streams::{Pieces, Taker};
 use anyhow::Result;
@@ -17,41 +18,56 @@ pub struct Tally {
     pub differ: u64,
 }
 
-/// How long standard input and the files are, and how much standard output takes, in one run.
+/// What is done in one run, how long standard input and the files are, and how much standard output takes.
 #[derive(Clone, Copy, Drop)]
 struct Run<'a> {
-    words: &'a [String],
+    act: &'a Act,
     cut: Option<usize>,
     room: Option<usize>,
 }
 
+/// The first so many lines.
+fn lines_of(bytes: &[u8], count: usize) -> &[u8] {
+    let mut left = count;
+    for (index, byte) in bytes.iter().enumerate() {
+        if left == 0 {
+            return &bytes[..index];
+        }
+        if *byte == b'\n' {
+            left -= 1;
+        }
+    }
+    bytes
+}
+
 /// The bytes up to a cut.
-fn cut_to(bytes: &[u8], cut: Option<usize>) -> &[u8] {
-    match cut {
-        Some(length) => &bytes[..length.min(bytes.len())],
-        None => bytes,
+fn cut_to<'a>(bytes: &'a [u8], cut: &Cut, length: Option<usize>) -> &'a [u8] {
+    match (length, cut.unit) {
+        (Some(length), Unit::Bytes) => &bytes[..length.min(bytes.len())],
+        (Some(length), Unit::Lines) => lines_of(bytes, length),
+        (None, _) => bytes,
     }
 }
 
-/// How far the file of this path is cut in a run.
-fn cut_of(case: &Case, run: &Run<'_>, path: &str) -> Option<usize> {
+/// The bytes of a file, cut as far as it is in a run.
+fn bytes_of<'a>(case: &'a Case, run: &Run<'_>, file: &'a NamedBytes) -> &'a [u8] {
     match &case.cut {
         Some(cut) => match &cut.path {
-            Some(cut_path) => if cut_path.as_str() == path {
-                run.cut
+            Some(path) => if path.as_str() == file.path.as_str() {
+                cut_to(&file.bytes, cut, run.cut)
             } else {
-                None
+                &file.bytes
             },
-            None => None,
+            None => &file.bytes,
         },
-        None => None,
+        None => &file.bytes,
     }
 }
 
 fn input_of<'a>(case: &'a Case, run: &Run<'_>) -> &'a [u8] {
     match &case.cut {
         Some(cut) => if cut.path.is_none() {
-            cut_to(&case.input, run.cut)
+            cut_to(&case.input, cut, run.cut)
         } else {
             &case.input
         },
@@ -61,8 +77,7 @@ fn input_of<'a>(case: &'a Case, run: &Run<'_>) -> &'a [u8] {
 
 fn write_files<H: Files>(rt: &H, case: &Case, run: &Run<'_>) -> io::Result<()> {
     for file in &case.files {
-        let bytes = cut_to(&file.bytes, cut_of(case, run, file.path.as_str()));
-        fs::write(rt, file.path.as_str(), bytes)?;
+        fs::write(rt, file.path.as_str(), bytes_of(case, run, file))?;
     }
     Ok(())
 }
@@ -149,7 +164,10 @@ fn play_run<H: Files + Alloc<A = Global> + Threads + Wait + Sync>(
     out.room = run.room;
     out.flush_fails = case.flush_fails;
     let mut err = taker(alloc);
-    let status = command(rt, alloc, run.words, &mut input, &mut out, &mut err);
+    let status = match run.act {
+        Act::Words(words) => command(rt, alloc, words, &mut input, &mut out, &mut err),
+        Act::Complete(files) => complete_files(rt, alloc, files, &mut out, &mut err)?,
+    };
     let repeats = repeats(rt, alloc, case);
     take_files(rt, case)?;
     let has_made = take_made(rt, &case.made)?;
@@ -185,9 +203,12 @@ fn judge<H: Files + Alloc<A = Global> + Print + Threads + Wait + Sync>(
         return Ok(true);
     };
     println!(rt;
-        "{}: {what} differs (words {:?}, cut {:?}, room {:?})",
-        case.name, run.words, run.cut, run.room
+        "{}: {what} differs (cut {:?}, room {:?})",
+        case.name, run.cut, run.room
     )?;
+    if let Act::Words(words) = run.act {
+        println!(rt; "  words: {words:?}")?;
+    }
     println!(rt;
         "  status: {}, flushes: {}",
         outcome.status, outcome.flushes
@@ -208,7 +229,7 @@ fn within(span: Option<Span>, at: usize) -> Option<usize> {
     }
 }
 
-/// Plays each run of a case: each list of words, cut to each length, with each room.
+/// Plays each run of a case: each act, cut to each length, with each room.
 pub fn play_case<H: Files + Alloc<A = Global> + Print + Threads + Wait + Sync>(
     rt: &H,
     alloc: Global,
@@ -219,11 +240,11 @@ pub fn play_case<H: Files + Alloc<A = Global> + Print + Threads + Wait + Sync>(
         Some(cut) => Some(cut.lengths),
         None => None,
     };
-    for words in &case.words {
+    for act in &case.acts {
         for cut in lengths(cuts).first..=lengths(cuts).last {
             for room in lengths(case.room).first..=lengths(case.room).last {
                 let run = Run {
-                    words,
+                    act,
                     cut: within(cuts, cut),
                     room: within(case.room, room),
                 };

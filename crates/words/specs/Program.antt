@@ -1,10 +1,13 @@
 -- The program's words, and what they ask for.
 use Rattle.std.specs.Prelude.{ℕ, ◌≡◌, ◌≢◌, List, [], ◌∷◌, Some, Option, codes, pos, string_bytes, true, option_map, String}
 use Rattle.std.specs.Str.Parse.{digits_value, without_leading_plus}
-use Rattle.clap.specs.Words.{App, Row, Rule, Text, first_of, new_app, new_rule, subcommand_of, with_rule, with_subcommand}
+use Rattle.clap.specs.Words.{App, IsAmong, Row, Rule, Text, fault_of, first_of, new_app, new_rule, subcommand_of, with_rule, with_subcommand}
+use Rattle.clap.specs.declared.error.kind.ErrorKind.TheVariants as kinds
 use Rattle.clap.specs.Simple.{on_top}
 use Rattle.clap.specs.declared.builder.value_parser.ValueParser.TheVariants as parsers
 use Rattle.job_machine.specs.Numbers.{Numbers}
+use Rattle.words.specs.declared.fault.WordsFault.{WordsFault}
+use Rattle.words.specs.declared.fault.WordsFault.TheVariants.{Help}
 use Rattle.words.specs.declared.request.Words.{Words}
 use Rattle.words.specs.declared.request.Words.TheVariants.{Piped, Play, Replay, Check}
 
@@ -57,9 +60,17 @@ abbrev pub AreNumbers : List Row → Numbers → Type 0
 AreNumbers rows settings = IsNumber (first_of (codes "frames") rows) settings.frames × IsNumber (first_of (codes "workers") rows) settings.workers
     × IsNumber (first_of (codes "fibers") rows) settings.fibers × IsNumber (first_of (codes "slots") rows) settings.slots
 
--- clap's reading of the words is this subcommand with these entries
+-- clap finds no fault in the words, and its reading is this subcommand with these entries
 abbrev pub Enters : List Text → Text → List Row → Type 0
-Enters words name rows = (words ≢ []) × (subcommand_of program words ≡ Some (name, rows))
+Enters words name rows = (words ≢ []) × (fault_of program words ≡ []) × (subcommand_of program words ≡ Some (name, rows))
+
+-- the words are taken for `play` with so many frames
+abbrev pub AsksToPlay : List Text → ℕ → Type 0
+AsksToPlay words frames = (rows : List Row) × Enters words (codes "play") rows × IsNumber (first_of (codes "frames") rows) frames
+
+-- the words are taken for `replay`
+abbrev pub AsksToReplay : List Text → Type 0
+AsksToReplay words = (rows : List Row) × Enters words (codes "replay") rows
 
 -- no words, or the subcommand and the entries of clap's reading
 abbrev pub IsReading : List Text → Words → Type 0
@@ -69,3 +80,12 @@ IsReading words (Play level settings script log) = (rows : List Row) × Enters w
 IsReading words (Replay level log script) = (rows : List Row) × Enters words (codes "replay") rows × IsText rows (codes "level") level
     × IsText rows (codes "log") log × IsOptional rows (codes "script") script
 IsReading words (Check level) = (rows : List Row) × Enters words (codes "check") rows × IsText rows (codes "level") level
+
+abbrev pub IsNoHelp : WordsFault → Type 0
+IsNoHelp (Help text) = ⊥
+IsNoHelp _ = Unit {0}
+
+-- help is answered only where clap finds that the words ask for it
+abbrev pub IsAskedFor : List Text → WordsFault → Type 0
+IsAskedFor words (Help text) = IsAmong kinds.DisplayHelp (fault_of program words)
+IsAskedFor words _ = Unit {0}

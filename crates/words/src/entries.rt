@@ -1,6 +1,6 @@
 // The entries of clap's reading, as values of their own.
-ghost use Rattle.std.specs.Prelude.{◌≡◌, Some, option_map, string_bytes, IfOk};
-ghost use Rattle.words.specs.Program.{IsNumber};
+ghost use Rattle.std.specs.Prelude.{◌≡◌, Some, option_map, string_bytes, IfOk, IfErr};
+ghost use Rattle.words.specs.Program.{IsNumber, IsNoHelp};
 ghost use Rattle.clap.specs.Words.{first_of, found_of, rows_of};
 
 use crate::fault::WordsFault;
@@ -8,7 +8,9 @@ use clap::ArgMatches;
 use std::alloc::{AllocError, Global};
 
 /// An entry that clap's reading doesn't have; clap refuses such words itself.
-pub fn missing(alloc: Global, name: &str) -> WordsFault {
+pub fn missing(alloc: Global, name: &str) -> WordsFault
+    ensures { IsNoHelp result }
+{
     match String::from_str(alloc, name) {
         Ok(text) => WordsFault::Refused(text),
         Err(_) => WordsFault::OutOfMemory,
@@ -16,7 +18,8 @@ pub fn missing(alloc: Global, name: &str) -> WordsFault {
 }
 
 pub fn number_entry(alloc: Global, matches: &ArgMatches<'_>, name: &str) -> Result<u32, WordsFault>
-    ensures { IfOk result (λ n. IsNumber (first_of name.now (rows_of (found_of matches.now))) n) }
+    ensures number { IfOk result (λ n. IsNumber (first_of name.now (rows_of (found_of matches.now))) n) }
+    ensures fault { IfErr result IsNoHelp }
 {
     match matches.get_str(name) {
         Some(text) => match text.parse::<u32>() {
@@ -28,7 +31,8 @@ pub fn number_entry(alloc: Global, matches: &ArgMatches<'_>, name: &str) -> Resu
 }
 
 pub fn text_entry(alloc: Global, matches: &ArgMatches<'_>, name: &str) -> Result<String, WordsFault>
-    ensures { IfOk result (λ t. first_of name.now (rows_of (found_of matches.now)) ≡ Some (string_bytes t)) }
+    ensures text { IfOk result (λ t. first_of name.now (rows_of (found_of matches.now)) ≡ Some (string_bytes t)) }
+    ensures fault { IfErr result IsNoHelp }
 {
     match matches.get_str(name) {
         Some(text) => Ok(String::from_str(alloc, text)?),

@@ -1,6 +1,6 @@
-ghost use Rattle.std.specs.Prelude.{◌≡◌, ℕ, List, [], codes, map, string_bytes, IfOk};
-ghost use Rattle.words.specs.Program.{IsReading, Enters, AreNumbers};
-ghost use Rattle.clap.specs.Words.{found_of, rows_of};
+ghost use Rattle.std.specs.Prelude.{◌≡◌, ◌⊎◌, ℕ, List, [], codes, map, string_bytes, IfOk, IfErr};
+ghost use Rattle.words.specs.Program.{IsReading, Enters, AreNumbers, IsNoHelp, IsAskedFor};
+ghost use Rattle.clap.specs.Words.{found_of, kind_of, rows_of};
 
 use crate::arguments::program_command;
 use crate::entries::{missing, number_entry, optional_entry, text_entry};
@@ -13,7 +13,9 @@ use job_machine::Settings;
 use std::alloc::Global;
 
 /// What clap answers in place of matches.
-fn fault_of(alloc: Global, words: &[String], error: &Error) -> WordsFault {
+fn fault_of(alloc: Global, words: &[String], error: &Error) -> WordsFault
+    ensures { IsNoHelp result ⊎ (kind_of error.now ≡ ErrorKind.DisplayHelp) }
+{
     if error.kind() == ErrorKind::OutOfMemory {
         return WordsFault::OutOfMemory;
     }
@@ -27,15 +29,16 @@ fn fault_of(alloc: Global, words: &[String], error: &Error) -> WordsFault {
     let Ok(text) = error.to_string(alloc) else {
         return WordsFault::OutOfMemory;
     };
-    if error.use_stderr() {
-        WordsFault::Refused(text)
-    } else {
+    if error.kind() == ErrorKind::DisplayHelp {
         WordsFault::Help(text)
+    } else {
+        WordsFault::Refused(text)
     }
 }
 
 fn settings_entry(alloc: Global, matches: &ArgMatches<'_>) -> Result<Settings, WordsFault>
-    ensures { IfOk result (AreNumbers (rows_of (found_of matches.now))) }
+    ensures numbers { IfOk result (AreNumbers (rows_of (found_of matches.now))) }
+    ensures fault { IfErr result IsNoHelp }
 {
     let frames = number_entry(alloc, matches, "frames")?;
     let workers = number_entry(alloc, matches, "workers")?;
@@ -48,8 +51,9 @@ fn settings_entry(alloc: Global, matches: &ArgMatches<'_>) -> Result<Settings, W
 }
 
 fn play_words(alloc: Global, matches: &ArgMatches<'_>) -> Result<Words, WordsFault>
-    ensures { IfOk result (λ w. (ws : List (List ℕ))
+    ensures reading { IfOk result (λ w. (ws : List (List ℕ))
         → Enters ws (codes "play") (rows_of (found_of matches.now)) → IsReading ws w) }
+    ensures fault { IfErr result IsNoHelp }
 {
     Ok(Words::Play {
         level: text_entry(alloc, matches, "level")?,
@@ -60,8 +64,9 @@ fn play_words(alloc: Global, matches: &ArgMatches<'_>) -> Result<Words, WordsFau
 }
 
 fn replay_words(alloc: Global, matches: &ArgMatches<'_>) -> Result<Words, WordsFault>
-    ensures { IfOk result (λ w. (ws : List (List ℕ))
+    ensures reading { IfOk result (λ w. (ws : List (List ℕ))
         → Enters ws (codes "replay") (rows_of (found_of matches.now)) → IsReading ws w) }
+    ensures fault { IfErr result IsNoHelp }
 {
     Ok(Words::Replay {
         level: text_entry(alloc, matches, "level")?,
@@ -71,8 +76,9 @@ fn replay_words(alloc: Global, matches: &ArgMatches<'_>) -> Result<Words, WordsF
 }
 
 fn check_words(alloc: Global, matches: &ArgMatches<'_>) -> Result<Words, WordsFault>
-    ensures { IfOk result (λ w. (ws : List (List ℕ))
+    ensures reading { IfOk result (λ w. (ws : List (List ℕ))
         → Enters ws (codes "check") (rows_of (found_of matches.now)) → IsReading ws w) }
+    ensures fault { IfErr result IsNoHelp }
 {
     Ok(Words::Check {
         level: text_entry(alloc, matches, "level")?,
@@ -86,6 +92,7 @@ fn check_words(alloc: Global, matches: &ArgMatches<'_>) -> Result<Words, WordsFa
 pub fn read_words(alloc: Global, words: &[String]) -> Result<Words, WordsFault>
     ensures reading { IfOk result (IsReading (map string_bytes words.now)) }
     ensures none { words.now ≡ [] → result ≡ Ok Words.Piped }
+    ensures help { IfErr result (IsAskedFor (map string_bytes words.now)) }
 {
     if words.is_empty() {
         return Ok(Words::Piped);

@@ -4,7 +4,7 @@ use Rattle.clap.specs.Words.{found_of}
 use Rattle.clap.proofs.WalkLemmas.{first_value-rows}
 use Rattle.words.proofs.entries.text_entry.Goals as goal
 
-pub returns-in_ok-from_str-in-Some : goal.returns-in_ok-from_str-in-Some
-returns-in_ok-from_str-in-Some c =
+pub returns-in_ok-from_str-in-Some-clause-text : goal.returns-in_ok-from_str-in-Some-clause-text
+returns-in_ok-from_str-in-Some-clause-text c =
     sym (first_value-rows (found_of c.args.matches.now) c.args.name.now) ∙ sym c.in-Some.ensures
     ∙ ap (λ (t : List ℕ). Some t) (sym c.in_ok-from_str-in-Some.ensures.ok)
