@@ -1,3 +1,4 @@
+pub mod Doing
 pub mod Untouched
 pub mod Shown
 pub mod Played

@@ -1,5 +1,5 @@
 -- What a run has written, as a first part of its text.
-use Rattle.std.proofs.Common.{◌≡◌, ℕ, List, [], ◌++◌, Option, Some, None, refl, sym, ap, ◌∙◌, append-nil}
+use Rattle.std.proofs.Common.{ℕ, List, [], Option, Some, None, refl, sym, ◌∙◌, append-nil}
 use Rattle.std.specs.Prelude.{MatchOption, IsSomeAnd, IsSome}
 use Rattle.std.specs.Io.KnownBytes.{Appends, Keeps}
 use Rattle.byte_streams.specs.Streams.{AppendsPart}

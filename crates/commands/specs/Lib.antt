@@ -1,2 +1,3 @@
+pub mod Doing
 pub mod Faults
 pub mod Replaying

@@ -1,4 +1,5 @@
-ghost use Rattle.std.specs.Prelude.{◌≡◌, string_bytes, IfErr, OnOk, OnErr};
+ghost use Rattle.std.specs.Prelude.{◌≡◌, ◌≢◌, string_bytes, IfErr, OnOk, OnErr};
+ghost use Rattle.std.specs.IoError.{error_kind};
 ghost use Rattle.std.specs.Io.KnownBytes.{Appends};
 ghost use Rattle.byte_streams.specs.Streams.{AppendsPart};
 ghost use Rattle.commands.specs.Faults.{IsFileFault};
@@ -6,15 +7,17 @@ ghost use Rattle.commands.specs.Faults.{IsFileFault};
 use crate::faults::Fault;
 use byte_streams::{ReadFault, read_whole, write_whole};
 use std::alloc::Global;
-use std::io::Write;
+use std::io::{ErrorKind, Write};
 use std::rt::Files;
 use std::{fs, io};
 
 /// Whether the system had no memory for what was asked.
 fn file_fault(path: String, error: &io::Error) -> Fault
-    ensures { IsFileFault (string_bytes path) result }
+    ensures memory { error_kind error.now ≡ ErrorKind.OutOfMemory → result ≡ Fault.OutOfMemory }
+    ensures file { error_kind error.now ≢ ErrorKind.OutOfMemory → result ≡ Fault.File path }
+    ensures either { IsFileFault (string_bytes path) result }
 {
-    if error.kind() == io::ErrorKind::OutOfMemory {
+    if error.kind() == ErrorKind::OutOfMemory {
         Fault::OutOfMemory
     } else {
         Fault::File(path)

@@ -1,7 +1,8 @@
 // Levels that are played.
-ghost use Rattle.std.specs.Prelude.{◌≡◌, ℕ, List, [], None, IfErr, IfSome, IsSomeAnd, MatchOption, OnOk, OnErr};
+ghost use Rattle.std.specs.Prelude.{◌≡◌, [], None, IfErr, IfSome, IsSomeAnd, MatchOption, OnOk, OnErr};
 ghost use Rattle.std.specs.Io.KnownBytes.{Appends, Keeps};
 ghost use Rattle.game_rules.specs.Text.{texts};
+ghost use Rattle.commands.specs.Doing.{PlaysSome, PlaysPart};
 ghost use Rattle.commands.specs.Faults.{status_of};
 ghost use Rattle.play_run.specs.Games.{spelled_game};
 ghost use Rattle.byte_streams.specs.Streams.{AppendsPart};
@@ -56,8 +57,8 @@ pub fn play_files<H: Files + Threads + Wait + Sync, W: Write>(
     log: Option<String>,
     out: &mut W,
 ) -> Result<(), Fault>
-    ensures { OnOk result ((level : List ℕ) × (script : List ℕ) × IsSomeAnd (spelled_game level script)
-        (λ g. Appends (W.contents out.old) (W.contents out.new) (texts g settings.frames))) }
+    ensures ok { OnOk result (PlaysSome (W.contents out.old) (W.contents out.new) settings.frames) }
+    ensures part { OnErr result (PlaysPart (W.contents out.old) (W.contents out.new) settings.frames) }
 {
     let level = read_file(rt, alloc, level)?;
     let script = read_optional_file(rt, alloc, script)?;

@@ -1,10 +1,12 @@
 // What the program does with its words.
-ghost use Rattle.std.specs.Prelude.{◌≡◌, [], None, IfSome, IsSomeAnd, MatchOption};
+ghost use Rattle.std.specs.Prelude.{◌≡◌, ◌≢◌, ℕ, [], None, map, string_bytes, IfSome, IsSomeAnd, MatchOption, OnOk, OnErr};
 ghost use Rattle.std.specs.Io.KnownBytes.{Appends, Keeps};
 ghost use Rattle.game_rules.specs.Text.{texts};
+ghost use Rattle.commands.specs.Doing.{PlaysSome, PlaysPart, ReplaysSome, ReplaysPart, IsDone, IsPartDone};
 ghost use Rattle.commands.specs.Faults.{status_in};
 ghost use Rattle.play_run.specs.Games.{spelled_game};
 ghost use Rattle.byte_streams.specs.Streams.{AppendsPart};
+ghost use Rattle.words.specs.Program.{AsksToPlay, AsksToReplay, IsNoHelp};
 
 use crate::checking::check_file;
 use crate::faults::Fault;
@@ -25,7 +27,10 @@ fn act<H: Files + Threads + Wait + Sync, W: Write>(
     alloc: Global,
     words: Words,
     out: &mut W,
-) -> Result<(), Fault> {
+) -> Result<(), Fault>
+    ensures ok { OnOk result (IsDone (W.contents out.old) (W.contents out.new) words) }
+    ensures part { OnErr result (IsPartDone (W.contents out.old) (W.contents out.new) words) }
+{
     match words {
         Words::Piped => Ok(()),
         Words::Play {
@@ -40,7 +45,10 @@ fn act<H: Files + Threads + Wait + Sync, W: Write>(
 }
 
 /// Says why words are not done, on `out` where help was asked for.
-fn refuse<W: Write, E: Write>(fault: WordsFault, out: &mut W, err: &mut E) -> u8 {
+fn refuse<W: Write, E: Write>(fault: WordsFault, out: &mut W, err: &mut E) -> u8
+    ensures refused { IsNoHelp fault → result ≢ 0 }
+    ensures nothing { IsNoHelp fault → W.contents out.new ≡ W.contents out.old }
+{
     match fault {
         WordsFault::OutOfMemory => Fault::OutOfMemory.report(err),
         WordsFault::Help(text) => status_of(put(out, text.as_bytes()), err),
@@ -65,7 +73,8 @@ fn status_of<E: Write>(done: Result<(), Fault>, err: &mut E) -> u8
 /// 1 a file or a write failed, 2 refused words, level, script or log, 3 want of memory or the run failed otherwise. A
 /// fault is one line on `err`.
 ///
-/// No words: the level comes from `input`, and three of its frames are written to `out`.
+/// No words: the level comes from `input`, and three of its frames are written to `out`. Of words that name files the
+/// clauses say that there are a level, a script and a log of which this is so; that they are what the files hold is tested.
 pub fn command<H: Files + Threads + Wait + Sync, R: Read, W: Write, E: Write>(
     rt: &H,
     alloc: Global,
@@ -81,6 +90,14 @@ pub fn command<H: Files + Threads + Wait + Sync, R: Read, W: Write, E: Write>(
         (λ g. AppendsPart (W.contents out.old) (W.contents out.new) (texts g 3))) }
     ensures refused { words.now ≡ [] → result ≡ 2 → IfSome (R.remaining input.old)
         (λ bytes. spelled_game bytes [] ≡ None) }
+    ensures played { (frames : ℕ) → AsksToPlay (map string_bytes words.now) frames → result ≡ 0
+        → PlaysSome (W.contents out.old) (W.contents out.new) frames }
+    ensures played_part { (frames : ℕ) → AsksToPlay (map string_bytes words.now) frames
+        → PlaysPart (W.contents out.old) (W.contents out.new) frames }
+    ensures replayed { AsksToReplay (map string_bytes words.now) → result ≡ 0
+        → ReplaysSome (W.contents out.old) (W.contents out.new) }
+    ensures replayed_part { AsksToReplay (map string_bytes words.now)
+        → ReplaysPart (W.contents out.old) (W.contents out.new) }
 {
     match read_words(alloc, words) {
         Ok(Words::Piped) => match play_input(rt, alloc, input, out) {

@@ -1,0 +1,133 @@
+-- What the program has written for words that name files.
+use Rattle.std.proofs.Common.{◌≡◌, ◌<◌, ℕ, List, [], Option, Some, None, inl, inr, refl, sym, subst, append-nil, arith}
+use Rattle.std.specs.Prelude.{⊤, MatchOption, IsSomeAnd, Result, Ok, Err, OnOk, OnErr}
+use Rattle.std.specs.Io.KnownBytes.{Appends, Keeps}
+use Rattle.byte_streams.specs.Streams.{AppendsPart}
+use Rattle.game_rules.specs.Game.{Game}
+use Rattle.game_rules.specs.Text.{texts}
+use Rattle.play_run.specs.Games.{spelled_game}
+use Rattle.words.specs.declared.request.Words.{Words}
+use Rattle.words.specs.declared.request.Words.TheVariants.{Piped, Play, Replay, Check}
+use Rattle.words.specs.Program.{IsReading, AsksToPlay, AsksToReplay}
+use Rattle.words.proofs.Asked.{read_as_play, read_as_replay}
+use Rattle.commands.specs.declared.faults.Fault.{Fault}
+use Rattle.commands.specs.declared.faults.Fault.TheVariants as faults
+use Rattle.commands.specs.Faults.{status_of, status_in}
+use Rattle.commands.specs.Doing.{PlaysSome, PlaysPart, ReplaysSome, ReplaysPart, IsDone, IsPartDone}
+use Rattle.commands.specs.Replaying.{Shows, ShowsPart}
+
+pub on_err : {T E : Type 0} (r : Result T E) (P : Type 0) → P → OnErr r P
+on_err (Ok x) P p = tt
+on_err (Err e) P p = p
+
+pub on_err_map : {T E : Type 0} (r : Result T E) (P Q : Type 0) → (P → Q) → OnErr r P → OnErr r Q
+on_err_map (Ok x) P Q f p = tt
+on_err_map (Err e) P Q f p = f p
+
+-- each fault has a status of its own
+above_zero : (f : Fault) → 0 < status_of f
+above_zero (faults.File path) = omega arith
+above_zero faults.Input = omega arith
+above_zero faults.Json = omega arith
+above_zero faults.Shape = omega arith
+above_zero faults.MapSize = omega arith
+above_zero (faults.MapChar x y) = omega arith
+above_zero faults.Letters = omega arith
+above_zero faults.AgentCount = omega arith
+above_zero (faults.BadTree name limit) = omega arith
+above_zero (faults.NoTree letter) = omega arith
+above_zero (faults.NoPlace name) = omega arith
+above_zero (faults.Line n) = omega arith
+above_zero (faults.Order n) = omega arith
+above_zero faults.LogHead = omega arith
+above_zero (faults.LogLine n) = omega arith
+above_zero (faults.Illegal n) = omega arith
+above_zero (faults.Incomplete shown frames) = omega arith
+above_zero faults.Write = omega arith
+above_zero faults.Spawn = omega arith
+above_zero faults.GateClosed = omega arith
+above_zero faults.Stranger = omega arith
+above_zero faults.OutOfMemory = omega arith
+
+no_fault : (f : Fault) (n : ℕ) → n ≡ status_of f → n ≡ 0 → 0 < status_of f → ⊥
+no_fault f n e zero above = omega arith
+
+pub ok_at_zero : (r : Result (⊤) Fault) (n : ℕ) (P : Type 0) → n ≡ status_in r → n ≡ 0 → OnOk r P → P
+ok_at_zero (Ok x) n P e zero p = p
+ok_at_zero (Err f) n P e zero p = absurd (no_fault f n e zero (above_zero f))
+
+-- ---- playing
+
+some_part : (old new : Option (List ℕ)) (level script : List ℕ) (n : ℕ) (game : Option Game) → spelled_game level script ≡ game
+    → MatchOption game (Keeps old new) (λ g. AppendsPart old new (texts g n)) → PlaysPart old new n
+some_part old new level script n None e h = inl h
+some_part old new level script n (Some g) e h =
+    inr (level, script, subst (λ game. IsSomeAnd game (λ g. AppendsPart old new (texts g n))) (sym e) h)
+
+pub played_part : (old new : Option (List ℕ)) (level script : List ℕ) (n : ℕ)
+    → MatchOption (spelled_game level script) (Keeps old new) (λ g. AppendsPart old new (texts g n)) → PlaysPart old new n
+played_part old new level script n h = some_part old new level script n (spelled_game level script) refl h
+
+whole_part : (old new : Option (List ℕ)) (n : ℕ) (game : Option Game) → IsSomeAnd game (λ g. Appends old new (texts g n))
+    → IsSomeAnd game (λ g. AppendsPart old new (texts g n))
+whole_part old new n None h = absurd h
+whole_part old new n (Some g) h = (texts g n, [], sym (append-nil (texts g n)), h)
+
+-- all that is done is a part
+pub plays_part : (old new : Option (List ℕ)) (n : ℕ) → PlaysSome old new n → PlaysPart old new n
+plays_part old new n h = inr (h.0, h.1, whole_part old new n (spelled_game h.0 h.1) h.2)
+
+-- ---- replaying
+
+some_shown : (old new : Option (List ℕ)) (level script log : List ℕ) (game : Option Game) → spelled_game level script ≡ game
+    → MatchOption game (Keeps old new) (ShowsPart old new log) → ReplaysPart old new
+some_shown old new level script log None e h = inl h
+some_shown old new level script log (Some g) e h =
+    inr (level, script, log, subst (λ game. IsSomeAnd game (ShowsPart old new log)) (sym e) h)
+
+pub shown_part : (old new : Option (List ℕ)) (level script log : List ℕ)
+    → MatchOption (spelled_game level script) (Keeps old new) (ShowsPart old new log) → ReplaysPart old new
+shown_part old new level script log h = some_shown old new level script log (spelled_game level script) refl h
+
+shows_part : (old new : Option (List ℕ)) (log : List ℕ) (game : Option Game) → IsSomeAnd game (Shows old new log)
+    → IsSomeAnd game (ShowsPart old new log)
+shows_part old new log None h = absurd h
+shows_part old new log (Some g) h =
+    inr (h.0, h.1, h.2.list, (_, [], sym (append-nil _), h.3))
+
+pub replays_part : (old new : Option (List ℕ)) → ReplaysSome old new → ReplaysPart old new
+replays_part old new h = inr (h.0, h.1, h.2, shows_part old new h.2 (spelled_game h.0 h.1) h.3)
+
+done_in_part : (old new : Option (List ℕ)) (w : Words) → IsDone old new w → IsPartDone old new w
+done_in_part old new Piped h = tt
+done_in_part old new (Play level settings script log) h = plays_part old new settings.frames h
+done_in_part old new (Replay level log script) h = replays_part old new h
+done_in_part old new (Check level) h = tt
+
+-- done or not, it is a part
+pub part_of : (r : Result (⊤) Fault) (old new : Option (List ℕ)) (w : Words) → OnOk r (IsDone old new w) → OnErr r (IsPartDone old new w)
+    → IsPartDone old new w
+part_of (Ok x) old new w done part = done_in_part old new w done
+part_of (Err f) old new w done part = part
+
+-- ---- by the words
+
+pub played : (old new : Option (List ℕ)) (words : List (List ℕ)) (w : Words) (n : ℕ) → IsReading words w → AsksToPlay words n → IsDone old new w
+    → PlaysSome old new n
+played old new words w n reading asks done =
+    read_as_play words w n (IsDone old new) (PlaysSome old new) reading asks (λ level settings script log h. h) done
+
+pub played_in_part : (old new : Option (List ℕ)) (words : List (List ℕ)) (w : Words) (n : ℕ) → IsReading words w → AsksToPlay words n → IsPartDone old new w
+    → PlaysPart old new n
+played_in_part old new words w n reading asks done =
+    read_as_play words w n (IsPartDone old new) (PlaysPart old new) reading asks (λ level settings script log h. h) done
+
+pub replayed : (old new : Option (List ℕ)) (words : List (List ℕ)) (w : Words) → IsReading words w → AsksToReplay words → IsDone old new w
+    → ReplaysSome old new
+replayed old new words w reading asks done =
+    read_as_replay words w (IsDone old new) (ReplaysSome old new) reading asks (λ level log script h. h) done
+
+pub replayed_in_part : (old new : Option (List ℕ)) (words : List (List ℕ)) (w : Words) → IsReading words w → AsksToReplay words → IsPartDone old new w
+    → ReplaysPart old new
+replayed_in_part old new words w reading asks done =
+    read_as_replay words w (IsPartDone old new) (ReplaysPart old new) reading asks (λ level log script h. h) done

@@ -1,0 +1,19 @@
+use Rattle.commands.proofs.Doing.{on_err, played_part, plays_part}
+use Rattle.commands.proofs.playing.play_files.Goals as goal
+
+pub returns-in-Err-clause-part : goal.returns-in-Err-clause-part
+returns-in-Err-clause-part g c =
+    played_part (g.W.Write.contents c.args.out.now) (g.W.Write.contents c.play_bytes.new.out) c.deref.result.now c.deref-2.result.now
+    c.args.settings.frames c.in-Err.ensures.err
+
+pub returns-in_err-text-clause-part : goal.returns-in_err-text-clause-part
+returns-in_err-text-clause-part g c =
+    on_err c.from_residual-in_err-text.result _
+    (plays_part (g.W.Write.contents c.args.out.now) (g.W.Write.contents c.play_bytes.new.out) c.args.settings.frames
+    (c.deref.result.now, c.deref-2.result.now, c.in-Ok.ensures.ok))
+
+pub returns-in_err-write_file-clause-part : goal.returns-in_err-write_file-clause-part
+returns-in_err-write_file-clause-part g c =
+    on_err c.from_residual-in_err-write_file.result _
+    (plays_part (g.W.Write.contents c.args.out.now) (g.W.Write.contents c.play_bytes.new.out) c.args.settings.frames
+    (c.deref.result.now, c.deref-2.result.now, c.in-Ok.ensures.ok))

@@ -1,0 +1,41 @@
+-- What is done for words that name files, of which no contract says what they hold.
+use Rattle.std.specs.Prelude.{ℕ, ◌⊎◌, List, Option, IsSomeAnd}
+use Rattle.std.specs.Io.KnownBytes.{Appends, Keeps}
+use Rattle.byte_streams.specs.Streams.{AppendsPart}
+use Rattle.game_rules.specs.Text.{texts}
+use Rattle.play_run.specs.Games.{spelled_game}
+use Rattle.words.specs.declared.request.Words.{Words}
+use Rattle.words.specs.declared.request.Words.TheVariants.{Piped, Play, Replay, Check}
+use Rattle.commands.specs.Replaying.{Shows, ShowsPart}
+
+-- the first frames of the game that some level and script spell were written
+abbrev pub PlaysSome : (old new : Option (List ℕ)) → ℕ → Type 0
+PlaysSome old new frames = (level : List ℕ) × (script : List ℕ) × IsSomeAnd (spelled_game level script) (λ g. Appends old new (texts g frames))
+
+-- nothing was written, or a first part of such frames
+abbrev pub PlaysPart : (old new : Option (List ℕ)) → ℕ → Type 0
+PlaysPart old new frames =
+    Keeps old new ⊎ ((level : List ℕ) × (script : List ℕ) × IsSomeAnd (spelled_game level script) (λ g. AppendsPart old new (texts g frames)))
+
+-- the frames were written that some log shows of the game that some level and script spell, and it shows all
+abbrev pub ReplaysSome : (old new : Option (List ℕ)) → Type 0
+ReplaysSome old new = (level : List ℕ) × (script : List ℕ) × (log : List ℕ) × IsSomeAnd (spelled_game level script) (Shows old new log)
+
+-- nothing was written, or a first part of the frames that such a log shows
+abbrev pub ReplaysPart : (old new : Option (List ℕ)) → Type 0
+ReplaysPart old new =
+    Keeps old new ⊎ ((level : List ℕ) × (script : List ℕ) × (log : List ℕ) × IsSomeAnd (spelled_game level script) (ShowsPart old new log))
+
+-- what the words ask for is done
+abbrev pub IsDone : (old new : Option (List ℕ)) → Words → Type 0
+IsDone old new Piped = Unit {0}
+IsDone old new (Play level settings script log) = PlaysSome old new settings.frames
+IsDone old new (Replay level log script) = ReplaysSome old new
+IsDone old new (Check level) = Unit {0}
+
+-- or a part of it
+abbrev pub IsPartDone : (old new : Option (List ℕ)) → Words → Type 0
+IsPartDone old new Piped = Unit {0}
+IsPartDone old new (Play level settings script log) = PlaysPart old new settings.frames
+IsPartDone old new (Replay level log script) = ReplaysPart old new
+IsPartDone old new (Check level) = Unit {0}
