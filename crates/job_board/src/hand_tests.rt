@@ -1,6 +1,7 @@
 // A board that worker 0 plays by hand.
 use crate::tests::{PATH, WALK, board_of, ends_with_stop, is_walked, session_of};
 use crate::{Board, BoardFault, Done, JobName};
+use bumpalo::Bump;
 use frame_params::{LogicStep, Step, Task, ThinkStep, Way};
 use level_text::Session;
 use std::alloc::Global;
@@ -60,7 +61,13 @@ fn hand_in<'t>(board: &mut Board<'t>, step: Step<'t>) -> Result<(), Fail> {
     }
 }
 
-// Worker 0 takes a task, works it and hands in what it comes to; the task's job.
+// What a task comes to in an arena.
+fn in_arena<'t>(alloc: Global, task: &Task<'t>) -> Result<Step<'t>, Fail> {
+    let arena = Bump::new(alloc);
+    Ok(task.work_in(alloc, &arena)?)
+}
+
+// Worker 0 takes a task, works it twice, and hands in what it comes to in an arena that is gone then; the task's job.
 fn plays(alloc: Global, board: &mut Board) -> Result<JobName, Fail> {
     let given = match board.take(0) {
         Ok(given) => given,
@@ -70,7 +77,9 @@ fn plays(alloc: Global, board: &mut Board) -> Result<JobName, Fail> {
         return Err(Fail::from("no task"));
     };
     let job = task.name();
-    hand_in(board, task.work(alloc)?)?;
+    let _first = task.work(alloc)?;
+    let step = in_arena(alloc, &task)?;
+    hand_in(board, step)?;
     Ok(job)
 }
 
