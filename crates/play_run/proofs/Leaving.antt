@@ -1,5 +1,5 @@
 -- What a worker's thread takes along may be sent to it.
-use mathlib.Core.List.{List, [], ◌∷◌}
+use mathlib.Core.List.{[], ◌∷◌}
 use mir.Syntax.{Ty, Sym}
 use denote.RattleType.{RattleType}
 use denote.Exit.{Kept}

@@ -1,5 +1,5 @@
 -- The steps of the workers, added up, are the events that name one.
-use Rattle.std.proofs.Common.{◌≡◌, ℕ, zero, suc, ◌+◌, ◌<◌, ◌≤◌, Bool, true, false, nat_lt, List, [], ◌∷◌, ◌++◌, length, take, cond, get_or, refl, sym, ap, ◌∙◌, subst, arith, zero-add, add-one}
+use Rattle.std.proofs.Common.{◌≡◌, ℕ, zero, suc, ◌+◌, ◌<◌, ◌≤◌, Bool, false, nat_lt, List, [], ◌∷◌, ◌++◌, length, take, cond, get_or, refl, sym, ap, ◌∙◌, subst, arith, zero-add, add-one}
 use Rattle.std.specs.Prelude.{count_by, sum, ◌==◌, slice_index}
 use Rattle.std.proofs.lemmas.List.Sums.{sum_by-append, sum_by_more}
 use Rattle.std.proofs.lemmas.Bool.Decides.{nat_tests}
@@ -7,7 +7,7 @@ use Rattle.std.proofs.Math.Seq.{take-length}
 use Rattle.job_core.specs.declared.names.JobName.TheVariants.{Logic, Think, Path, Draw}
 use Rattle.job_core.specs.declared.names.Event.{Event}
 use Rattle.job_core.specs.declared.names.Event.TheVariants.{Start, Resume, Ask, Spread, Hold, Finish, Emit, Stop}
-use Rattle.job_core.specs.Core.{Setup, State, May, IsLegal, IsLegalFrom, IsLegalList, after, opening, state}
+use Rattle.job_core.specs.Core.{Setup, State, May, IsLegalFrom, IsLegalList, opening, state}
 use Rattle.job_core.proofs.Keeping.{Apart, apart, after_more, legal_more}
 use Rattle.shared_board.specs.Counts.{names, names_worker, steps_of}
 use Rattle.play_run.specs.Reports.{AreStepsOf}

@@ -1,11 +1,11 @@
 -- The texts of the first frames are a front of the texts of all.
-use Rattle.std.proofs.Common.{◌≡◌, ℕ, zero, suc, ◌+◌, ◌-◌, ◌<◌, ◌≤◌, List, [], ◌∷◌, ◌++◌, Option, length, take, refl, sym, ap, ◌∙◌, subst, arith, rules, append_assoc, length-append, add-one, add-zero, map}
+use Rattle.std.proofs.Common.{◌≡◌, ℕ, zero, suc, ◌+◌, ◌-◌, ◌<◌, ◌≤◌, List, [], ◌++◌, Option, length, take, refl, sym, ap, ◌∙◌, subst, arith, append_assoc, length-append, add-one, add-zero, map}
 use Rattle.std.specs.Prelude.{codes, decimal}
 use Rattle.std.specs.List.{flat_map}
 use Rattle.std.proofs.lemmas.List.{append-nil, take_at, take-append-le}
-use Rattle.std.proofs.Math.Seq.{take-length, take-append-add}
-use Rattle.std.specs.Io.KnownBytes.{Appends, Keeps}
-use Rattle.std.proofs.KnownBytes.{Appends-nil, Appends-trans, Appends-kept}
+use Rattle.std.proofs.Math.Seq.{take-append-add}
+use Rattle.std.specs.Io.KnownBytes.{Appends}
+use Rattle.std.proofs.KnownBytes.{Appends-nil, Appends-trans}
 use Rattle.grid_world.specs.Map.{count_up}
 use Rattle.game_rules.specs.Game.{Game, signals}
 use Rattle.game_rules.specs.Play.{play, thoughts}

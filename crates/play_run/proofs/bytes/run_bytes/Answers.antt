@@ -1,4 +1,3 @@
-use Rattle.std.proofs.Common.{◌≡◌}
 use Rattle.level_text.specs.Levels.{value_of}
 use Rattle.play_run.proofs.Spelled.{played}
 use Rattle.play_run.proofs.bytes.run_bytes.Goals as goal

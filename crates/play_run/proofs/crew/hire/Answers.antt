@@ -1,6 +1,5 @@
 use denote.Exit.{no}
-use denote.Param.{param}
-use denote.Param.Send.{IsSend, IsSync, param_send, param_sync}
+use denote.Param.Send.{param_send, param_sync}
 use Rattle.play_run.proofs.Leaving.{worker_send}
 use Rattle.play_run.proofs.crew.hire.Goals as goal
 

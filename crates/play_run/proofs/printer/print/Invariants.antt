@@ -1,4 +1,4 @@
-use Rattle.std.proofs.Common.{◌≡◌, ◌≤◌}
+use Rattle.std.proofs.Common.{◌≡◌}
 use Rattle.std.specs.Io.KnownBytes.{Appends}
 use Rattle.game_rules.specs.Text.{texts}
 use Rattle.play_run.proofs.printer.print.Given as goal

@@ -1,4 +1,4 @@
-use Rattle.std.proofs.Common.{◌≡◌, ◌<◌, ℕ, vec_len, vec_items}
+use Rattle.std.proofs.Common.{vec_items}
 use Rattle.play_run.specs.Reports.{AreStepsOf}
 use Rattle.play_run.proofs.report.all_steps.Given as goal
 
