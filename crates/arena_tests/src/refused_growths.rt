@@ -3,18 +3,13 @@ ghost use Rattle.bt_nodes.specs.Bounds.{Fits};
 ghost use Rattle.bt_nodes.specs.Trees.{plain_of};
 ghost use Rattle.bt_tick.specs.Views.{IsInWorld};
 
+use crate::ticks::world;
 use bt_nodes::{Node, Tree};
 use bt_tick::{Memory, Outcome, View, begin, resume};
-use grid_world::{Answer, Dir, Place, Signals, World};
+use grid_world::{Answer, Dir, Place, Signals};
 use linked_list_allocator::LocalHeap;
 use std::alloc::{Allocator, Global};
 use std::test::Fail;
-
-fn world(alloc: Global) -> Result<World, Fail> {
-    let mut map = Vec::new(alloc);
-    map.push(String::from_str(alloc, "A.0")?)?;
-    Ok(World::from_rows(alloc, &map).map_err(|_| "map")?)
-}
 
 // It asks, and opens a second chunk of nodes behind the answer.
 fn tree(alloc: Global) -> Result<Tree<Global>, Fail> {

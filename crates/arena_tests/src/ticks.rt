@@ -8,7 +8,7 @@ use grid_world::{Answer, Dir, Intent, Place, Signals, World};
 use std::alloc::{Allocator, Global};
 use std::test::Fail;
 
-fn world(alloc: Global) -> Result<World, Fail> {
+pub fn world(alloc: Global) -> Result<World, Fail> {
     let mut map = Vec::new(alloc);
     map.push(String::from_str(alloc, "A.0")?)?;
     Ok(World::from_rows(alloc, &map).map_err(|_| "map")?)
