@@ -1,4 +1,4 @@
-// What no clause says: which growths a tick takes, and that one that wants memory is begun again as if nothing had been.
+// What no clause says: in heaps of growing sizes a tick comes nowhere, to its question, and to its end.
 ghost use Rattle.bt_nodes.specs.Bounds.{Fits};
 ghost use Rattle.bt_nodes.specs.Trees.{plain_of};
 ghost use Rattle.bt_tick.specs.Views.{IsInWorld};
