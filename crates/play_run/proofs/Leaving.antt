@@ -14,10 +14,17 @@ use Rattle.std.proofs.sync.ledger.Share.TheSendSync as share_crossing
 use Rattle.std.specs.declared.sync.ledger.Ledger as ledger
 use Rattle.std.specs.contracts.sync.ledger.Share as share
 use Rattle.std.specs.contracts.alloc.Global as global
-use Rattle.shared_board.specs.declared.run_ledger.RunLedger as run_ledger
+use Rattle.run_ledger.specs.declared.ledger.RunLedger as run_ledger
+use Rattle.band_mail.proofs.putter.Putter.TheSendSync as putter_crossing
+use Rattle.band_mail.specs.contracts.putter.Putter as putter
+use Rattle.frame_params.proofs.Crossing as params
+use Rattle.frame_print.specs.contracts.run_band.RunBand as run_band
 use Rattle.level_text.specs.contracts.session.Session as session
-use Rattle.play_run.specs.contracts.hall.Hall as hall
-use Rattle.play_run.proofs.Sends.{hall_sync, session_sync}
+use Rattle.run_hall.specs.contracts.hall.Hall as hall
+use Rattle.run_hall.proofs.Sends.{hall_sync, run_band_send}
+
+pub session_sync : IsSync session.the_row
+session_sync = params.session
 
 runtime_send : (κ : NamedLft) (R : RattleType) → IsSync (param 4 R) → IsSend ((shr_ref_field κ (param 4 R) tt).row)
 runtime_send κ R sR = search (sR, sendable)
@@ -28,8 +35,8 @@ alloc_send = search (crosses, sendable) depth 40
 session_send : (κ : NamedLft) → IsSend ((shr_ref_field κ session.the_row tt).row)
 session_send κ = search (session_sync, sendable)
 
-hall_send : (κ κd : NamedLft) (L M : RattleType) (p : run_ledger.Ghosts L.Denot) (l : ledger.Ghosts L.Denot) (m : ledger.Ghosts M.Denot) → IsSend ((shr_ref_field κ (hall.the_row κd (param 1 L) (param 2 M) p l m) tt).row)
-hall_send κ κd L M p l m = search (hall_sync κd (param 1 L) (param 2 M) p l m, sendable)
+hall_send : (κ κd : NamedLft) (L M : RattleType) (p : run_ledger.Ghosts L.Denot) (l : ledger.Ghosts L.Denot) (m : ledger.Ghosts M.Denot) → IsSend (param 1 L) → IsSend ((shr_ref_field κ (hall.the_row κd (param 1 L) (param 2 M) p l m) tt).row)
+hall_send κ κd L M p l m sL = search (hall_sync κd (param 1 L) (param 2 M) p l m sL, sendable)
 
 gate_send : (κ : NamedLft) (G : RattleType) → IsSync (param 3 G) → IsSend ((shr_ref_field κ (param 3 G) tt).row)
 gate_send κ G sG = search (sG, sendable)
@@ -40,14 +47,17 @@ worker_number_send = search sendable
 share_send : (L : RattleType) (l : ledger.Ghosts L.Denot) → IsSend (param 1 L) → IsSend (share.the_row (param 1 L) l)
 share_send L l sL = search (share_crossing.the_send, sL, crosses, sendable) depth 40
 
-all_send : (ν : Sym) (A B C D E F G : RattleType) → IsSend A → IsSend B → IsSend C → IsSend D → IsSend E → IsSend F → IsSend G
-    → IsSend (TupleAt ν (A ∷ B ∷ C ∷ D ∷ E ∷ F ∷ G ∷ []))
-all_send ν A B C D E F G a b c d e f g =
-    declared_send (type_at ν (A ∷ B ∷ C ∷ D ∷ E ∷ F ∷ G ∷ []))
-    (as_row_send (row_field A) a, (as_row_send (row_field B) b, (as_row_send (row_field C) c, (as_row_send (row_field D) d, (as_row_send (row_field E) e, (as_row_send (row_field F) f, (as_row_send (row_field G) g, tt)))))))
+putter_send : (κ : NamedLft) (L : RattleType) (p : run_ledger.Ghosts L.Denot) (l : ledger.Ghosts L.Denot) → IsSend (param 1 L) → IsSend (putter.the_row (run_band.the_row κ (param 1 L) p l))
+putter_send κ L p l sL = search (run_band_send κ (param 1 L) p l sL, putter_crossing.the_send, crosses, sendable) depth 40
 
-pub worker_send : (δ : Ty) (k : Kept) (ν : Sym) (κr κs κh κd κg : NamedLft) (L M G R : RattleType) (p : run_ledger.Ghosts L.Denot) (l : ledger.Ghosts L.Denot) (m : ledger.Ghosts M.Denot)
+all_send : (ν : Sym) (A B C D E F G H : RattleType) → IsSend A → IsSend B → IsSend C → IsSend D → IsSend E → IsSend F → IsSend G → IsSend H
+    → IsSend (TupleAt ν (A ∷ B ∷ C ∷ D ∷ E ∷ F ∷ G ∷ H ∷ []))
+all_send ν A B C D E F G H a b c d e f g h =
+    declared_send (type_at ν (A ∷ B ∷ C ∷ D ∷ E ∷ F ∷ G ∷ H ∷ []))
+    (as_row_send (row_field A) a, (as_row_send (row_field B) b, (as_row_send (row_field C) c, (as_row_send (row_field D) d, (as_row_send (row_field E) e, (as_row_send (row_field F) f, (as_row_send (row_field G) g, (as_row_send (row_field H) h, tt))))))))
+
+pub worker_send : (δ : Ty) (k : Kept) (ν : Sym) (κr κs κh κd κg κp : NamedLft) (L M G R : RattleType) (p : run_ledger.Ghosts L.Denot) (l : ledger.Ghosts L.Denot) (m : ledger.Ghosts M.Denot)
     → IsSend (param 1 L) → IsSync (param 3 G) → IsSync (param 4 R)
-    → IsSend (param 1 (arg δ k (TupleAt ν ((shr_ref_field κr (param 4 R) tt).row ∷ global.the_row ∷ (shr_ref_field κs session.the_row tt).row ∷ (shr_ref_field κh (hall.the_row κd (param 1 L) (param 2 M) p l m) tt).row ∷ (shr_ref_field κg (param 3 G) tt).row ∷ u32-field.row ∷ share.the_row (param 1 L) l ∷ []))))
-worker_send δ k ν κr κs κh κd κg L M G R p l m sL sG sR =
-    param_send 1 _ (arg_send δ k _ (all_send ν _ _ _ _ _ _ _ (runtime_send κr R sR) alloc_send (session_send κs) (hall_send κh κd L M p l m) (gate_send κg G sG) worker_number_send (share_send L l sL)))
+    → IsSend (param 1 (arg δ k (TupleAt ν ((shr_ref_field κr (param 4 R) tt).row ∷ global.the_row ∷ (shr_ref_field κs session.the_row tt).row ∷ (shr_ref_field κh (hall.the_row κd (param 1 L) (param 2 M) p l m) tt).row ∷ (shr_ref_field κg (param 3 G) tt).row ∷ u32-field.row ∷ share.the_row (param 1 L) l ∷ putter.the_row (run_band.the_row κp (param 1 L) p l) ∷ []))))
+worker_send δ k ν κr κs κh κd κg κp L M G R p l m sL sG sR =
+    param_send 1 _ (arg_send δ k _ (all_send ν _ _ _ _ _ _ _ _ (runtime_send κr R sR) alloc_send (session_send κs) (hall_send κh κd L M p l m sL) (gate_send κg G sG) worker_number_send (share_send L l sL) (putter_send κp L p l sL)))

@@ -1,7 +1,3 @@
-mod Steps
-mod Texts
-mod Drawn
 mod Spelled
 mod Once
-mod Sends
 pub mod Leaving

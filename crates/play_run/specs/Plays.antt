@@ -13,12 +13,12 @@ use Rattle.job_core.specs.Amounts.{starts, finishes}
 use Rattle.job_machine.specs.Numbers.{Numbers}
 use Rattle.shared_board.specs.Counts.{names_worker}
 use Rattle.shared_board.specs.Runs.{setup_for}
+use Rattle.run_fault.specs.Printed.{WrotePart}
+use Rattle.run_report.specs.Reports.{AreStepsOf}
+use Rattle.run_report.specs.declared.report.RunReport.{RunReport}
 use Rattle.play_run.specs.Games.{spelled_game}
-use Rattle.play_run.specs.Printed.{WrotePart}
-use Rattle.play_run.specs.Reports.{AreStepsOf}
 use Rattle.play_run.specs.declared.fault.PlayFault.{PlayFault}
 use Rattle.play_run.specs.declared.fault.PlayFault.TheVariants.{Level, Script, Run}
-use Rattle.play_run.specs.declared.report.RunReport.{RunReport}
 
 -- each job of the run is started and finished once, and no other
 abbrev pub RunsEachJobOnce : Setup → List Event → Type 0

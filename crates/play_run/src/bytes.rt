@@ -4,12 +4,12 @@ ghost use Rattle.game_rules.specs.Text.{texts};
 ghost use Rattle.play_run.specs.Games.{spelled_game};
 ghost use Rattle.play_run.specs.Plays.{IsPlayed, IsPlayFault};
 
-use crate::fault::{PlayFault, RunFault};
-use crate::gate::Gate;
-use crate::report::RunReport;
+use crate::fault::PlayFault;
 use crate::whole_run::run;
 use job_board::Settings;
 use level_text::{Session, read_level, read_script};
+use run_report::RunReport;
+use run_worker::Gate;
 use std::alloc::Global;
 use std::io::Write;
 use std::sync::Wait;

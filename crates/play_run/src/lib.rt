@@ -3,19 +3,14 @@
 
 mod bytes;
 mod crew;
-mod drawing;
 mod fault;
-mod gate;
-mod hall;
-mod printer;
-mod report;
-mod scratch;
-mod waiters;
+mod hiring;
+mod seats;
 mod whole_run;
-mod worker;
 
 pub use bytes::run_bytes;
-pub use fault::{Cause, PlayFault, RunFault};
-pub use gate::{EveryJob, Gate};
-pub use report::RunReport;
+pub use fault::PlayFault;
+pub use run_fault::{Cause, RunFault};
+pub use run_report::RunReport;
+pub use run_worker::{EveryJob, Gate};
 pub use whole_run::run;

@@ -8,7 +8,7 @@ use Rattle.std.proofs.sync.ledger.Book.TheSendSync as book
 use Rattle.std.specs.declared.sync.ledger.Ledger as ledger
 use Rattle.std.specs.contracts.sync.Mutex as lock
 use Rattle.job_board.proofs.Crossing.{board}
-use Rattle.shared_board.specs.declared.run_ledger.RunLedger as run_ledger
+use Rattle.run_ledger.specs.declared.ledger.RunLedger as run_ledger
 use Rattle.shared_board.specs.contracts.shared.SharedBoard as shared
 
 module _ (κ : NamedLft) (L M : RattleType) (p : run_ledger.Ghosts L.Denot) (l : ledger.Ghosts L.Denot) (m : ledger.Ghosts M.Denot) where

@@ -2,8 +2,6 @@
 #![tactic(auto)]
 
 mod handing;
-mod run_ledger;
 mod shared;
 
-pub use run_ledger::RunLedger;
 pub use shared::SharedBoard;

@@ -7,10 +7,10 @@ ghost use Rattle.shared_board.specs.Counts.{names_worker, is_emit};
 ghost use Rattle.shared_board.specs.Runs.{setup_for, IsStepIn};
 
 use crate::handing::hand_in;
-use crate::run_ledger::RunLedger;
 use frame_params::{Step, Task};
 use job_board::{Board, BoardFault, Event, Settings, Shown};
 use level_text::Session;
+use run_ledger::RunLedger;
 use std::sync::ledger::{Book, Ledger, Share};
 
 /// A board with two books: one of its events that name a worker, one of those that show a frame. A thread that makes
@@ -147,6 +147,11 @@ impl<'t, L: RunLedger, M: Ledger> SharedBoard<'t, L, M> {
     /// Whether all frames are shown, and the board isn't stopped.
     pub fn is_done(&self) -> bool {
         self.board.is_done()
+    }
+
+    /// Whether nothing happens any more.
+    pub fn is_stopped(&self) -> bool {
+        self.board.is_stopped()
     }
 
     /// Whether an idle worker could be given a task.

@@ -1,0 +1,61 @@
+ghost use Rattle.std.specs.Prelude.{◌≡◌, Some, [], true, map, IfOk};
+ghost use Rattle.grid_world.specs.Map.{count_up};
+ghost use Rattle.frame_params.specs.Contents.{band_in};
+
+use crate::run_band::RunBand;
+use draw_list::Band;
+use level_text::Session;
+use run_ledger::RunLedger;
+use std::alloc::{AllocError, Global};
+
+/// A place for each band of a frame, by its number from the top.
+#[derive(Drop)]
+pub struct FrameBands<'t, L: RunLedger> {
+    places: Vec<Option<RunBand<'t, L>>>,
+}
+
+impl<'t, L: RunLedger> FrameBands<'t, L> {
+    /// Empty places for a frame of so many bands.
+    pub fn new(alloc: Global, bands: u32) -> Result<FrameBands<'t, L>, AllocError> {
+        let mut places = Vec::with_capacity(alloc, bands as usize)?;
+        'places: for _number in 0..bands {
+            places.push(None)?;
+        }
+        Ok(FrameBands { places })
+    }
+
+    /// Keeps a band at the place of its number; a band that a game's frame doesn't have is let go.
+    pub fn keep(&mut self, band: RunBand<'t, L>) {
+        let number = band.band.number() as usize;
+        if let Some(place) = self.places.get_mut(number) {
+            *place = Some(band);
+        }
+    }
+
+    /// Takes all bands of a frame out of their places, and puts them at the end of `into`, from the top. False where one of them isn't there.
+    pub fn take_all(
+        &mut self,
+        session: &Session,
+        frame: u32,
+        bands: u32,
+        into: &mut Vec<Band>,
+    ) -> Result<bool, AllocError>
+        requires run { L.game ≡ Some session.now }
+        requires empty { into.old.items ≡ [] }
+        ensures { IfOk result (λ all. all ≡ true → into.new.items ≡ map (band_in session.now frame) (count_up 0 bands)) }
+    {
+        'numbers: for number in 0..bands {
+            let Some(place) = self.places.get_mut(number as usize) else {
+                return Ok(false);
+            };
+            let Some(band) = place.take() else {
+                return Ok(false);
+            };
+            let Some(drawn) = band.into_band_at(session, frame, number) else {
+                return Ok(false);
+            };
+            into.push(drawn)?;
+        }
+        Ok(true)
+    }
+}

@@ -1,0 +1,79 @@
+ghost use Rattle.std.specs.Prelude.{◌≡◌, ◌<◌, IfOk, IfSome, Some};
+ghost use Rattle.game_rules.specs.Text.{frame_text};
+
+use crate::frame_bands::FrameBands;
+use crate::run_band::RunBand;
+use draw_list::{Band, frame_text};
+use frame_params::Turn;
+use level_text::Session;
+use run_ledger::RunLedger;
+use std::alloc::{AllocError, Global};
+
+/// The bands of a run's frames that are not printed yet, by frame and number. So many frames as it is made for have places of their own; a
+/// band of a later frame takes the place of one so many frames before.
+#[derive(Drop)]
+pub struct BandTable<'t, L: RunLedger> {
+    frames: Vec<FrameBands<'t, L>>,
+    // The bands of the frame that is printed, from the top.
+    drawn: Vec<Band>,
+}
+
+impl<'t, L: RunLedger> BandTable<'t, L> {
+    /// An empty table for so many frames of so many bands. All memory that it needs is taken here.
+    pub fn new(
+        alloc: Global,
+        frames: u32,
+        bands: u32,
+    ) -> Result<BandTable<'t, L>, AllocError> {
+        let mut places = Vec::with_capacity(alloc, frames as usize)?;
+        'frames: for _frame in 0..frames {
+            places.push(FrameBands::new(alloc, bands)?)?;
+        }
+        Ok(BandTable {
+            frames: places,
+            drawn: Vec::with_capacity(alloc, bands as usize)?,
+        })
+    }
+
+    /// Keeps a band until its frame is printed.
+    pub fn keep(&mut self, band: RunBand<'t, L>) {
+        let frames = self.frames.len();
+        if frames == 0 {
+            return;
+        }
+        if let Some(places) = self.frames.get_mut(band.band.frame() as usize % frames) {
+            places.keep(band);
+        }
+    }
+
+    /// The text of a frame of the run, by its turn and all its bands, which are taken out of the table. None where one of them isn't there.
+    pub fn text(
+        &mut self,
+        alloc: Global,
+        session: &Session,
+        turn: &Turn,
+    ) -> Result<Option<Vec<u8>>, AllocError>
+        requires run { L.game ≡ Some session.now }
+        requires own { turn.now.game ≡ session.now }
+        requires later { 0 < turn.now.frame }
+        ensures { IfOk result (λ text. IfSome text (λ t. t.items ≡ frame_text session.now turn.now.frame)) }
+    {
+        let BandTable { frames, drawn } = self;
+        drawn.clear();
+        let count = frames.len();
+        if count == 0 {
+            return Ok(None);
+        }
+        let frame = turn.frame();
+        let Some(places) = frames.get_mut(frame as usize % count) else {
+            return Ok(None);
+        };
+        if !places.take_all(session, frame, turn.bands(), drawn)? {
+            return Ok(None);
+        }
+        match frame_text(alloc, frame, drawn, turn.world(), turn.statuses()) {
+            Ok(text) => Ok(Some(text)),
+            Err(_) => Err(AllocError),
+        }
+    }
+}

@@ -1,0 +1,113 @@
+ghost use Rattle.std.specs.Prelude.{◌≡◌, ◌+◌, ◌<◌, ◌≤◌, ℕ, true, get_or, length, vec_len, vec_capacity, Some};
+ghost use Rattle.band_mail.specs.Mails.{IsPutterOf, ArePuttersOf};
+
+use crate::seats::{Seat, SeatOf};
+use band_mail::{BandMail, Putter};
+use frame_print::RunBand;
+use level_text::Session;
+use run_fault::Cause;
+use run_hall::Hall;
+use run_ledger::RunLedger;
+use run_worker::{Gate, Worked, work};
+use std::alloc::Global;
+use std::sync::Wait;
+use std::sync::ledger::{Ledger, Share};
+use std::thread::{Scope, Threads};
+
+/// Starts a thread for each Putter, the last worker's first. False, with the board stopped, where one could not be started.
+#[tactic(auto, using(run_hall::proofs::Sends::hall_sync, crate::proofs::Leaving::session_sync))]
+pub fn hire<'s, 't, E, L, M, G, R>(
+    scope: &Scope<'s, E>,
+    rt: &'s R,
+    alloc: Global,
+    session: &'s Session,
+    hall: &'s Hall<'t, L, M>,
+    gate: &'s G,
+    all: &mut Share<L>,
+    putters: &mut Vec<Putter<RunBand<'t, L>>>,
+    crew: &mut Vec<Seat<'s, 't, L>>,
+) -> bool
+where
+    L: RunLedger + Send + Sync + 's,
+    M: Ledger + Send + Sync + 's,
+    G: Gate,
+    R: Threads + Wait + Sync,
+    't: 's,
+    requires run { L.game ≡ Some session.now }
+    requires parts { all.old.parts ≡ vec_len putters.old + 1 }
+    requires putters { ArePuttersOf hall.now.mail putters.old.items }
+    requires room { (vec_len crew.old ≡ 0) × (vec_len putters.old ≤ vec_capacity crew.old) }
+    ensures parts { result ≡ true → all.new.parts ≡ 1 }
+    ensures putters { result ≡ true → (vec_len putters.new ≡ 0) × (vec_capacity putters.new ≡ vec_capacity putters.old) }
+    ensures many { result ≡ true → vec_len crew.new ≡ vec_len putters.old }
+    ensures crew { (k : ℕ) (h : _) → k < vec_len crew.new → ((get_or crew.new.items k h).promise.mail.now ≡ hall.now.mail) × ((get_or crew.new.items k h).promise.worker + k + 1 ≡ vec_len putters.old) }
+{
+    while let Some(putter) = putters.pop() {
+        let worker = putters.len() as u32;
+        let share = all.split_off(1, 0);
+        let job = move || -> Worked<'t, L>
+            requires run { L.game ≡ Some session.now }
+            requires part { share.parts ≡ 1 }
+            requires putter { IsPutterOf hall.now.mail putter }
+            ensures { IsPutterOf hall.entry.now.mail result.putter × (result.putter.worker ≡ putter.worker) }
+        { work(rt, alloc, session, hall, gate, worker, share, putter) };
+        let mail = &hall.mail;
+        match scope.spawn_with(SeatOf { mail, worker }, job) {
+            Ok(handle) => crew.push_reserved(handle),
+            Err(_) => {
+                hall.stop(rt);
+                return false;
+            }
+        }
+    }
+    true
+}
+
+/// The lower of two causes.
+pub fn lower(a: Option<Cause>, b: Option<Cause>) -> Option<Cause> {
+    match (a, b) {
+        (Some(x), Some(y)) => Some(x.min(y)),
+        (Some(x), None) => Some(x),
+        (None, y) => y,
+    }
+}
+
+/// Joins the threads of a crew that is not whole. The lowest of the causes that they met.
+pub fn dismiss<'t, L: RunLedger, R: Threads>(
+    rt: &R,
+    crew: &mut Vec<Seat<'_, 't, L>>,
+) -> Option<Cause> {
+    let mut cause = None;
+    'crew: while let Some(handle) = crew.pop() {
+        cause = lower(cause, handle.join(rt).fault);
+    }
+    cause
+}
+
+/// Joins the threads, the first worker's first, so that the Putters come back in the order of their workers, and puts their shares together.
+/// The lowest of the causes that they met.
+pub fn join_all<'t, L: RunLedger, R: Threads>(
+    rt: &R,
+    mail: &BandMail<RunBand<'t, L>>,
+    crew: &mut Vec<Seat<'_, 't, L>>,
+    putters: &mut Vec<Putter<RunBand<'t, L>>>,
+    all: &mut Share<L>,
+) -> Option<Cause>
+    requires crew { (k : ℕ) (h : _) → k < vec_len crew.old → ((get_or crew.old.items k h).promise.mail.now ≡ mail.now) × ((get_or crew.old.items k h).promise.worker + k + 1 ≡ vec_len crew.old) }
+    requires room { (vec_len putters.old ≡ 0) × (vec_len crew.old ≤ vec_capacity putters.old) }
+    ensures putters { (vec_len putters.new ≡ vec_len crew.old) × ArePuttersOf mail.now putters.new.items }
+    ensures parts { all.new.parts ≡ all.old.parts + vec_len crew.old }
+{
+    let mut cause = None;
+    'crew: while let Some(handle) = crew.pop() {
+        let Worked {
+            share,
+            putter,
+            fault,
+        } = handle.join(rt);
+        all.merge(share);
+        putters.push_reserved(putter);
+        cause = lower(cause, fault);
+    }
+    cause
+}

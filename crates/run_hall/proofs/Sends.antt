@@ -1,0 +1,24 @@
+-- Where the threads of a run meet may be lent to all of them, and a band of a run may be sent to another thread.
+use denote.RattleType.{RattleType}
+use denote.Ref.{NamedLft}
+use denote.Param.Send.{IsSend, IsSync, sendable}
+use Rattle.std.proofs.Crossing.{crosses}
+use Rattle.std.specs.declared.sync.ledger.Ledger as ledger
+use Rattle.shared_board.proofs.Sends.{lock_sync}
+use Rattle.run_ledger.specs.declared.ledger.RunLedger as run_ledger
+use Rattle.frame_print.specs.contracts.run_band.RunBand as run_band
+use Rattle.frame_print.proofs.Crossing as prints
+use Rattle.band_mail.proofs.mail.BandMail.TheSendSync as mail_crossing
+use Rattle.band_mail.specs.contracts.mail.BandMail as mail
+use Rattle.run_hall.proofs.waiters.Waiters.TheSendSync as waiters
+use Rattle.run_hall.specs.contracts.hall.Hall as hall
+
+module _ (κ : NamedLft) (L M : RattleType) (p : run_ledger.Ghosts L.Denot) (l : ledger.Ghosts L.Denot) (m : ledger.Ghosts M.Denot) where
+  pub run_band_send : IsSend L → IsSend (run_band.the_row κ L p l)
+  run_band_send sL = prints.run_band κ L p l sL
+
+  pub mail_sync : IsSend L → IsSync (mail.the_row (run_band.the_row κ L p l))
+  mail_sync sL = search (run_band_send sL, mail_crossing.the_sync, crosses, sendable) depth 60 fits 20000
+
+  pub hall_sync : IsSend L → IsSync (hall.the_row κ L M p l m)
+  hall_sync sL = search (lock_sync, mail_sync sL, waiters.the_sync, crosses, sendable) depth 60 fits 20000

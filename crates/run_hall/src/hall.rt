@@ -1,0 +1,53 @@
+ghost use Rattle.std.specs.Prelude.{◌≡◌};
+
+use crate::waiters::Waiters;
+use band_mail::BandMail;
+use frame_print::RunBand;
+use run_ledger::RunLedger;
+use shared_board::SharedBoard;
+use std::sync::ledger::Ledger;
+use std::sync::{Mutex, Wait};
+
+/// Where the threads of a run meet: the locked board, the mail by which bands go to the printer, and those that wait beside the lock: the
+/// workers for a task or for room in the mail, and the printer for a frame.
+#[derive(Drop)]
+pub struct Hall<'t, L: RunLedger, M: Ledger> {
+    pub board: Mutex<SharedBoard<'t, L, M>>,
+    pub mail: BandMail<RunBand<'t, L>>,
+    pub workers: Waiters,
+    pub room: Waiters,
+    pub printer: Waiters,
+}
+
+impl<'t, L: RunLedger, M: Ledger> Hall<'t, L, M> {
+    pub fn new(
+        board: SharedBoard<'t, L, M>,
+        mail: BandMail<RunBand<'t, L>>,
+    ) -> Hall<'t, L, M>
+        ensures { result.mail ≡ mail.entry }
+    {
+        Hall {
+            board: Mutex::new(board),
+            mail,
+            workers: Waiters::new(),
+            room: Waiters::new(),
+            printer: Waiters::new(),
+        }
+    }
+
+    /// Stops the board, so that all threads end.
+    pub fn stop<R: Wait>(&self, rt: &R) {
+        self.board.lock(rt).stop();
+        self.workers.wake_all();
+        self.room.wake_all();
+        self.printer.wake_all();
+    }
+
+    /// The board and the mail, once no other thread has them.
+    pub fn into_parts(self) -> (SharedBoard<'t, L, M>, BandMail<RunBand<'t, L>>)
+        ensures { result.1 ≡ self.entry.mail }
+    {
+        let Hall { board, mail, .. } = self;
+        (board.into_inner(), mail)
+    }
+}

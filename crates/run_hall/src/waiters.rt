@@ -1,0 +1,72 @@
+use std::hint;
+use std::sync::atomic::{AtomicU64, Ordering};
+use std::sync::{Condvar, Mutex, MutexGuard, Wait};
+
+// How often a thread looks for news before it sleeps: some microseconds.
+const LOOKS: u32 = 100;
+
+/// Threads that wait for something to do under a lock. Each spins a short while and then sleeps.
+///
+/// Whoever makes something possible asks `want_one` under the lock, and calls `wake_one` behind it where that says so. A
+/// thread that spins looks again under the lock before it sleeps, so it need not be woken.
+#[derive(Drop)]
+pub struct Waiters {
+    moved: Condvar,
+    news: AtomicU64,
+    spinning: AtomicU64,
+    sleeping: AtomicU64,
+}
+
+impl Waiters {
+    pub fn new() -> Waiters {
+        Waiters {
+            moved: Condvar::new(),
+            news: AtomicU64::new(0),
+            spinning: AtomicU64::new(0),
+            sleeping: AtomicU64::new(0),
+        }
+    }
+
+    /// Spins until there are news, a short while at most, and takes the lock.
+    pub fn spin<'m, T, R: Wait>(&self, rt: &R, lock: &'m Mutex<T>) -> MutexGuard<'m, T> {
+        self.spinning.fetch_add(1, Ordering::SeqCst);
+        let seen = self.news.load(Ordering::SeqCst);
+        for _ in 0..LOOKS {
+            if self.news.load(Ordering::SeqCst) != seen {
+                break;
+            }
+            hint::spin_loop();
+        }
+        let guard = lock.lock(rt);
+        self.spinning.fetch_sub(1, Ordering::SeqCst);
+        guard
+    }
+
+    /// Gives the lock up and sleeps until it is woken.
+    pub fn sleep<'m, T, R: Wait>(&self, rt: &R, guard: MutexGuard<'m, T>) -> MutexGuard<'m, T> {
+        self.sleeping.fetch_add(1, Ordering::SeqCst);
+        let guard = self.moved.wait(rt, guard);
+        self.sleeping.fetch_sub(1, Ordering::SeqCst);
+        guard
+    }
+
+    /// Tells those that spin of something to do. Whether one that sleeps is to be woken. Called under the lock.
+    pub fn want_one(&self) -> bool {
+        self.news.fetch_add(1, Ordering::SeqCst);
+        self.spinning.load(Ordering::SeqCst) == 0 && self.sleeping.load(Ordering::SeqCst) != 0
+    }
+
+    /// Whether some sleep. Under the lock it is exact.
+    pub fn any_asleep(&self) -> bool {
+        self.sleeping.load(Ordering::SeqCst) != 0
+    }
+
+    pub fn wake_one(&self) {
+        self.moved.notify_one();
+    }
+
+    pub fn wake_all(&self) {
+        self.news.fetch_add(1, Ordering::SeqCst);
+        self.moved.notify_all();
+    }
+}

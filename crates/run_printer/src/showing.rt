@@ -1,0 +1,113 @@
+ghost use Rattle.std.specs.Prelude.{◌≡◌, ◌+◌, ◌<◌, IfOk, OnOk, Some};
+ghost use Rattle.game_rules.specs.Text.{frame_text};
+
+use crate::inbox::Inbox;
+use job_board::{BoardFault, Settings, Shown};
+use level_text::Session;
+use run_fault::Cause;
+use run_hall::Hall;
+use run_ledger::RunLedger;
+use shared_board::SharedBoard;
+use std::alloc::Global;
+use std::sync::ledger::{Ledger, Share};
+use std::sync::{MutexGuard, Wait};
+
+// Waits until the next frame may be there. Where the mail has bands they are taken in place of sleeping, so a worker that finds no room there
+// is never left waiting.
+fn wait_for_frame<'m, 't, L: RunLedger, M: Ledger, R: Wait>(
+    rt: &R,
+    hall: &'m Hall<'t, L, M>,
+    inbox: &mut Inbox<'t, L>,
+    board: MutexGuard<'m, SharedBoard<'t, L, M>>,
+) -> MutexGuard<'m, SharedBoard<'t, L, M>>
+    requires { inbox.old.taker.mail ≡ hall.now.mail }
+    ensures { inbox.new.taker.mail ≡ hall.now.mail }
+{
+    if !inbox.take_one(rt, hall) {
+        return hall.printer.sleep(rt, board);
+    }
+    drop(board);
+    inbox.take_all(rt, hall);
+    let board = hall.printer.spin(rt, &hall.board);
+    if hall.room.any_asleep() {
+        hall.room.wake_all();
+    }
+    board
+}
+
+// Shows the next frame, once all of it is drawn. The workers are told: a Logic may have waited for the frame's slot, and
+// after the last frame they end.
+fn emit<'t, L: RunLedger, M: Ledger, R: Wait>(
+    rt: &R,
+    session: &Session,
+    settings: Settings,
+    hall: &Hall<'t, L, M>,
+    emits: &mut Share<M>,
+    inbox: &mut Inbox<'t, L>,
+) -> Result<Shown<'t>, Cause>
+    requires run { (L.game ≡ Some session.now) × (L.numbers ≡ Some settings) }
+    requires emits { (emits.old.parts ≡ M.parts) × (0 < M.parts) }
+    requires inbox { inbox.old.taker.mail ≡ hall.now.mail }
+    ensures parts { emits.new.parts ≡ emits.old.parts }
+    ensures counted { OnOk result (emits.new.amount ≡ emits.old.amount + 1) }
+    ensures next { IfOk result (λ shown. shown.frame ≡ emits.old.amount + 1) }
+    ensures game { IfOk result (λ shown. shown.game ≡ session.now) }
+    ensures inbox { inbox.new.taker.mail ≡ hall.now.mail }
+{
+    let mut board = hall.printer.spin(rt, &hall.board);
+    for _ in rt.forever() {
+        match board.emit(session, settings, emits) {
+            Ok(shown) => {
+                let is_done = board.is_done();
+                let another = board.may_take() && hall.workers.want_one();
+                drop(board);
+                if is_done {
+                    hall.workers.wake_all();
+                }
+                if another {
+                    hall.workers.wake_one();
+                }
+                return Ok(shown);
+            }
+            Err(BoardFault::Illegal) => board = wait_for_frame(rt, hall, inbox, board),
+            Err(BoardFault::OutOfMemory) => return Err(Cause::OutOfMemory),
+            Err(_) => return Err(Cause::Stranger),
+        }
+    }
+    unreachable!()
+}
+
+/// The text of the next frame, once all of it is drawn. A band was put into the mail before its Draw was finished, so behind the showing all
+/// bands of the frame are in the mail or in the table.
+pub fn next_text<'t, L: RunLedger, M: Ledger, R: Wait>(
+    rt: &R,
+    alloc: Global,
+    session: &Session,
+    settings: Settings,
+    hall: &Hall<'t, L, M>,
+    emits: &mut Share<M>,
+    inbox: &mut Inbox<'t, L>,
+) -> Result<Vec<u8>, Cause>
+    requires run { (L.game ≡ Some session.now) × (L.numbers ≡ Some settings) }
+    requires emits { (emits.old.parts ≡ M.parts) × (0 < M.parts) }
+    requires inbox { inbox.old.taker.mail ≡ hall.now.mail }
+    ensures parts { emits.new.parts ≡ emits.old.parts }
+    ensures counted { OnOk result (emits.new.amount ≡ emits.old.amount + 1) }
+    ensures text { IfOk result (λ text. text.items ≡ frame_text session.now (emits.old.amount + 1)) }
+    ensures inbox { inbox.new.taker.mail ≡ hall.now.mail }
+{
+    let shown = match emit(rt, session, settings, hall, emits, inbox) {
+        Ok(shown) => shown,
+        Err(cause) => return Err(cause),
+    };
+    if inbox.take_all(rt, hall) && hall.room.any_asleep() {
+        // Who counts as asleep has the lock until it sleeps.
+        drop(hall.board.lock(rt));
+        hall.room.wake_all();
+    }
+    match inbox.table.text(alloc, session, &shown.into_turn()) {
+        Ok(Some(text)) => Ok(text),
+        Ok(None) => Err(Cause::Stranger),
+        Err(_) => Err(Cause::OutOfMemory),
+    }
+}

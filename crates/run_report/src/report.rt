@@ -1,0 +1,96 @@
+ghost use Rattle.std.specs.Prelude.{◌≡◌, ◌<◌, MatchResult, IfOk, IfErr, vec_len, slice_index, count_by, sum, ℕ, Some};
+ghost use Rattle.job_core.specs.Core.{IsComplete};
+ghost use Rattle.shared_board.specs.Counts.{names, names_worker, steps_of};
+ghost use Rattle.shared_board.specs.Runs.{setup_for};
+ghost use Rattle.run_report.specs.Reports.{AreStepsOf};
+
+use job_board::{Event, Settings};
+use level_text::Session;
+use run_fault::{Cause, RunFault};
+use run_ledger::RunLedger;
+use shared_board::SharedBoard;
+use std::alloc::{AllocError, Global};
+use std::sync::ledger::{Ledger, Share};
+
+/// What a run comes to: its number of frames, all that happened in order, and for each worker how many events name it.
+#[derive(Debug, Drop)]
+pub struct RunReport {
+    pub frames: u32,
+    pub events: Vec<Event>,
+    pub steps: Vec<u64>,
+}
+
+// Whether the event names the worker.
+fn is_by(event: &Event, worker: u32) -> bool
+    ensures { result ≡ names worker event.now }
+{
+    match event {
+        Event::Start { worker: w, .. } => *w == worker,
+        Event::Resume { worker: w, .. } => *w == worker,
+        Event::Ask { worker: w, .. } => *w == worker,
+        Event::Spread { worker: w, .. } => *w == worker,
+        Event::Hold { worker: w, .. } => *w == worker,
+        Event::Finish { worker: w, .. } => *w == worker,
+        Event::Emit { .. } => false,
+        Event::Stop => false,
+    }
+}
+
+// How many events name the worker.
+fn count_steps(events: &[Event], worker: u32) -> u64
+    ensures { result ≡ steps_of worker events.now }
+{
+    events.iter().filter(|e| is_by(e, worker)).count() as u64
+}
+
+// The steps of each worker.
+fn all_steps(alloc: Global, events: &[Event], workers: u32) -> Result<Vec<u64>, AllocError>
+    ensures { IfOk result (λ v. AreStepsOf workers events.now v.items) }
+{
+    let mut all = Vec::with_capacity(alloc, workers as usize)?;
+    'workers: for worker in 0..workers {
+        all.push(count_steps(events, worker))?;
+    }
+    Ok(all)
+}
+
+fn fault(cause: Cause, frames: u32) -> RunFault
+    ensures { result.frames ≡ frames }
+{
+    RunFault { cause, frames }
+}
+
+/// The report of a board that no other thread has, once all frames are written and all shares are joined. The steps of the
+/// workers are those that their shares count.
+pub fn report_on<L: RunLedger, M: Ledger>(
+    alloc: Global,
+    session: &Session,
+    settings: Settings,
+    board: &mut SharedBoard<'_, L, M>,
+    all: &mut Share<L>,
+    emits: &mut Share<M>,
+) -> Result<RunReport, RunFault>
+    requires run { (L.game ≡ Some session.now) × (L.numbers ≡ Some settings) }
+    requires whole { (all.old.parts ≡ L.parts) × (emits.old.parts ≡ M.parts) }
+    ensures fault { IfErr result (λ e. e.frames ≡ settings.frames) }
+    ensures frames { IfOk result (λ r. r.frames ≡ settings.frames) }
+    ensures complete { IfOk result (λ r. IsComplete (setup_for session.now settings) r.events.items) }
+    ensures steps { IfOk result (λ r. AreStepsOf settings.workers r.events.items r.steps.items) }
+    ensures sum { IfOk result (λ r. sum r.steps.items ≡ count_by names_worker r.events.items) }
+    ensures shares { IfOk result (λ r. sum r.steps.items ≡ all.old.amount) }
+{
+    let Some(events) = board.events(session, settings, all, emits) else {
+        return Err(fault(Cause::Stranger, settings.frames()));
+    };
+    let Ok(steps) = all_steps(alloc, events, settings.workers()) else {
+        return Err(fault(Cause::OutOfMemory, settings.frames()));
+    };
+    let Ok(events) = events.to_vec(alloc) else {
+        return Err(fault(Cause::OutOfMemory, settings.frames()));
+    };
+    Ok(RunReport {
+        frames: settings.frames(),
+        events,
+        steps,
+    })
+}

@@ -1,0 +1,10 @@
+//! A worker of a run: it takes tasks, works on them in its own arena, puts the bands that it draws into the mail, and hands in the rest.
+#![tactic(auto)]
+
+mod gate;
+mod putting;
+mod scratch;
+mod worker;
+
+pub use gate::{EveryJob, Gate};
+pub use worker::{Worked, work};

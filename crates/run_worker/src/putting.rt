@@ -1,0 +1,52 @@
+ghost use Rattle.std.specs.Prelude.{◌≡◌};
+ghost use Rattle.band_mail.specs.Mails.{IsPutterOf};
+
+use band_mail::Putter;
+use frame_print::RunBand;
+use run_hall::Hall;
+use run_ledger::RunLedger;
+use std::hint;
+use std::sync::Wait;
+use std::sync::ledger::Ledger;
+
+// How often a full queue is tried again before its worker sleeps: some microseconds.
+const TRIES: u32 = 100;
+
+/// Puts a band into the worker's queue of the mail, and waits for room where it is full. False, and the band is let go, where the board is
+/// stopped meanwhile.
+///
+/// It tries once more under the lock before it sleeps: the printer takes the lock behind each time that it has taken bands, so it either
+/// takes before that try or sees who sleeps.
+pub fn put_band<'t, L: RunLedger, M: Ledger, R: Wait>(
+    rt: &R,
+    hall: &Hall<'t, L, M>,
+    putter: &mut Putter<RunBand<'t, L>>,
+    band: RunBand<'t, L>,
+) -> bool
+    requires { IsPutterOf hall.now.mail putter.old }
+    ensures { IsPutterOf hall.now.mail putter.new × (putter.new.worker ≡ putter.old.worker) }
+{
+    let mut band = band;
+    'tries: for _ in 0..TRIES {
+        match hall.mail.put(rt, putter, band) {
+            Ok(()) => return true,
+            Err(back) => band = back,
+        }
+        hint::spin_loop();
+    }
+    let mut board = hall.board.lock(rt);
+    'waits: for _ in rt.forever() {
+        if board.is_stopped() {
+            return false;
+        }
+        match hall.mail.put(rt, putter, band) {
+            Ok(()) => return true,
+            Err(back) => band = back,
+        }
+        if hall.printer.want_one() {
+            hall.printer.wake_one();
+        }
+        board = hall.room.sleep(rt, board);
+    }
+    unreachable!()
+}

@@ -1,0 +1,232 @@
+ghost use Rattle.std.specs.Prelude.{◌≡◌, IfOk, Some};
+ghost use Rattle.game_rules.specs.Game.{Game};
+ghost use Rattle.band_mail.specs.Mails.{IsPutterOf};
+ghost use Rattle.frame_params.specs.BoardSteps.{IsToldIn};
+ghost use Rattle.frame_params.specs.Tasks.{game_of};
+ghost use Rattle.run_worker.specs.Turns.{IsTurnIn, IsWorkIn};
+
+use crate::gate::Gate;
+use crate::putting::put_band;
+use crate::scratch::Scratch;
+use band_mail::Putter;
+use frame_params::{BoardStep, Step, Task};
+use frame_print::RunBand;
+use job_board::BoardFault;
+use level_text::Session;
+use run_fault::Cause;
+use run_hall::Hall;
+use run_ledger::RunLedger;
+use std::alloc::Global;
+use std::sync::Wait;
+use std::sync::ledger::{Ledger, Share};
+
+/// What a worker's thread hands back: its share of the events, its Putter, and the fault that it met.
+#[derive(Drop)]
+pub struct Worked<'t, L: RunLedger> {
+    pub share: Share<L>,
+    pub putter: Putter<RunBand<'t, L>>,
+    pub fault: Option<Cause>,
+    pub ghost one_part: { share.parts ≡ 1 },
+}
+
+/// What a worker does next.
+#[derive(Drop)]
+pub enum Turn<'t> {
+    Task(Task<'t>),
+    /// The board is done or stopped.
+    Over,
+    Fault(Cause),
+}
+
+// What a refused call makes of a worker.
+fn turn_of<'t>(fault: BoardFault) -> Turn<'t>
+    ensures { (g : Game) → IsTurnIn g result }
+{
+    match fault {
+        BoardFault::Stopped => Turn::Over,
+        BoardFault::OutOfMemory => Turn::Fault(Cause::OutOfMemory),
+        _ => Turn::Fault(Cause::Stranger),
+    }
+}
+
+// Waits for a task. Where there are more, the next worker is woken.
+fn wait_for_task<'t, L: RunLedger, M: Ledger, R: Wait>(
+    rt: &R,
+    session: &Session,
+    hall: &Hall<'t, L, M>,
+    worker: u32,
+    share: &mut Share<L>,
+) -> Turn<'t>
+    requires run { L.game ≡ Some session.now }
+    requires part { share.old.parts ≡ 1 }
+    ensures part { share.new.parts ≡ 1 }
+    ensures game { IsTurnIn session.now result }
+{
+    let mut board = hall.workers.spin(rt, &hall.board);
+    for _ in rt.forever() {
+        match board.take(worker, session, share) {
+            Ok(Some(task)) => {
+                let another = board.may_take() && hall.workers.want_one();
+                drop(board);
+                if another {
+                    hall.workers.wake_one();
+                }
+                return Turn::Task(task);
+            }
+            Ok(None) => {
+                if board.is_done() {
+                    return Turn::Over;
+                }
+                board = hall.workers.sleep(rt, board);
+            }
+            Err(fault) => return turn_of(fault),
+        }
+    }
+    unreachable!()
+}
+
+// Tells the board what a worker's work came to and takes the next task, in one hold of the lock; where there is none, waits for it.
+fn next_turn<'t, L: RunLedger, M: Ledger, R: Wait>(
+    rt: &R,
+    session: &Session,
+    hall: &Hall<'t, L, M>,
+    worker: u32,
+    told: BoardStep<'t>,
+    share: &mut Share<L>,
+) -> Turn<'t>
+    requires run { L.game ≡ Some session.now }
+    requires own { IsToldIn session.now told }
+    requires part { share.old.parts ≡ 1 }
+    ensures part { share.new.parts ≡ 1 }
+    ensures game { IsTurnIn session.now result }
+{
+    let mut board = hall.board.lock(rt);
+    let taken = board.next(worker, session, told, share);
+    let another = board.may_take() && hall.workers.want_one();
+    let shows = board.may_show() && hall.printer.want_one();
+    drop(board);
+    if another {
+        hall.workers.wake_one();
+    }
+    if shows {
+        hall.printer.wake_one();
+    }
+    match taken {
+        Ok(Some(task)) => Turn::Task(task),
+        Ok(None) => wait_for_task(rt, session, hall, worker, share),
+        Err(fault) => turn_of(fault),
+    }
+}
+
+// Delivers what a worker's work came to, its band first, so that all bands of a frame are in the mail before its last Draw is finished.
+fn deliver<'t, L: RunLedger, M: Ledger, R: Wait>(
+    rt: &R,
+    session: &Session,
+    hall: &Hall<'t, L, M>,
+    worker: u32,
+    step: Step<'t>,
+    share: &mut Share<L>,
+    putter: &mut Putter<RunBand<'t, L>>,
+) -> Turn<'t>
+    requires run { L.game ≡ Some session.now }
+    requires own { IsWorkIn session.now step }
+    requires part { share.old.parts ≡ 1 }
+    requires putter { IsPutterOf hall.now.mail putter.old }
+    ensures part { share.new.parts ≡ 1 }
+    ensures putter { IsPutterOf hall.now.mail putter.new × (putter.new.worker ≡ putter.old.worker) }
+    ensures game { IsTurnIn session.now result }
+{
+    let (told, band) = step.deliver();
+    if let Some(band) = band {
+        if !put_band(rt, hall, putter, RunBand::new(session, band)) {
+            return Turn::Over;
+        }
+    }
+    next_turn(rt, session, hall, worker, told, share)
+}
+
+// The work of a task, between the two questions to the gate. The task is let go with the lock free.
+fn work_of<'t, G: Gate>(
+    alloc: Global,
+    scratch: &mut Scratch,
+    session: &Session,
+    gate: &G,
+    worker: u32,
+    task: Task<'t>,
+) -> Result<Step<'t>, Cause>
+    requires { game_of task ≡ session.now }
+    ensures { IfOk result (IsWorkIn session.now) }
+{
+    let _ = session;
+    let job = task.name();
+    if !gate.pass(worker, job, false) {
+        return Err(Cause::GateClosed);
+    }
+    let step = match scratch.work(alloc, &task) {
+        Ok(step) => step,
+        Err(_) => return Err(Cause::OutOfMemory),
+    };
+    if !gate.pass(worker, job, true) {
+        return Err(Cause::GateClosed);
+    }
+    Ok(step)
+}
+
+fn hand_back<'t, L: RunLedger>(
+    share: Share<L>,
+    putter: Putter<RunBand<'t, L>>,
+    fault: Option<Cause>,
+) -> Worked<'t, L>
+    requires { share.parts ≡ 1 }
+    ensures { result.putter ≡ putter.entry }
+{
+    Worked {
+        share,
+        putter,
+        fault,
+    }
+}
+
+/// Works on tasks until the board is done or stopped.
+pub fn work<'t, L: RunLedger, M: Ledger, G: Gate, R: Wait>(
+    rt: &R,
+    alloc: Global,
+    session: &Session,
+    hall: &Hall<'t, L, M>,
+    gate: &G,
+    worker: u32,
+    share: Share<L>,
+    putter: Putter<RunBand<'t, L>>,
+) -> Worked<'t, L>
+    requires run { L.game ≡ Some session.now }
+    requires part { share.parts ≡ 1 }
+    requires putter { IsPutterOf hall.now.mail putter }
+    ensures { IsPutterOf hall.now.mail result.putter × (result.putter.worker ≡ putter.entry.worker) }
+{
+    let mut share = share;
+    let mut putter = putter;
+    let mut scratch = Scratch::new(alloc);
+    let mut turn = wait_for_task(rt, session, hall, worker, &mut share);
+    for _ in rt.forever() {
+        let task = match turn {
+            Turn::Task(task) => task,
+            Turn::Over => return hand_back(share, putter, None),
+            Turn::Fault(cause) => {
+                hall.stop(rt);
+                return hand_back(share, putter, Some(cause));
+            }
+        };
+        match work_of(alloc, &mut scratch, session, gate, worker, task) {
+            Ok(step) => {
+                turn = deliver(
+                    rt, session, hall, worker, step, &mut share, &mut putter,
+                );
+            }
+            Err(cause) => {
+                hall.stop(rt);
+                return hand_back(share, putter, Some(cause));
+            }
+        }
+    }
+    unreachable!()
+}
