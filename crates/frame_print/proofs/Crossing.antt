@@ -15,6 +15,3 @@ nothing_send L = search (crosses, sendable)
 
 pub run_band : (κ : NamedLft) (L : RattleType) (p : run_ledger.Ghosts L.Denot) (l : ledger.Ghosts L.Denot) → IsSend (RunBand.the_row κ L p l)
 run_band κ L p l = declared_send (RunBand.the_type κ L p l) (band_out κ, (nothing_send L, tt))
-
-t2 : (κ : NamedLft) (L : RattleType) (p : run_ledger.Ghosts L.Denot) (l : ledger.Ghosts L.Denot) → IsSend (RunBand.the_row κ L p l)
-t2 κ L p l = declared_send (RunBand.the_type κ L p l) ?

@@ -19,9 +19,10 @@ use Rattle.band_mail.proofs.putter.Putter.TheSendSync as putter_crossing
 use Rattle.band_mail.specs.contracts.putter.Putter as putter
 use Rattle.frame_params.proofs.Crossing as params
 use Rattle.frame_print.specs.contracts.run_band.RunBand as run_band
+use Rattle.frame_print.proofs.Crossing as prints
 use Rattle.level_text.specs.contracts.session.Session as session
 use Rattle.run_hall.specs.contracts.hall.Hall as hall
-use Rattle.run_hall.proofs.Sends.{hall_sync, run_band_send}
+use Rattle.run_hall.proofs.Sends.{hall_sync}
 
 pub session_sync : IsSync session.the_row
 session_sync = params.session
@@ -35,8 +36,8 @@ alloc_send = search (crosses, sendable) depth 40
 session_send : (κ : NamedLft) → IsSend ((shr_ref_field κ session.the_row tt).row)
 session_send κ = search (session_sync, sendable)
 
-hall_send : (κ κd : NamedLft) (L M : RattleType) (p : run_ledger.Ghosts L.Denot) (l : ledger.Ghosts L.Denot) (m : ledger.Ghosts M.Denot) → IsSend (param 1 L) → IsSend ((shr_ref_field κ (hall.the_row κd (param 1 L) (param 2 M) p l m) tt).row)
-hall_send κ κd L M p l m sL = search (hall_sync κd (param 1 L) (param 2 M) p l m sL, sendable)
+hall_send : (κ κd : NamedLft) (L M : RattleType) (p : run_ledger.Ghosts L.Denot) (l : ledger.Ghosts L.Denot) (m : ledger.Ghosts M.Denot) → IsSend ((shr_ref_field κ (hall.the_row κd (param 1 L) (param 2 M) p l m) tt).row)
+hall_send κ κd L M p l m = search (hall_sync κd (param 1 L) (param 2 M) p l m, sendable)
 
 gate_send : (κ : NamedLft) (G : RattleType) → IsSync (param 3 G) → IsSend ((shr_ref_field κ (param 3 G) tt).row)
 gate_send κ G sG = search (sG, sendable)
@@ -47,8 +48,8 @@ worker_number_send = search sendable
 share_send : (L : RattleType) (l : ledger.Ghosts L.Denot) → IsSend (param 1 L) → IsSend (share.the_row (param 1 L) l)
 share_send L l sL = search (share_crossing.the_send, sL, crosses, sendable) depth 40
 
-putter_send : (κ : NamedLft) (L : RattleType) (p : run_ledger.Ghosts L.Denot) (l : ledger.Ghosts L.Denot) → IsSend (param 1 L) → IsSend (putter.the_row (run_band.the_row κ (param 1 L) p l))
-putter_send κ L p l sL = search (run_band_send κ (param 1 L) p l sL, putter_crossing.the_send, crosses, sendable) depth 40
+putter_send : (κ : NamedLft) (L : RattleType) (p : run_ledger.Ghosts L.Denot) (l : ledger.Ghosts L.Denot) → IsSend (putter.the_row (run_band.the_row κ (param 1 L) p l))
+putter_send κ L p l = search (prints.run_band κ (param 1 L) p l, putter_crossing.the_send, crosses, sendable) depth 40
 
 all_send : (ν : Sym) (A B C D E F G H : RattleType) → IsSend A → IsSend B → IsSend C → IsSend D → IsSend E → IsSend F → IsSend G → IsSend H
     → IsSend (TupleAt ν (A ∷ B ∷ C ∷ D ∷ E ∷ F ∷ G ∷ H ∷ []))
@@ -60,4 +61,4 @@ pub worker_send : (δ : Ty) (k : Kept) (ν : Sym) (κr κs κh κd κg κp : Nam
     → IsSend (param 1 L) → IsSync (param 3 G) → IsSync (param 4 R)
     → IsSend (param 1 (arg δ k (TupleAt ν ((shr_ref_field κr (param 4 R) tt).row ∷ global.the_row ∷ (shr_ref_field κs session.the_row tt).row ∷ (shr_ref_field κh (hall.the_row κd (param 1 L) (param 2 M) p l m) tt).row ∷ (shr_ref_field κg (param 3 G) tt).row ∷ u32-field.row ∷ share.the_row (param 1 L) l ∷ putter.the_row (run_band.the_row κp (param 1 L) p l) ∷ []))))
 worker_send δ k ν κr κs κh κd κg κp L M G R p l m sL sG sR =
-    param_send 1 _ (arg_send δ k _ (all_send ν _ _ _ _ _ _ _ _ (runtime_send κr R sR) alloc_send (session_send κs) (hall_send κh κd L M p l m sL) (gate_send κg G sG) worker_number_send (share_send L l sL) (putter_send κp L p l sL)))
+    param_send 1 _ (arg_send δ k _ (all_send ν _ _ _ _ _ _ _ _ (runtime_send κr R sR) alloc_send (session_send κs) (hall_send κh κd L M p l m) (gate_send κg G sG) worker_number_send (share_send L l sL) (putter_send κp L p l)))

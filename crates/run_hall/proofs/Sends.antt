@@ -1,7 +1,7 @@
--- Where the threads of a run meet may be lent to all of them, and a band of a run may be sent to another thread.
+-- Where the threads of a run meet may be lent to all of them.
 use denote.RattleType.{RattleType}
 use denote.Ref.{NamedLft}
-use denote.Param.Send.{IsSend, IsSync, sendable}
+use denote.Param.Send.{IsSync, sendable}
 use Rattle.std.proofs.Crossing.{crosses}
 use Rattle.std.specs.declared.sync.ledger.Ledger as ledger
 use Rattle.shared_board.proofs.Sends.{lock_sync}
@@ -14,11 +14,8 @@ use Rattle.run_hall.proofs.waiters.Waiters.TheSendSync as waiters
 use Rattle.run_hall.specs.contracts.hall.Hall as hall
 
 module _ (κ : NamedLft) (L M : RattleType) (p : run_ledger.Ghosts L.Denot) (l : ledger.Ghosts L.Denot) (m : ledger.Ghosts M.Denot) where
-  pub run_band_send : IsSend L → IsSend (run_band.the_row κ L p l)
-  run_band_send sL = prints.run_band κ L p l sL
+  mail_sync : IsSync (mail.the_row (run_band.the_row κ L p l))
+  mail_sync = search (prints.run_band κ L p l, mail_crossing.the_sync, crosses, sendable) depth 60 fits 20000
 
-  pub mail_sync : IsSend L → IsSync (mail.the_row (run_band.the_row κ L p l))
-  mail_sync sL = search (run_band_send sL, mail_crossing.the_sync, crosses, sendable) depth 60 fits 20000
-
-  pub hall_sync : IsSend L → IsSync (hall.the_row κ L M p l m)
-  hall_sync sL = search (lock_sync, mail_sync sL, waiters.the_sync, crosses, sendable) depth 60 fits 20000
+  pub hall_sync : IsSync (hall.the_row κ L M p l m)
+  hall_sync = search (lock_sync, mail_sync, waiters.the_sync, crosses, sendable) depth 60 fits 20000
