@@ -27,6 +27,9 @@ use Rattle.run_hall.proofs.Sends.{hall_sync}
 pub session_sync : IsSync session.the_row
 session_sync = params.session
 
+pub hall_lent : (κ : NamedLft) (L M : RattleType) (p : run_ledger.Ghosts L.Denot) (l : ledger.Ghosts L.Denot) (m : ledger.Ghosts M.Denot) → IsSync (hall.the_row κ L M p l m)
+hall_lent κ L M p l m = hall_sync κ L M p l m
+
 runtime_send : (κ : NamedLft) (R : RattleType) → IsSync (param 4 R) → IsSend ((shr_ref_field κ (param 4 R) tt).row)
 runtime_send κ R sR = search (sR, sendable)
 
@@ -49,7 +52,7 @@ share_send : (L : RattleType) (l : ledger.Ghosts L.Denot) → IsSend (param 1 L)
 share_send L l sL = search (share_crossing.the_send, sL, crosses, sendable) depth 40
 
 putter_send : (κ : NamedLft) (L : RattleType) (p : run_ledger.Ghosts L.Denot) (l : ledger.Ghosts L.Denot) → IsSend (putter.the_row (run_band.the_row κ (param 1 L) p l))
-putter_send κ L p l = search (prints.run_band κ (param 1 L) p l, putter_crossing.the_send, crosses, sendable) depth 40
+putter_send κ L p l = search (prints.run_band_send κ (param 1 L) p l, putter_crossing.the_send, crosses, sendable) depth 40
 
 all_send : (ν : Sym) (A B C D E F G H : RattleType) → IsSend A → IsSend B → IsSend C → IsSend D → IsSend E → IsSend F → IsSend G → IsSend H
     → IsSend (TupleAt ν (A ∷ B ∷ C ∷ D ∷ E ∷ F ∷ G ∷ H ∷ []))

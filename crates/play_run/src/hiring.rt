@@ -15,7 +15,7 @@ use std::sync::ledger::{Ledger, Share};
 use std::thread::{Scope, Threads};
 
 /// Starts a thread for each Putter, the last worker's first. False, with the board stopped, where one could not be started.
-#[tactic(auto, using(run_hall::proofs::Sends::hall_sync, crate::proofs::Leaving::session_sync))]
+#[tactic(auto, using(crate::proofs::Leaving::hall_lent, crate::proofs::Leaving::session_sync))]
 pub fn hire<'s, 't, E, L, M, G, R>(
     scope: &Scope<'s, E>,
     rt: &'s R,
@@ -45,7 +45,7 @@ where
     while let Some(putter) = putters.pop() {
         let worker = putters.len() as u32;
         let share = all.split_off(1, 0);
-        let job = move || -> Worked<'t, L>
+        let job = move || -> Worked<L>
             requires run { L.game ≡ Some session.now }
             requires part { share.parts ≡ 1 }
             requires putter { IsPutterOf hall.now.mail putter }
