@@ -10,6 +10,7 @@ use run_hall::Hall;
 use run_ledger::RunLedger;
 use run_worker::{Gate, Worked, work};
 use std::alloc::Global;
+use std::rt::Clock;
 use std::sync::Wait;
 use std::sync::ledger::{Ledger, Share};
 use std::thread::{Scope, Threads};
@@ -31,7 +32,7 @@ where
     L: RunLedger + Send + Sync + 's,
     M: Ledger + Send + Sync + 's,
     G: Gate,
-    R: Threads + Wait + Sync,
+    R: Threads + Wait + Clock + Sync,
     't: 's,
     requires run { L.game ≡ Some session.now }
     requires parts { all.old.parts ≡ vec_len putters.old + 1 }

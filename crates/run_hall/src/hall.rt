@@ -1,5 +1,6 @@
 ghost use Rattle.std.specs.Prelude.{◌≡◌};
 
+use crate::pace::Pace;
 use crate::waiters::Waiters;
 use band_mail::BandMail;
 use frame_print::RunBand;
@@ -17,12 +18,15 @@ pub struct Hall<'t, L: RunLedger, M: Ledger> {
     pub workers: Waiters,
     pub room: Waiters,
     pub printer: Waiters,
+    pub pace: Pace,
+    count: u32,
 }
 
 impl<'t, L: RunLedger, M: Ledger> Hall<'t, L, M> {
     pub fn new(
         board: SharedBoard<'t, L, M>,
         mail: BandMail<RunBand<'t, L>>,
+        workers: u32,
     ) -> Hall<'t, L, M>
         ensures { result.mail ≡ mail.entry }
     {
@@ -32,7 +36,27 @@ impl<'t, L: RunLedger, M: Ledger> Hall<'t, L, M> {
             workers: Waiters::new(),
             room: Waiters::new(),
             printer: Waiters::new(),
+            pace: Pace::new(),
+            count: workers,
         }
+    }
+
+    /// Whether to wake a worker for a task that could be taken now. Called under the lock. Where the work is short, a worker
+    /// that is awake takes it sooner.
+    pub fn wants_worker(&self) -> bool {
+        if self.pace.is_short() && self.workers.sleepers() < u64::from(self.count) {
+            return false;
+        }
+        self.workers.want_one()
+    }
+
+    /// Whether to wake the printer for a frame that could be shown now. Called under the lock. Where the work is short, a
+    /// worker goes on first while it has a task.
+    pub fn wants_printer(&self, is_idle: bool) -> bool {
+        if self.pace.is_short() && !is_idle {
+            return false;
+        }
+        self.printer.want_one()
     }
 
     /// Stops the board, so that all threads end.

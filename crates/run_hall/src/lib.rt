@@ -2,7 +2,11 @@
 #![tactic(auto)]
 
 mod hall;
+mod pace;
+mod rest;
 mod waiters;
 
 pub use hall::Hall;
+pub use pace::Pace;
+pub use rest::Rest;
 pub use waiters::Waiters;

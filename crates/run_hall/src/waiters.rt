@@ -1,6 +1,8 @@
 use std::hint;
+use std::rt::Clock;
 use std::sync::atomic::{AtomicU64, Ordering};
 use std::sync::{Condvar, Mutex, MutexGuard, Wait};
+use std::time::Duration;
 
 // How often a thread looks for news before it sleeps: some microseconds.
 const LOOKS: u32 = 100;
@@ -48,6 +50,24 @@ impl Waiters {
         let guard = self.moved.wait(rt, guard);
         self.sleeping.fetch_sub(1, Ordering::SeqCst);
         guard
+    }
+
+    /// The same, for a while at most. Whether the while is over.
+    pub fn doze<'m, T, R: Wait + Clock>(
+        &self,
+        rt: &R,
+        guard: MutexGuard<'m, T>,
+        most: Duration,
+    ) -> (MutexGuard<'m, T>, bool) {
+        self.sleeping.fetch_add(1, Ordering::SeqCst);
+        let (guard, ended) = self.moved.wait_timeout(rt, guard, most);
+        self.sleeping.fetch_sub(1, Ordering::SeqCst);
+        (guard, ended.timed_out())
+    }
+
+    /// How many sleep. Under the lock it is exact.
+    pub fn sleepers(&self) -> u64 {
+        self.sleeping.load(Ordering::SeqCst)
     }
 
     /// Tells those that spin of something to do. Whether one that sleeps is to be woken. Called under the lock.

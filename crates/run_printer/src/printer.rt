@@ -13,11 +13,12 @@ use run_hall::Hall;
 use run_ledger::RunLedger;
 use std::alloc::Global;
 use std::io::Write;
+use std::rt::Clock;
 use std::sync::Wait;
 use std::sync::ledger::{Ledger, Share};
 
 /// Shows and writes all frames in order, and flushes. At a fault it stops the board.
-pub fn print<'t, W: Write, L: RunLedger, M: Ledger, R: Wait>(
+pub fn print<'t, W: Write, L: RunLedger, M: Ledger, R: Wait + Clock>(
     rt: &R,
     alloc: Global,
     session: &Session,

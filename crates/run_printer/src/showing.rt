@@ -5,26 +5,32 @@ use crate::inbox::Inbox;
 use job_board::{BoardFault, Settings, Shown};
 use level_text::Session;
 use run_fault::Cause;
-use run_hall::Hall;
+use run_hall::{Hall, Rest};
 use run_ledger::RunLedger;
 use shared_board::SharedBoard;
 use std::alloc::Global;
+use std::rt::Clock;
 use std::sync::ledger::{Ledger, Share};
 use std::sync::{MutexGuard, Wait};
 
 // Waits until the next frame may be there. Where the mail has bands they are taken in place of sleeping, so a worker that finds no room there
 // is never left waiting.
-fn wait_for_frame<'m, 't, L: RunLedger, M: Ledger, R: Wait>(
+fn wait_for_frame<'m, 't, L: RunLedger, M: Ledger, R: Wait + Clock>(
     rt: &R,
     hall: &'m Hall<'t, L, M>,
     inbox: &mut Inbox<'t, L>,
+    rest: &mut Rest,
     board: MutexGuard<'m, SharedBoard<'t, L, M>>,
 ) -> MutexGuard<'m, SharedBoard<'t, L, M>>
     requires { inbox.old.taker.mail ≡ hall.now.mail }
     ensures { inbox.new.taker.mail ≡ hall.now.mail }
 {
     if !inbox.take_one(rt, hall) {
-        return hall.printer.sleep(rt, board);
+        let (board, is_over) = hall.printer.doze(rt, board, rest.length());
+        if is_over {
+            rest.lengthen();
+        }
+        return board;
     }
     drop(board);
     inbox.take_all(rt, hall);
@@ -37,7 +43,7 @@ fn wait_for_frame<'m, 't, L: RunLedger, M: Ledger, R: Wait>(
 
 // Shows the next frame, once all of it is drawn. The workers are told: a Logic may have waited for the frame's slot, and
 // after the last frame they end.
-fn emit<'t, L: RunLedger, M: Ledger, R: Wait>(
+fn emit<'t, L: RunLedger, M: Ledger, R: Wait + Clock>(
     rt: &R,
     session: &Session,
     settings: Settings,
@@ -54,12 +60,13 @@ fn emit<'t, L: RunLedger, M: Ledger, R: Wait>(
     ensures game { IfOk result (λ shown. shown.game ≡ session.now) }
     ensures inbox { inbox.new.taker.mail ≡ hall.now.mail }
 {
+    let mut rest = Rest::new();
     let mut board = hall.printer.spin(rt, &hall.board);
     for _ in rt.forever() {
         match board.emit(session, settings, emits) {
             Ok(shown) => {
                 let is_done = board.is_done();
-                let another = board.may_take() && hall.workers.want_one();
+                let another = board.may_take() && hall.wants_worker();
                 drop(board);
                 if is_done {
                     hall.workers.wake_all();
@@ -69,7 +76,7 @@ fn emit<'t, L: RunLedger, M: Ledger, R: Wait>(
                 }
                 return Ok(shown);
             }
-            Err(BoardFault::Illegal) => board = wait_for_frame(rt, hall, inbox, board),
+            Err(BoardFault::Illegal) => board = wait_for_frame(rt, hall, inbox, &mut rest, board),
             Err(BoardFault::OutOfMemory) => return Err(Cause::OutOfMemory),
             Err(_) => return Err(Cause::Stranger),
         }
@@ -79,7 +86,7 @@ fn emit<'t, L: RunLedger, M: Ledger, R: Wait>(
 
 /// The text of the next frame, once all of it is drawn. A band was put into the mail before its Draw was finished, so behind the showing all
 /// bands of the frame are in the mail or in the table.
-pub fn next_text<'t, L: RunLedger, M: Ledger, R: Wait>(
+pub fn next_text<'t, L: RunLedger, M: Ledger, R: Wait + Clock>(
     rt: &R,
     alloc: Global,
     session: &Session,

@@ -14,9 +14,10 @@ use frame_print::RunBand;
 use job_board::BoardFault;
 use level_text::Session;
 use run_fault::Cause;
-use run_hall::Hall;
+use run_hall::{Hall, Rest};
 use run_ledger::RunLedger;
 use std::alloc::Global;
+use std::rt::Clock;
 use std::sync::Wait;
 use std::sync::ledger::{Ledger, Share};
 
@@ -50,11 +51,12 @@ fn turn_of<'t>(fault: BoardFault) -> Turn<'t>
 }
 
 // Waits for a task. Where there are more, the next worker is woken.
-fn wait_for_task<'t, L: RunLedger, M: Ledger, R: Wait>(
+fn wait_for_task<'t, L: RunLedger, M: Ledger, R: Wait + Clock>(
     rt: &R,
     session: &Session,
     hall: &Hall<'t, L, M>,
     worker: u32,
+    rest: &mut Rest,
     share: &mut Share<L>,
 ) -> Turn<'t>
     requires run { L.game ≡ Some session.now }
@@ -66,7 +68,7 @@ fn wait_for_task<'t, L: RunLedger, M: Ledger, R: Wait>(
     for _ in rt.forever() {
         match board.take(worker, session, share) {
             Ok(Some(task)) => {
-                let another = board.may_take() && hall.workers.want_one();
+                let another = board.may_take() && hall.wants_worker();
                 drop(board);
                 if another {
                     hall.workers.wake_one();
@@ -77,7 +79,11 @@ fn wait_for_task<'t, L: RunLedger, M: Ledger, R: Wait>(
                 if board.is_done() {
                     return Turn::Over;
                 }
-                board = hall.workers.sleep(rt, board);
+                let (again, is_over) = hall.workers.doze(rt, board, rest.length());
+                board = again;
+                if is_over {
+                    rest.lengthen();
+                }
             }
             Err(fault) => return turn_of(fault),
         }
@@ -86,12 +92,13 @@ fn wait_for_task<'t, L: RunLedger, M: Ledger, R: Wait>(
 }
 
 // Tells the board what a worker's work came to and takes the next task, in one hold of the lock; where there is none, waits for it.
-fn next_turn<'t, L: RunLedger, M: Ledger, R: Wait>(
+fn next_turn<'t, L: RunLedger, M: Ledger, R: Wait + Clock>(
     rt: &R,
     session: &Session,
     hall: &Hall<'t, L, M>,
     worker: u32,
     told: BoardStep<'t>,
+    rest: &mut Rest,
     share: &mut Share<L>,
 ) -> Turn<'t>
     requires run { L.game ≡ Some session.now }
@@ -102,8 +109,9 @@ fn next_turn<'t, L: RunLedger, M: Ledger, R: Wait>(
 {
     let mut board = hall.board.lock(rt);
     let taken = board.next(worker, session, told, share);
-    let another = board.may_take() && hall.workers.want_one();
-    let shows = board.may_show() && hall.printer.want_one();
+    let another = board.may_take() && hall.wants_worker();
+    let is_idle = matches!(&taken, Ok(None));
+    let shows = board.may_show() && hall.wants_printer(is_idle);
     drop(board);
     if another {
         hall.workers.wake_one();
@@ -113,18 +121,19 @@ fn next_turn<'t, L: RunLedger, M: Ledger, R: Wait>(
     }
     match taken {
         Ok(Some(task)) => Turn::Task(task),
-        Ok(None) => wait_for_task(rt, session, hall, worker, share),
+        Ok(None) => wait_for_task(rt, session, hall, worker, rest, share),
         Err(fault) => turn_of(fault),
     }
 }
 
 // Delivers what a worker's work came to, its band first, so that all bands of a frame are in the mail before its last Draw is finished.
-fn deliver<'t, L: RunLedger, M: Ledger, R: Wait>(
+fn deliver<'t, L: RunLedger, M: Ledger, R: Wait + Clock>(
     rt: &R,
     session: &Session,
     hall: &Hall<'t, L, M>,
     worker: u32,
     step: Step<'t>,
+    rest: &mut Rest,
     share: &mut Share<L>,
     putter: &mut Putter<RunBand<'t, L>>,
 ) -> Turn<'t>
@@ -142,7 +151,7 @@ fn deliver<'t, L: RunLedger, M: Ledger, R: Wait>(
             return Turn::Over;
         }
     }
-    next_turn(rt, session, hall, worker, told, share)
+    next_turn(rt, session, hall, worker, told, rest, share)
 }
 
 // The work of a task, between the two questions to the gate. The task is let go with the lock free.
@@ -188,7 +197,7 @@ fn hand_back<'t, L: RunLedger>(
 }
 
 /// Works on tasks until the board is done or stopped.
-pub fn work<'t, L: RunLedger, M: Ledger, G: Gate, R: Wait>(
+pub fn work<'t, L: RunLedger, M: Ledger, G: Gate, R: Wait + Clock>(
     rt: &R,
     alloc: Global,
     session: &Session,
@@ -206,7 +215,9 @@ pub fn work<'t, L: RunLedger, M: Ledger, G: Gate, R: Wait>(
     let mut share = share;
     let mut putter = putter;
     let mut scratch = Scratch::new(alloc);
-    let mut turn = wait_for_task(rt, session, hall, worker, &mut share);
+    let mut rest = Rest::new();
+    let mut number = 0u64;
+    let mut turn = wait_for_task(rt, session, hall, worker, &mut rest, &mut share);
     for _ in rt.forever() {
         let task = match turn {
             Turn::Task(task) => task,
@@ -216,10 +227,24 @@ pub fn work<'t, L: RunLedger, M: Ledger, G: Gate, R: Wait>(
                 return hand_back(share, putter, Some(cause));
             }
         };
-        match work_of(alloc, &mut scratch, session, gate, worker, task) {
+        let began = hall.pace.begin(rt, number);
+        number = number.wrapping_add(1);
+        let worked = work_of(alloc, &mut scratch, session, gate, worker, task);
+        hall.pace.end(rt, began);
+        if !hall.pace.is_short() {
+            rest = Rest::new();
+        }
+        match worked {
             Ok(step) => {
                 turn = deliver(
-                    rt, session, hall, worker, step, &mut share, &mut putter,
+                    rt,
+                    session,
+                    hall,
+                    worker,
+                    step,
+                    &mut rest,
+                    &mut share,
+                    &mut putter,
                 );
             }
             Err(cause) => {
