@@ -8,15 +8,15 @@ use Rattle.run_printer.proofs.printer.print.Goals as goal
 
 pub returns-in-Err-clause-err : goal.returns-in-Err-clause-err
 returns-in-Err-clause-err g c =
-    part-of_whole _ _ c.args.session.now _ c.shows.done (omega (arith, c.shows-test.true, c.frames-last.ensures.value)) c.shows.invariant.2.1
+    part-of_whole _ _ c.args.session.now _ c.shows.done (omega (arith, c.shows-test.true, c.frames-last.ensures.value)) c.shows.invariant.3
 
 pub returns-in-Err-write_whole-clause-err : goal.returns-in-Err-write_whole-clause-err
 returns-in-Err-write_whole-clause-err g c =
     let session = c.args.session.now in
     let done = c.shows.done in
     let below : done < c.args.settings.frames = omega (arith, c.shows-test.true, c.frames-last.ensures.value) in
-    let text : c.deref.result.now ≡ frame_text session (done + 1) = c.deref.ensures.value ∙ c.in-Ok.ensures.text ∙ ap (λ n. frame_text session (n + 1)) c.shows.invariant.2.0 in
-    part-of_more _ _ _ session c.args.settings.frames done _ below (rw text at c.in-Err-write_whole.ensures.not_all) c.shows.invariant.2.1 (rw text at c.in-Err-write_whole.ensures.err)
+    let text : c.deref.result.now ≡ frame_text session (done + 1) = c.deref.ensures.value ∙ c.in-Ok.ensures.text ∙ ap (λ n. frame_text session (n + 1)) c.shows.invariant.2 in
+    part-of_more _ _ _ session c.args.settings.frames done _ below (rw text at c.in-Err-write_whole.ensures.not_all) c.shows.invariant.3 (rw text at c.in-Err-write_whole.ensures.err)
 
 pub returns-in-Err-flush-clause-err : goal.returns-in-Err-flush-clause-err
 returns-in-Err-flush-clause-err g c =
