@@ -50,7 +50,7 @@ where
             requires run { L.game ≡ Some session.now }
             requires part { share.parts ≡ 1 }
             requires putter { IsPutterOf hall.now.mail putter }
-            ensures { IsPutterOf hall.entry.now.mail result.putter × (result.putter.worker ≡ putter.worker) }
+            ensures { IsPutterOf hall.entry.now.mail result.putter × (result.putter.worker ≡ putter.entry.worker) }
         { work(rt, alloc, session, hall, gate, worker, share, putter) };
         let mail = &hall.mail;
         match scope.spawn_with(SeatOf { mail, worker }, job) {
