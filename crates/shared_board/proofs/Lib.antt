@@ -1,3 +1,3 @@
 mod Counting
-mod Handing
+mod Stepping
 pub mod Sends
