@@ -23,7 +23,9 @@ use Rattle.frame_params.specs.contracts.parked.Parked as Parked
 use Rattle.frame_params.specs.contracts.thought.Thought as Thought
 use Rattle.frame_params.specs.contracts.turn.Turn as Turn
 use Rattle.frame_params.specs.contracts.band_out.BandOut as BandOut
+use Rattle.frame_params.specs.contracts.band_mark.BandMark as BandMark
 use Rattle.frame_params.specs.contracts.step.Step as Step
+use Rattle.frame_params.specs.contracts.board_step.BoardStep as BoardStep
 use Rattle.frame_params.specs.contracts.think_task.ThinkTask as ThinkTask
 use Rattle.frame_params.specs.contracts.path_task.PathTask as PathTask
 use Rattle.frame_params.specs.contracts.draw_task.DrawTask as DrawTask
@@ -65,6 +67,16 @@ step κ = search (way, thought, turn, band_out, parked, sendable, crosses) depth
 -- as a field of another type
 pub step_field : (κ : NamedLft) → IsSend (Step.the_field κ).row
 step_field κ = search (way, thought, turn, band_out, parked, sendable, crosses) depth 60 fits 20000
+
+pub band_mark : (κ : NamedLft) → IsSend (BandMark.the_row κ)
+band_mark κ = search (session, of_parts, sendable, crosses) depth 40
+
+pub board_step : (κ : NamedLft) → IsSend (BoardStep.the_row κ)
+board_step κ = search (way, thought, turn, band_mark, parked, sendable, crosses) depth 40
+
+-- as a field of another type
+pub board_step_field : (κ : NamedLft) → IsSend (BoardStep.the_field κ).row
+board_step_field κ = search (way, thought, turn, band_mark, parked, sendable, crosses) depth 60 fits 20000
 
 -- ---- tasks
 

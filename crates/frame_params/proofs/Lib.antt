@@ -5,3 +5,4 @@ pub mod CutThoughts
 pub mod AllAgents
 pub mod Crossing
 pub mod KnownWays
+pub mod Delivering

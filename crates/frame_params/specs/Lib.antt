@@ -5,3 +5,4 @@ pub mod Slots
 pub mod Thinks
 pub mod Tasks
 pub mod Distances
+pub mod BoardSteps

@@ -4,12 +4,10 @@ use Rattle.game_rules.specs.Game.{Game}
 use Rattle.job_core.specs.declared.names.JobName.{JobName}
 use Rattle.job_core.specs.declared.names.JobName.TheVariants.{Logic, Think, Path, Draw}
 use Rattle.frame_params.specs.Names.{part_of, question_of, logic_of, think_of}
-use Rattle.frame_params.specs.Logic.{IsLogicStep}
-use Rattle.frame_params.specs.Thinks.{IsThinkStep}
+use Rattle.frame_params.specs.BoardSteps.{told, IsToldOf}
 use Rattle.frame_params.specs.declared.task.Task.{Task}
 use Rattle.frame_params.specs.declared.task.Task.TheVariants.{Logic as LogicTask, Think as ThinkTask, Path as PathTask, Draw as DrawTask}
 use Rattle.frame_params.specs.declared.step.Step.{Step}
-use Rattle.frame_params.specs.declared.step.Step.TheVariants.{Logic as LogicStep, Think as ThinkStep, Path as PathStep, Draw as DrawStep}
 
 abbrev pub game_of : Task → Game
 game_of (LogicTask l) = l.game
@@ -34,11 +32,7 @@ IsTaskAt g job step task = ⊥
 
 -- what comes of a task's work is of its own game and job
 abbrev pub IsStepOf : Task → Step → Type 0
-IsStepOf (LogicTask l) (LogicStep step) = IsLogicStep l step
-IsStepOf (ThinkTask t) (ThinkStep step) = IsThinkStep t step
-IsStepOf (PathTask q) (PathStep way) = way ≡ q
-IsStepOf (DrawTask d) (DrawStep band) = band ≡ d
-IsStepOf task step = ⊥
+IsStepOf task step = IsToldOf task (told step)
 
 -- a Logic at its start, whose work takes no memory
 abbrev pub IsBeginning : Task → Type 0

@@ -1,6 +1,7 @@
 ghost use Rattle.std.specs.Prelude.{◌≡◌};
 ghost use Rattle.frame_params.specs.Contents.{band_in};
 
+use crate::band_mark::BandMark;
 use draw_list::Band;
 use job_core::names::JobName;
 use level_text::Session;
@@ -55,6 +56,17 @@ impl<'t> BandOut<'t> {
         ensures { result ≡ self.now.number }
     {
         self.band.number
+    }
+
+    /// Its mark, which a board is told of. Takes no memory.
+    pub fn mark(&self) -> BandMark<'t>
+        ensures { result ≡ self.now }
+    {
+        BandMark {
+            session: self.session,
+            frame: self.frame,
+            number: self.band.number,
+        }
     }
 
     /// The band's rows.

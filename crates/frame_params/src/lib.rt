@@ -2,7 +2,9 @@
 //! frame and numbers, so callers see it as these alone.
 #![tactic(auto)]
 
+mod band_mark;
 mod band_out;
+mod board_step;
 mod draw_task;
 mod gathered;
 mod kept_distances;
@@ -23,7 +25,9 @@ mod thought;
 mod turn;
 mod way;
 
+pub use band_mark::BandMark;
 pub use band_out::BandOut;
+pub use board_step::BoardStep;
 pub use draw_task::DrawTask;
 pub use logic_step::LogicStep;
 pub use logic_task::LogicTask;

@@ -1,4 +1,8 @@
+ghost use Rattle.std.specs.Prelude.{◌≡◌};
+ghost use Rattle.frame_params.specs.BoardSteps.{told, band_drawn};
+
 use crate::band_out::BandOut;
+use crate::board_step::BoardStep;
 use crate::logic_step::LogicStep;
 use crate::think_step::ThinkStep;
 use crate::way::Way;
@@ -10,4 +14,19 @@ pub enum Step<'t> {
     Think(ThinkStep<'t>),
     Path(Way<'t>),
     Draw(BandOut<'t>),
+}
+
+impl<'t> Step<'t> {
+    /// What a board is told of the work, and the band beside it where one was drawn.
+    pub fn deliver(self) -> (BoardStep<'t>, Option<BandOut<'t>>)
+        ensures step { result.0 ≡ told self.entry }
+        ensures band { result.1 ≡ band_drawn self.entry }
+    {
+        match self {
+            Step::Logic(step) => (BoardStep::Logic(step), None),
+            Step::Think(step) => (BoardStep::Think(step), None),
+            Step::Path(way) => (BoardStep::Path(way), None),
+            Step::Draw(band) => (BoardStep::Draw(band.mark()), Some(band)),
+        }
+    }
 }

@@ -2,9 +2,8 @@
 use denote.Ref.{NamedLft}
 use denote.Param.Send.{IsSend, sendable}
 use Rattle.std.proofs.Crossing.{crosses}
-use Rattle.job_core.specs.contracts.names.JobName as JobName
 use Rattle.job_log.proofs.jobs.JobLog.TheSendSync.{the_send as job_log}
-use Rattle.frame_params.proofs.Crossing.{session, way, thought, turn, band_out, parked}
+use Rattle.frame_params.proofs.Crossing.{session, way, thought, turn, band_mark, parked}
 use Rattle.job_shelf.specs.contracts.done.Done as Done
 use Rattle.job_shelf.specs.contracts.shown.Shown as Shown
 use Rattle.job_shelf.proofs.Crossing as of_shelf
@@ -28,7 +27,7 @@ run : (κ : NamedLft) → IsSend (Run.the_row κ)
 run κ = search (session, shelf, job_log, sendable, crosses) depth 40
 
 work : (κ : NamedLft) → IsSend (Work.the_row κ)
-work κ = search (session, way, thought, turn, band_out, parked, sendable, crosses) depth 60 fits 100000
+work κ = search (session, way, thought, turn, band_mark, parked, sendable, crosses) depth 60 fits 100000
 
 works : (κ : NamedLft) → IsSend (Works.the_row κ)
 works κ = search (work, sendable, crosses) depth 40

@@ -8,5 +8,4 @@ pub mod Owning
 pub mod Coming
 pub mod Ending
 pub mod Crossing
-pub mod OfItsGame
 pub mod Beginning

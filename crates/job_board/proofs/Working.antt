@@ -6,7 +6,7 @@ use Rattle.job_core.proofs.ByCases.{by_lt}
 use Rattle.frame_params.specs.Names.{FrameOf, PartOf, QuestionOf, frame_of, part_of, question_of, logic_of, think_of}
 use Rattle.frame_params.specs.Contents.{questions_in}
 use Rattle.frame_params.specs.declared.task.Task.TheVariants.{Logic as LogicTask, Think as ThinkTask, Path as PathTask, Draw as DrawTask}
-use Rattle.frame_params.specs.declared.step.Step.TheVariants.{Logic as LogicStep, Think as ThinkStep, Path as PathStep, Draw as DrawStep}
+use Rattle.frame_params.specs.declared.board_step.BoardStep.TheVariants.{Logic as LogicStep, Think as ThinkStep, Path as PathStep, Draw as DrawStep}
 use Rattle.frame_params.specs.declared.logic_step.LogicStep.TheVariants.{Turned}
 use Rattle.frame_params.specs.declared.think_step.ThinkStep.TheVariants.{Ended, Asks}
 use Rattle.job_shelf.specs.Dones.{game_done, job_done, step_done}
@@ -40,4 +40,4 @@ pub done_step : (g : Game) (k : ℕ) (done : Done) → game_done done ≡ g → 
 done_step g k (DoneTurned turn) e o = turned_step g k turn e o
 done_step g k (DoneThought thought) e o = ended_step g k thought e o
 done_step g k (DoneWay way) e o = way_step g k way e
-done_step g k (DoneDrawn band) e o = drawn_step g k band e
+done_step g k (DoneDrawn mark) e o = drawn_step g k mark e

@@ -8,9 +8,10 @@ use Rattle.job_core.specs.declared.names.JobName.TheVariants.{Logic, Think}
 use Rattle.job_core.specs.declared.names.Event.TheVariants.{Start, Resume}
 use Rattle.frame_params.specs.Names.{QuestionOf}
 use Rattle.frame_params.specs.Contents.{questions_in}
-use Rattle.frame_params.specs.Tasks.{IsTaskAt, IsStepOf}
+use Rattle.frame_params.specs.Tasks.{IsTaskAt}
+use Rattle.frame_params.specs.BoardSteps.{IsToldOf}
 use Rattle.frame_params.specs.declared.task.Task.{Task}
-use Rattle.frame_params.specs.declared.step.Step.{Step}
+use Rattle.frame_params.specs.declared.board_step.BoardStep.{BoardStep}
 use Rattle.job_core.specs.Core.{Runs, Waits, IsLegal, IsLegalList}
 use Rattle.job_board.specs.Boards.{Played, setup_in, state_in}
 use Rattle.job_board.specs.BoardCode.{job_code}
@@ -33,9 +34,9 @@ work_code =
 abbrev pub works_code : Coded (List (Option WorkOf))
 works_code = coded_list (coded_option work_code)
 
--- what a task of the job comes to, where the job stands at this step
-abbrev pub IsStepAt : Game → JobName → ℕ → Step → Type 0
-IsStepAt g j k step = (task : Task) × IsTaskAt g j k task × IsStepOf task step
+-- what a task of the job comes to, where the job stands at this step; of a Draw the mark of its band
+abbrev pub IsStepAt : Game → JobName → ℕ → BoardStep → Type 0
+IsStepAt g j k step = (task : Task) × IsTaskAt g j k task × IsToldOf task step
 
 -- the job ends next: a Logic that has spread, a Think with no question left, a Path or a Draw
 abbrev pub IsOver : Game → JobName → ℕ → Type 0

@@ -2,20 +2,25 @@ ghost use Rattle.std.specs.Prelude.{◌≡◌, false, IfErr, OnOk, OnErr, slice_
 ghost use Rattle.job_core.specs.declared.names.Event.TheVariants.{Finish};
 ghost use Rattle.job_board.specs.Boards.{Happens, IsRefused};
 ghost use Rattle.job_shelf.specs.Dones.{game_done, job_done, step_done, IsOtherDone};
-ghost use Rattle.job_board.specs.HandedIn.{IsStepIn, HasBegun, IsBeginRefused, IsHandedIn, IsHandInRefused};
+ghost use Rattle.frame_params.specs.BoardSteps.{IsToldIn};
+ghost use Rattle.job_board.specs.HandedIn.{HasBegun, IsBeginRefused, IsHandedIn, IsHandInRefused};
 
 use super::board::Board;
 use super::refused::Refused;
-use frame_params::{LogicStep, Step, ThinkStep};
+use frame_params::{BoardStep, LogicStep, ThinkStep};
 use job_log::BoardFault;
 use job_shelf::Done;
 
 impl<'t> Board<'t> {
     /// Hands in what a worker's task came to: a frame that begins is spread, or held where it has no slot; a Think that
     /// has a question asks it; every other job is over. The step is of the board's own game, as what comes of a task is
-    /// that `take` gave: no sessions are compared.
-    pub fn hand_in(&mut self, worker: u32, step: Step<'t>) -> Result<(), Refused<Step<'t>>>
-        requires { IsStepIn self.old.run.game step }
+    /// that `take` gave: no sessions are compared. Of a drawn band the board gets the mark alone.
+    pub fn hand_in(
+        &mut self,
+        worker: u32,
+        step: BoardStep<'t>,
+    ) -> Result<(), Refused<BoardStep<'t>>>
+        requires { IsToldIn self.old.run.game step }
         ensures ok { OnOk result (IsHandedIn self.old.run self.new.run worker step.entry) }
         ensures worked { OnOk result (self.new.worked ≡ slice_set self.old.worked worker false) }
         ensures refused { IfErr result (λ r. IsHandInRefused self.old.run worker step.entry r.fault) }
@@ -23,28 +28,28 @@ impl<'t> Board<'t> {
         ensures unchanged { OnErr result (self.new ≡ self.old) }
     {
         match step {
-            Step::Logic(logic) => match logic {
+            BoardStep::Logic(logic) => match logic {
                 LogicStep::Begins => match self.begin_frame(worker) {
                     Ok(()) => Ok(()),
                     Err(fault) => Err(Refused {
                         fault,
-                        value: Step::Logic(LogicStep::Begins),
+                        value: BoardStep::Logic(LogicStep::Begins),
                     }),
                 },
                 LogicStep::Turned(turn) => self.hand_in_end(worker, Done::Turned(turn)),
             },
-            Step::Think(think) => match think {
+            BoardStep::Think(think) => match think {
                 ThinkStep::Ended(thought) => self.hand_in_end(worker, Done::Thought(thought)),
                 ThinkStep::Asks(parked) => match self.ask_own(worker, parked) {
                     Ok(()) => Ok(()),
                     Err(refused) => Err(Refused {
                         fault: refused.fault,
-                        value: Step::Think(ThinkStep::Asks(refused.value)),
+                        value: BoardStep::Think(ThinkStep::Asks(refused.value)),
                     }),
                 },
             },
-            Step::Path(way) => self.hand_in_end(worker, Done::Way(way)),
-            Step::Draw(band) => self.hand_in_end(worker, Done::Drawn(band)),
+            BoardStep::Path(way) => self.hand_in_end(worker, Done::Way(way)),
+            BoardStep::Draw(mark) => self.hand_in_end(worker, Done::Drawn(mark)),
         }
     }
 
@@ -65,7 +70,7 @@ impl<'t> Board<'t> {
     }
 
     // The worker's job is over; it comes back as the step that it was.
-    fn hand_in_end(&mut self, worker: u32, done: Done<'t>) -> Result<(), Refused<Step<'t>>>
+    fn hand_in_end(&mut self, worker: u32, done: Done<'t>) -> Result<(), Refused<BoardStep<'t>>>
         requires { game_done done ≡ self.old.run.game }
         ensures ok { OnOk result (Happens self.old.run self.new.run (Finish worker (job_done done.entry))) }
         ensures worked { OnOk result (self.new.worked ≡ slice_set self.old.worked worker false) }

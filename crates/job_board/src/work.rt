@@ -5,20 +5,20 @@ ghost use Rattle.frame_params.specs.Tasks.{IsTaskAt};
 ghost use Rattle.job_shelf.specs.Dones.{game_done, job_done};
 
 use bumpalo::Bump;
-use frame_params::{LogicStep, Parked, Step, Task, ThinkStep};
+use frame_params::{BoardStep, LogicStep, Parked, Task, ThinkStep};
 use job_core::names::JobName;
 use job_shelf::Done;
 use level_text::Session;
 use std::alloc::{AllocError, Global};
 use std::marker::Model;
 
-/// What the work of a job came to, kept for the job's next event.
+/// What the work of a job came to, kept for the job's next event. Of a Draw it is the mark of its band.
 #[derive(Drop)]
 pub(crate) struct Work<'t> {
     session: &'t Session,
     job: JobName,
     step: u32,
-    result: Step<'t>,
+    result: BoardStep<'t>,
 }
 
 impl<'t> Model for Work<'t> {
@@ -36,7 +36,8 @@ impl<'t> Model for Work<'t> {
 impl<'t> Work<'t> {
     ghost use Rattle.job_board.specs.Works.{work_of, IsOver, GoesOn, AsksNothing, IsDoneOf, IsParkedOf};
 
-    /// Does the work of a job that stands at this step, in an arena of its own.
+    /// Does the work of a job that stands at this step, in an arena of its own. A band is not drawn: who shows the frame
+    /// does that.
     pub(crate) fn of(
         alloc: Global,
         session: &'t Session,
@@ -47,8 +48,14 @@ impl<'t> Work<'t> {
         requires { IsTaskAt session.now job step task.now }
         ensures { IfOk result (λ work. work ≡ work_of session.now job step) }
     {
-        let arena = Bump::new(alloc);
-        let result = task.work_in(alloc, &arena)?;
+        let result = match task {
+            Task::Draw(draw) => BoardStep::Draw(draw.mark()),
+            _ => {
+                let arena = Bump::new(alloc);
+                let (told, _no_band) = task.work_in(alloc, &arena)?.deliver();
+                told
+            }
+        };
         Ok(Work {
             session,
             job,
@@ -83,7 +90,7 @@ impl<'t> Work<'t> {
             session,
             job: parked.name(),
             step: parked.index(),
-            result: Step::Think(ThinkStep::Asks(parked)),
+            result: BoardStep::Think(ThinkStep::Asks(parked)),
         }
     }
 
@@ -105,15 +112,15 @@ impl<'t> Work<'t> {
         ensures no { result ≡ false → GoesOn self.now.game self.now.job self.now.step }
     {
         match &self.result {
-            Step::Logic(logic) => match logic {
+            BoardStep::Logic(logic) => match logic {
                 LogicStep::Begins => false,
                 LogicStep::Turned(_) => true,
             },
-            Step::Think(think) => match think {
+            BoardStep::Think(think) => match think {
                 ThinkStep::Ended(_) => true,
                 ThinkStep::Asks(_) => false,
             },
-            Step::Path(_) | Step::Draw(_) => true,
+            BoardStep::Path(_) | BoardStep::Draw(_) => true,
         }
     }
 
@@ -130,26 +137,26 @@ impl<'t> Work<'t> {
             result,
         } = self;
         match result {
-            Step::Logic(logic) => match logic {
+            BoardStep::Logic(logic) => match logic {
                 LogicStep::Turned(turn) => Ok(Done::Turned(turn)),
                 LogicStep::Begins => Err(Work {
                     session,
                     job,
                     step,
-                    result: Step::Logic(LogicStep::Begins),
+                    result: BoardStep::Logic(LogicStep::Begins),
                 }),
             },
-            Step::Think(think) => match think {
+            BoardStep::Think(think) => match think {
                 ThinkStep::Ended(thought) => Ok(Done::Thought(thought)),
                 ThinkStep::Asks(parked) => Err(Work {
                     session,
                     job,
                     step,
-                    result: Step::Think(ThinkStep::Asks(parked)),
+                    result: BoardStep::Think(ThinkStep::Asks(parked)),
                 }),
             },
-            Step::Path(way) => Ok(Done::Way(way)),
-            Step::Draw(band) => Ok(Done::Drawn(band)),
+            BoardStep::Path(way) => Ok(Done::Way(way)),
+            BoardStep::Draw(mark) => Ok(Done::Drawn(mark)),
         }
     }
 
@@ -166,13 +173,13 @@ impl<'t> Work<'t> {
             result,
         } = self;
         let result = match result {
-            Step::Think(think) => match think {
+            BoardStep::Think(think) => match think {
                 ThinkStep::Asks(parked) => return Ok(parked),
-                ThinkStep::Ended(thought) => Step::Think(ThinkStep::Ended(thought)),
+                ThinkStep::Ended(thought) => BoardStep::Think(ThinkStep::Ended(thought)),
             },
-            Step::Logic(logic) => Step::Logic(logic),
-            Step::Path(way) => Step::Path(way),
-            Step::Draw(band) => Step::Draw(band),
+            BoardStep::Logic(logic) => BoardStep::Logic(logic),
+            BoardStep::Path(way) => BoardStep::Path(way),
+            BoardStep::Draw(mark) => BoardStep::Draw(mark),
         };
         Err(Work {
             session,

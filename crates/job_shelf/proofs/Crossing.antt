@@ -2,7 +2,7 @@
 use denote.Ref.{NamedLft}
 use denote.Param.Send.{IsSend, sendable}
 use Rattle.std.proofs.Crossing.{crosses}
-use Rattle.frame_params.proofs.Crossing.{session, way, thought, turn, band_out, parked, params, slots}
+use Rattle.frame_params.proofs.Crossing.{session, way, thought, turn, band_mark, parked, params, slots}
 use Rattle.job_shelf.specs.contracts.done.Done as Done
 use Rattle.job_shelf.specs.contracts.shown.Shown as Shown
 use Rattle.job_shelf.specs.contracts.asking.Asking as Asking
@@ -11,14 +11,14 @@ use Rattle.job_shelf.specs.contracts.drawn.Drawn as Drawn
 use Rattle.job_shelf.specs.contracts.shelf.Shelf as Shelf
 
 pub done : (κ : NamedLft) → IsSend (Done.the_row κ)
-done κ = search (way, thought, turn, band_out, sendable, crosses) depth 40
+done κ = search (way, thought, turn, band_mark, sendable, crosses) depth 40
 
 -- as a field of another type
 pub done_field : (κ : NamedLft) → IsSend (Done.the_field κ).row
-done_field κ = search (way, thought, turn, band_out, sendable, crosses) depth 60 fits 20000
+done_field κ = search (way, thought, turn, band_mark, sendable, crosses) depth 60 fits 20000
 
 pub shown : (κ : NamedLft) → IsSend (Shown.the_row κ)
-shown κ = search (turn, band_out, sendable, crosses) depth 40
+shown κ = search (turn, sendable, crosses) depth 40
 
 asking : (κ : NamedLft) → IsSend (Asking.the_row κ)
 asking κ = search (session, parked, way, sendable, crosses) depth 40
@@ -27,7 +27,7 @@ thoughts : (κ : NamedLft) → IsSend (Thoughts.the_row κ)
 thoughts κ = search (session, thought, sendable, crosses) depth 40
 
 drawn : (κ : NamedLft) → IsSend (Drawn.the_row κ)
-drawn κ = search (session, turn, band_out, sendable, crosses) depth 40
+drawn κ = search (session, turn, band_mark, sendable, crosses) depth 40
 
 pub shelf : (κ : NamedLft) → IsSend (Shelf.the_row κ)
 shelf κ = search (session, params, slots, asking, thoughts, drawn, sendable, crosses) depth 40

@@ -4,8 +4,8 @@ use Rattle.game_rules.specs.Game.{Game}
 use Rattle.job_core.specs.declared.names.JobName.{JobName}
 use Rattle.job_core.specs.declared.names.JobName.TheVariants.{Logic, Think, Path, Draw}
 use Rattle.frame_params.specs.Contents.{questions_in}
-use Rattle.frame_params.specs.declared.step.Step.{Step}
-use Rattle.frame_params.specs.declared.step.Step.TheVariants.{Logic as LogicStep, Think as ThinkStep, Path as PathStep, Draw as DrawStep}
+use Rattle.frame_params.specs.declared.board_step.BoardStep.{BoardStep}
+use Rattle.frame_params.specs.declared.board_step.BoardStep.TheVariants.{Logic as LogicStep, Think as ThinkStep, Path as PathStep, Draw as DrawStep}
 use Rattle.frame_params.specs.declared.logic_step.LogicStep.TheVariants.{Turned as TurnedStep}
 use Rattle.frame_params.specs.declared.think_step.ThinkStep.TheVariants.{Ended}
 use Rattle.job_shelf.specs.declared.done.Done.{Done}
@@ -15,20 +15,20 @@ abbrev pub game_done : Done → Game
 game_done (Turned t) = t.game
 game_done (Thought t) = t.game
 game_done (Way w) = w.game
-game_done (Drawn b) = b.game
+game_done (Drawn mark) = mark.game
 
 abbrev pub job_done : Done → JobName
 job_done (Turned t) = Logic t.frame
 job_done (Thought t) = Think t.frame t.number
 job_done (Way w) = Path w.frame w.agent w.question
-job_done (Drawn b) = Draw b.frame b.number
+job_done (Drawn mark) = Draw mark.frame mark.number
 
--- as a step
-abbrev pub step_done : Done → Step
+-- as a board is told of it
+abbrev pub step_done : Done → BoardStep
 step_done (Turned turn) = LogicStep (TurnedStep turn)
 step_done (Thought thought) = ThinkStep (Ended thought)
 step_done (Way way) = PathStep way
-step_done (Drawn band) = DrawStep band
+step_done (Drawn mark) = DrawStep mark
 
 -- it is of another job, or of another game
 abbrev pub IsOther : Done → Game → JobName → Type 0

@@ -1,6 +1,6 @@
 ghost use Rattle.std.specs.Prelude.{◌≡◌, true, false};
 
-use frame_params::{BandOut, LogicStep, Step, ThinkStep, Thought, Turn, Way};
+use frame_params::{BandMark, BoardStep, LogicStep, ThinkStep, Thought, Turn, Way};
 use job_core::names::JobName;
 use level_text::Session;
 
@@ -10,7 +10,7 @@ pub enum Done<'t> {
     Turned(Turn<'t>),
     Thought(Thought<'t>),
     Way(Way<'t>),
-    Drawn(BandOut<'t>),
+    Drawn(BandMark<'t>),
 }
 
 impl<'t> Done<'t> {
@@ -23,7 +23,7 @@ impl<'t> Done<'t> {
             Done::Turned(turn) => turn.session(),
             Done::Thought(thought) => thought.session(),
             Done::Way(way) => way.session(),
-            Done::Drawn(band) => band.session(),
+            Done::Drawn(mark) => mark.session(),
         }
     }
 
@@ -35,19 +35,19 @@ impl<'t> Done<'t> {
             Done::Turned(turn) => turn.name(),
             Done::Thought(thought) => thought.name(),
             Done::Way(way) => way.name(),
-            Done::Drawn(band) => band.name(),
+            Done::Drawn(mark) => mark.name(),
         }
     }
 
-    /// The step that it came of.
-    pub fn into_step(self) -> Step<'t>
+    /// The step that it came of, as a board is told of it.
+    pub fn into_step(self) -> BoardStep<'t>
         ensures { result ≡ step_done self.entry }
     {
         match self {
-            Done::Turned(turn) => Step::Logic(LogicStep::Turned(turn)),
-            Done::Thought(thought) => Step::Think(ThinkStep::Ended(thought)),
-            Done::Way(way) => Step::Path(way),
-            Done::Drawn(band) => Step::Draw(band),
+            Done::Turned(turn) => BoardStep::Logic(LogicStep::Turned(turn)),
+            Done::Thought(thought) => BoardStep::Think(ThinkStep::Ended(thought)),
+            Done::Way(way) => BoardStep::Path(way),
+            Done::Drawn(mark) => BoardStep::Draw(mark),
         }
     }
 

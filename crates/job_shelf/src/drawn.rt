@@ -3,24 +3,23 @@ ghost use Rattle.board_law.specs.Stored.{nothing, turned, with_band, parts};
 ghost use Rattle.job_shelf.specs.Shelf.{part_name};
 
 use super::shown::Shown;
-use frame_params::{BandOut, DrawTask, Turn};
+use frame_params::{BandMark, DrawTask, Turn};
 use level_text::Session;
 use std::alloc::{AllocError, Global};
 use std::marker::Model;
 
-/// What came of a frame that is not shown yet: its turn, and the bands that are drawn, by number. There is room for
-/// all bands.
+/// What came of a frame that is not shown yet: its turn, and the marks of the bands that are drawn, by number. There is
+/// room for those of all bands.
 #[derive(Drop)]
 pub struct Drawn<'t> {
     session: &'t Session,
     turn: Option<Turn<'t>>,
-    bands: Vec<BandOut<'t>>,
+    bands: Vec<BandMark<'t>>,
 }
 
 impl<'t> Model for Drawn<'t> {
     ghost use Rattle.std.specs.Prelude.{◌≤◌, map, vec_capacity};
     ghost use Rattle.frame_params.specs.Contents.{bands_in};
-    ghost use Rattle.job_shelf.specs.Parts.{AreOfGame};
     ghost use Rattle.job_shelf.specs.Shelf.{DrawnOf, IsOfGame, part_name, frame_name};
     ghost use Rattle.job_shelf.specs.ShelfCode.{drawn_of_code};
 
@@ -30,12 +29,11 @@ impl<'t> Model for Drawn<'t> {
 
     ghost view = { λ d. record { game = d.session.now; drawn = record { turn = frame_name d.turn; bands = map part_name d.bands.items } } };
 
-    ghost invariant = { λ d. AreOfGame d.session.now d.bands.items × (bands_in d.session.now ≤ vec_capacity d.bands)
-        × IsOfGame d.session.now d.turn };
+    ghost invariant = { λ d. (bands_in d.session.now ≤ vec_capacity d.bands) × IsOfGame d.session.now d.turn };
 }
 
 // The first place of a band further down.
-fn place_after(bands: &Vec<BandOut>, number: u32) -> Option<usize>
+fn place_after(bands: &Vec<BandMark>, number: u32) -> Option<usize>
     ensures { result ≡ position (λ x. nat_lt number x.number) bands.now.items }
 {
     bands.iter().position(|other| other.number() > number)
@@ -66,14 +64,13 @@ impl<'t> Drawn<'t> {
         self.turn = Some(turn);
     }
 
-    /// Keeps a band at its place.
-    pub(crate) fn keep(&mut self, band: BandOut<'t>)
-        requires game { band.game ≡ self.old.game }
-        requires room { length self.old.drawn.bands < bands_in self.old.game }
-        ensures { self.new ≡ record self.old { drawn = with_band (part_name band.entry) self.old.drawn } }
+    /// Keeps the mark of a band at its place.
+    pub(crate) fn keep(&mut self, mark: BandMark<'t>)
+        requires { length self.old.drawn.bands < bands_in self.old.game }
+        ensures { self.new ≡ record self.old { drawn = with_band (part_name mark.entry) self.old.drawn } }
     {
-        let at = place_after(&self.bands, band.number()).unwrap_or(self.bands.len());
-        let Ok(()) = self.bands.insert(at, band) else {
+        let at = place_after(&self.bands, mark.number()).unwrap_or(self.bands.len());
+        let Ok(()) = self.bands.insert(at, mark) else {
             unreachable!()
         };
     }
@@ -95,18 +92,14 @@ impl<'t> Drawn<'t> {
         }
     }
 
-    /// The frame to show, with its turn and all its bands.
+    /// The frame to show.
     pub(crate) fn into_shown(self, frame: u32) -> Shown<'t>
         requires { self.drawn ≡ turned frame (parts frame (bands_in self.game)) }
         ensures { result ≡ frame_of self.entry.game frame }
     {
-        let Drawn {
-            session: _,
-            turn,
-            bands,
-        } = self;
+        let Drawn { turn, .. } = self;
         match turn {
-            Some(turn) => Shown { turn, bands },
+            Some(turn) => Shown { turn },
             None => unreachable!(),
         }
     }

@@ -18,7 +18,7 @@ use super::drawn::Drawn;
 use super::shown::Shown;
 use super::thoughts::Thoughts;
 use frame_params::{
-    BandOut, FrameParams, LogicTask, Parked, PathTask, Slots, Task, ThinkTask, Turn, Way,
+    BandMark, FrameParams, LogicTask, Parked, PathTask, Slots, Task, ThinkTask, Turn, Way,
 };
 use job_core::names::JobName;
 use level_text::Session;
@@ -215,7 +215,7 @@ impl<'t> Shelf<'t> {
                 self.learn(alloc, &way);
                 self.answer(way);
             }
-            Done::Drawn(band) => self.band(band),
+            Done::Drawn(mark) => self.mark(mark),
         }
     }
 
@@ -247,13 +247,12 @@ impl<'t> Shelf<'t> {
         self.asking[agent as usize].answer(way);
     }
 
-    fn band(&mut self, band: BandOut<'t>)
-        requires game { band.game ≡ self.old.game }
-        requires room { IsSomeAnd (slice_get self.old.stored.drawn (band.frame % length self.old.stored.slots)) (λ d. length d.bands < bands_in self.old.game) }
-        ensures { (st : State) (w : ℕ) → Stores self.old self.new st (Finish w (Draw band.entry.frame band.entry.number)) }
+    fn mark(&mut self, mark: BandMark<'t>)
+        requires { IsSomeAnd (slice_get self.old.stored.drawn (mark.frame % length self.old.stored.slots)) (λ d. length d.bands < bands_in self.old.game) }
+        ensures { (st : State) (w : ℕ) → Stores self.old self.new st (Finish w (Draw mark.entry.frame mark.entry.number)) }
     {
-        let at = band.frame() as usize % self.drawn.len();
-        self.drawn[at].keep(band);
+        let at = mark.frame() as usize % self.drawn.len();
+        self.drawn[at].keep(mark);
     }
 
     /// Takes out a frame that is shown; nothing stands in its place.

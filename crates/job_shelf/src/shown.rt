@@ -1,33 +1,28 @@
-ghost use Rattle.std.specs.Prelude.{◌≡◌};
+ghost use Rattle.std.specs.Prelude.{◌≡◌, length};
 
 use bt_nodes::Status;
-use frame_params::{BandOut, Turn};
-use grid_world::World;
+use frame_params::Turn;
+use grid_world::{Signals, World};
 use std::marker::Model;
 
-/// A frame that is shown: the world after it, the answers of the agents' ticks, and all its bands.
+/// A frame that is shown: the world after it, its signals, and the answers of the agents' ticks.
 #[derive(Drop)]
 pub struct Shown<'t> {
     pub(crate) turn: Turn<'t>,
-    pub(crate) bands: Vec<BandOut<'t>>,
 }
 
 impl<'t> Model for Shown<'t> {
     ghost use Rattle.frame_params.specs.Names.{FrameOf, frame_code};
-    ghost use Rattle.job_shelf.specs.Parts.{AreAllBands};
 
     ghost Value = { FrameOf };
 
     ghost coded = { frame_code };
 
     ghost view = { λ s. s.turn };
-
-    ghost invariant = { λ s. AreAllBands s.turn s.bands.items };
 }
 
 impl<'t> Shown<'t> {
-    ghost use Rattle.frame_params.specs.Contents.{world_after, statuses_in};
-    ghost use Rattle.job_shelf.specs.Parts.{AreAllBands};
+    ghost use Rattle.frame_params.specs.Contents.{signals_in, world_after, statuses_in, bands_in};
 
     pub fn frame(&self) -> u32
         ensures { result ≡ self.now.frame }
@@ -35,32 +30,39 @@ impl<'t> Shown<'t> {
         self.turn.frame()
     }
 
+    /// The signals of the frame.
+    pub fn signals(&self) -> Signals
+        ensures { result ≡ signals_in self.now.game self.now.frame }
+    {
+        self.turn.session().script().signals(self.turn.frame())
+    }
+
     /// The world after the frame.
     pub fn world(&self) -> &World
-        ensures { result.now ≡ world_after self.now.game self.now.frame }
+        ensures value { result.now ≡ world_after self.now.game self.now.frame }
+        ensures agents { length result.now.agents ≡ length self.now.game.trees }
     {
         self.turn.world()
     }
 
+    /// How many bands the frame has.
+    pub fn band_count(&self) -> u32
+        ensures { result ≡ bands_in self.now.game }
+    {
+        self.turn.bands()
+    }
+
     /// The answer of each agent's tick, by agent number.
     pub fn statuses(&self) -> &[Status]
-        ensures { result.now ≡ statuses_in self.now.game self.now.frame }
+        ensures value { result.now ≡ statuses_in self.now.game self.now.frame }
+        ensures agents { length result.now ≡ length self.now.game.trees }
     {
         self.turn.statuses()
     }
 
-    /// All bands of the frame, from the top.
-    pub fn bands(&self) -> &[BandOut<'t>]
-        ensures { AreAllBands self.now result.now }
+    pub fn into_turn(self) -> Turn<'t>
+        ensures { result ≡ self.entry }
     {
-        &self.bands
-    }
-
-    /// The turn of the frame, and all its bands from the top.
-    pub fn into_parts(self) -> (Turn<'t>, Vec<BandOut<'t>>)
-        ensures turn { result.0 ≡ self.entry }
-        ensures bands { AreAllBands self.entry result.1.items }
-    {
-        (self.turn, self.bands)
+        self.turn
     }
 }

@@ -1,9 +1,9 @@
 // What no clause says: a call of the board that is refused for memory answers, once it is called again, as it should.
 //
-// No growth is refused where this is run as it is. `rt try refusals --test --fail-alloc 1..` refuses each in turn.
+// No growth is refused where this is run as it is; `scripts/refused_growths` refuses each in turn.
 use crate::game::{Game, session_of, settings_of};
 use bumpalo::Bump;
-use frame_params::{LogicStep, Parked, Step, Task, ThinkStep};
+use frame_params::{BoardStep, LogicStep, Parked, Step, Task, ThinkStep};
 use job_board::{Board, BoardFault, Done, Event, Refused, Settings};
 use level_text::Session;
 use replay_log::replay;
@@ -100,14 +100,18 @@ fn begin(board: &mut Board, worker: u32) -> Result<(), Fail> {
     }
 }
 
-fn hand_in<'t>(board: &mut Board<'t>, worker: u32, step: Step<'t>) -> Result<(), Fail> {
+fn hand_in<'t>(board: &mut Board<'t>, worker: u32, step: BoardStep<'t>) -> Result<(), Fail> {
     match step {
-        Step::Logic(LogicStep::Begins) => begin(board, worker),
-        Step::Logic(LogicStep::Turned(turn)) => finish(board, worker, Done::Turned(turn)),
-        Step::Think(ThinkStep::Ended(thought)) => finish(board, worker, Done::Thought(thought)),
-        Step::Think(ThinkStep::Asks(parked)) => ask(board, worker, parked),
-        Step::Path(way) => finish(board, worker, Done::Way(way)),
-        Step::Draw(band) => finish(board, worker, Done::Drawn(band)),
+        BoardStep::Logic(LogicStep::Begins) => begin(board, worker),
+        BoardStep::Logic(LogicStep::Turned(turn)) => finish(board, worker, Done::Turned(turn)),
+        BoardStep::Think(ThinkStep::Ended(thought)) => finish(
+            board,
+            worker,
+            Done::Thought(thought),
+        ),
+        BoardStep::Think(ThinkStep::Asks(parked)) => ask(board, worker, parked),
+        BoardStep::Path(way) => finish(board, worker, Done::Way(way)),
+        BoardStep::Draw(mark) => finish(board, worker, Done::Drawn(mark)),
     }
 }
 
@@ -137,7 +141,8 @@ fn play(alloc: Global, board: &mut Board, arena: &mut Option<Bump>) -> Result<()
             Some(step) => step,
             None => work(alloc, arena, &task).ok_or("work")?,
         };
-        hand_in(board, 0, step)?;
+        let (told, _band) = step.deliver();
+        hand_in(board, 0, told)?;
         if let Some(arena) = arena {
             arena.reset().map_err(|_| "reset")?;
         }

@@ -1,3 +1,3 @@
 mod Counting
-pub mod Stepping
+mod Stepping
 pub mod Sends

@@ -1,14 +1,10 @@
--- The jobs of a run, of which game a worker's step is, and what it does to a board.
+-- The jobs of a run, and what a worker does to a board.
 use Rattle.std.specs.Prelude.{◌≡◌, true}
 use Rattle.game_rules.specs.Game.{Game}
 use Rattle.job_core.specs.declared.names.Event.{Event}
 use Rattle.job_core.specs.Core.{Setup}
 use Rattle.game_jobs.specs.Instance.{setup}
 use Rattle.frame_params.specs.Contents.{bands_in}
-use Rattle.frame_params.specs.declared.step.Step.{Step}
-use Rattle.frame_params.specs.declared.step.Step.TheVariants.{Logic, Think, Path, Draw}
-use Rattle.frame_params.specs.declared.logic_step.LogicStep.TheVariants.{Begins, Turned}
-use Rattle.frame_params.specs.declared.think_step.ThinkStep.TheVariants.{Ended, Asks}
 use Rattle.job_machine.specs.Numbers.{Numbers}
 use Rattle.job_board.specs.Boards.{Played, Happens}
 use Rattle.shared_board.specs.Counts.{names_worker}
@@ -16,15 +12,6 @@ use Rattle.shared_board.specs.Counts.{names_worker}
 -- the jobs of a game's frames under these numbers
 abbrev pub setup_for : Game → Numbers → Setup
 setup_for g n = setup g n.frames (bands_in g) n.workers n.fibers n.slots
-
--- what a step holds is of this game
-abbrev pub IsStepIn : Game → Step → Type 0
-IsStepIn g (Logic Begins) = Unit {0}
-IsStepIn g (Logic (Turned turn)) = turn.game ≡ g
-IsStepIn g (Think (Ended thought)) = thought.game ≡ g
-IsStepIn g (Think (Asks parked)) = parked.game ≡ g
-IsStepIn g (Path way) = way.game ≡ g
-IsStepIn g (Draw band) = band.game ≡ g
 
 -- an event happened that names a worker
 abbrev pub IsByWorker : (old new : Played) → Type 0

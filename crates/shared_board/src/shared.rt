@@ -3,12 +3,13 @@ ghost use Rattle.std.specs.Coded.{Coded-set, coded_option};
 ghost use Rattle.level_text.specs.GameCode.{game_code};
 ghost use Rattle.job_core.specs.Core.{IsComplete};
 ghost use Rattle.frame_params.specs.Tasks.{game_of};
+ghost use Rattle.frame_params.specs.BoardSteps.{IsToldIn};
 ghost use Rattle.shared_board.specs.Counts.{names_worker, is_emit};
-ghost use Rattle.shared_board.specs.Runs.{setup_for, IsStepIn};
+ghost use Rattle.shared_board.specs.Runs.{setup_for};
 
 use crate::handing::hand_in;
 use crate::run_ledger::RunLedger;
-use frame_params::{Step, Task};
+use frame_params::{BoardStep, Task};
 use job_board::{Board, BoardFault, Event, Settings, Shown};
 use level_text::Session;
 use std::sync::ledger::{Book, Ledger, Share};
@@ -70,11 +71,11 @@ impl<'t, L: RunLedger, M: Ledger> SharedBoard<'t, L, M> {
         &mut self,
         worker: u32,
         session: &Session,
-        step: Step<'t>,
+        step: BoardStep<'t>,
         mine: &mut Share<L>,
     ) -> Result<(), BoardFault>
         requires run { L.game ≡ Some session.now }
-        requires own { IsStepIn session.now step }
+        requires own { IsToldIn session.now step }
         requires part { 0 < mine.old.parts }
         ensures parts { mine.new.parts ≡ mine.old.parts }
         ensures counted { MatchResult result (λ _. mine.new.amount ≡ mine.old.amount + 1) (λ _. mine.new.amount ≡ mine.old.amount) }
@@ -95,11 +96,11 @@ impl<'t, L: RunLedger, M: Ledger> SharedBoard<'t, L, M> {
         &mut self,
         worker: u32,
         session: &Session,
-        step: Step<'t>,
+        step: BoardStep<'t>,
         mine: &mut Share<L>,
     ) -> Result<Option<Task<'t>>, BoardFault>
         requires run { L.game ≡ Some session.now }
-        requires own { IsStepIn session.now step }
+        requires own { IsToldIn session.now step }
         requires part { 0 < mine.old.parts }
         ensures parts { mine.new.parts ≡ mine.old.parts }
         ensures counted { MatchResult result

@@ -1,5 +1,4 @@
 use Rattle.std.proofs.Common.{◌∙◌, ap, sym, subst, List, ℕ}
-use Rattle.std.specs.Arc.{arc_value}
 use Rattle.grid_world.specs.Grid.{Grid}
 use Rattle.grid_world.specs.Way.{way}
 use Rattle.grid_world.specs.World.{point}

@@ -1,6 +1,6 @@
-use Rattle.std.proofs.Common.{◌≡◌, ◌∙◌, ap, sym, subst, true, Option}
+use Rattle.std.proofs.Common.{◌≡◌, ◌∙◌, ap, sym, subst, Option}
 use Rattle.std.specs.Arc.{arc_value}
-use Rattle.grid_world.specs.Grid.{Grid, Point, agent_of, is_on_map, point_of}
+use Rattle.grid_world.specs.Grid.{Grid, agent_of, is_on_map, point_of}
 use Rattle.grid_world.specs.World.{point}
 use Rattle.game_rules.specs.View.{cell_of}
 use Rattle.game_jobs.specs.Instance.{view}

@@ -13,4 +13,4 @@ pub returns-in-Way : goal.returns-in-Way
 returns-in-Way c = λ st w. rw c.in-Way.is (rw c.learn.ensures at (c.answer.ensures st w))
 
 pub returns-in-Drawn : goal.returns-in-Drawn
-returns-in-Drawn c = λ st w. rw c.in-Drawn.is (c.band.ensures st w)
+returns-in-Drawn c = λ st w. rw c.in-Drawn.is (c.mark.ensures st w)
