@@ -1,29 +1,32 @@
-use grid_world::Signal;
-use level_text::{Script, Session, read_level, read_script};
+use crate::sessions::session_of;
+use grid_world::{Signal, Signals};
+use level_text::{Script, Session, read_script};
 use std::alloc::Global;
 use std::process::Abort;
 use std::test::Fail;
 
-fn asserts_signals(rt: &impl Abort, script: &Script, a: Signal, b: Signal) {
-    for (frame, on) in [
-        (0, false),
-        (1, true),
-        (2, true),
-        (3, false),
-        (4, false),
-        (u32::MAX, false),
-    ] {
-        assert!(rt; script.signals(frame).is_on(a) == on, "in frame {frame}");
-        assert!(rt; !script.signals(frame).is_on(b), "in frame {frame}");
-    }
+// The signals of a frame of a script.
+fn signals_of(alloc: Global, script: &[u8], frame: u32) -> Option<Signals> {
+    Some(read_script(alloc, script).ok()?.signals(frame))
 }
 
 #[test]
 fn signals_change_in_their_frames(rt: HostRuntime) -> Result<(), Fail> {
-    let a = Signal::new(0).ok_or("a letter")?;
-    let b = Signal::new(1).ok_or("a letter")?;
-    asserts_signals(&rt, &read_script(rt.alloc(), b"1 on a\n3 off a\n")?, a, b);
-    assert!(rt; !Script::empty(rt.alloc()).signals(1).is_on(a));
+    let off = Signals::off();
+    let mut only_a = off;
+    only_a.set(Signal::new(0).ok_or("a letter")?, true);
+    for (frame, signals) in [
+        (0, off),
+        (1, only_a),
+        (2, only_a),
+        (3, off),
+        (4, off),
+        (u32::MAX, off),
+    ] {
+        let found = signals_of(rt.alloc(), b"1 on a\n3 off a\n", frame);
+        assert!(rt; found == Some(signals), "in frame {frame}");
+    }
+    assert!(rt; Script::empty(rt.alloc()).signals(1) == off);
     Ok(())
 }
 
@@ -57,11 +60,8 @@ fn asserts_parts(rt: &impl Abort, session: &Session) {
 
 #[test]
 fn a_session_gives_its_parts(rt: HostRuntime) -> Result<(), Fail> {
-    let level = read_level(
-        rt.alloc(),
-        br#"{"map":["Aa"],"agents":["t"],"trees":{"t":["not",["carrying"]]}}"#,
-    )?;
-    let script = read_script(rt.alloc(), b"1 on a\n3 off a\n")?;
-    asserts_parts(&rt, &Session::new(level, script));
+    let level = r#"{"map":["Aa"],"agents":["t"],"trees":{"t":["not",["carrying"]]}}"#;
+    let session = session_of(rt.alloc(), level, b"1 on a\n3 off a\n").ok_or("refused")?;
+    asserts_parts(&rt, &session);
     Ok(())
 }

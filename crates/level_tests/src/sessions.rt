@@ -1,7 +1,8 @@
 use level_text::{Session, read_level, read_script};
 use std::alloc::Global;
 
-fn session(alloc: Global, level: &str, script: &[u8]) -> Option<Session> {
+/// The session of a level and a script.
+pub fn session_of(alloc: Global, level: &str, script: &[u8]) -> Option<Session> {
     let level = read_level(alloc, level.as_bytes()).ok()?;
     let script = read_script(alloc, script).ok()?;
     Some(Session::new(level, script))
@@ -11,8 +12,8 @@ const GAME: &str = "{\"map\":[\"A.0\"],\"agents\":[\"t\"],\"trees\":{\"t\":[\"mo
 
 // Whether the game whose signal changes in its second frame is this one, and is itself.
 fn is_game(alloc: Global, level: &str, script: &[u8]) -> Option<bool> {
-    let game = session(alloc, GAME, b"2 on a\n")?;
-    let other = session(alloc, level, script)?;
+    let game = session_of(alloc, GAME, b"2 on a\n")?;
+    let other = session_of(alloc, level, script)?;
     Some(game.is_same(&game) && game.is_same(&other))
 }
 

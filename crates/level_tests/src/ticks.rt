@@ -1,14 +1,8 @@
-use bt_nodes::{Node, Status, Tree};
+use bt_nodes::{Status, Tree};
 use bt_tick::{Memory, Outcome, Pending, View, begin, resume};
-use grid_world::{Answer, Dir, Intent, Place, Signal, Signals, World};
-use std::alloc::{AllocError, Global};
-use std::test::Fail;
-
-fn world_of(alloc: Global, row: &str) -> Option<World> {
-    let mut rows = Vec::new(alloc);
-    rows.push(String::from_str(alloc, row).ok()?).ok()?;
-    World::from_rows(alloc, &rows).ok()
-}
+use grid_world::{Answer, Dir, Intent, Signals, World};
+use level_text::read_level;
+use std::alloc::Global;
 
 // What a tick comes to by the answer to its question for the way to place 0.
 fn answered<'t>(
@@ -87,19 +81,18 @@ struct Ticked<'a> {
     numbers: &'a [u64],
 }
 
-// How many of these ticks, one after another from a memory of zeros, come to what they should before the first that doesn't.
-fn right_ticks(
-    alloc: Global,
-    root: Node<Global>,
-    row: &str,
-    copied: bool,
-    ticks: &[Ticked<'_>],
-) -> Option<usize> {
-    let tree = Tree::new(root).ok()?;
-    let world = world_of(alloc, row)?;
-    let mut memory = Memory::zero(alloc, &tree).ok()?;
+// How many of these ticks of a level's first agent, one after another from a memory of zeros, come to what they should
+// before the first that doesn't.
+fn right_ticks(alloc: Global, level: &str, copied: bool, ticks: &[Ticked<'_>]) -> Option<usize> {
+    let level = read_level(alloc, level.as_bytes()).ok()?;
+    let world = level.world();
+    if world.agents().is_empty() {
+        return None;
+    }
+    let tree = level.tree_of(0);
+    let mut memory = Memory::zero(alloc, tree).ok()?;
     for (index, tick) in ticks.iter().enumerate() {
-        let (status, intent, next) = whole(alloc, &tree, &world, memory, tick.answers, copied)?;
+        let (status, intent, next) = whole(alloc, tree, world, memory, tick.answers, copied)?;
         if (status, intent) != (tick.status, tick.intent) || !has_numbers(&next, tick.numbers) {
             return Some(index);
         }
@@ -108,12 +101,18 @@ fn right_ticks(
     Some(ticks.len())
 }
 
-// Whether a memory of zeros, and a copy of it, has these numbers.
-fn zeros_are(alloc: Global, root: Node<Global>, numbers: &[u64]) -> Option<bool> {
-    let memory = Memory::zero(alloc, &Tree::new(root).ok()?).ok()?;
+// Whether the memory of zeros of a level's first agent, and a copy of it, has these numbers.
+fn zeros_are(alloc: Global, level: &str, numbers: &[u64]) -> Option<bool> {
+    let level = read_level(alloc, level.as_bytes()).ok()?;
+    if level.world().agents().is_empty() {
+        return None;
+    }
+    let memory = Memory::zero(alloc, level.tree_of(0)).ok()?;
     let copy = memory.copy(alloc).ok()?;
     Some(has_numbers(&memory, numbers) && has_numbers(&copy, numbers))
 }
+
+const WAIT: &str = r#"{"map":["A"],"agents":["t"],"trees":{"t":["wait",1]}}"#;
 
 #[test]
 fn a_wait_counts_its_ticks(rt: HostRuntime) {
@@ -129,14 +128,15 @@ fn a_wait_counts_its_ticks(rt: HostRuntime) {
         intent: Intent::Stay,
         numbers: &[0],
     };
-    assert!(rt; zeros_are(rt.alloc(), Node::Wait(1), &[0]) == Some(true));
-    let right = right_ticks(rt.alloc(), Node::Wait(1), "A", false, &[running, over]);
+    assert!(rt; zeros_are(rt.alloc(), WAIT, &[0]) == Some(true));
+    let right = right_ticks(rt.alloc(), WAIT, false, &[running, over]);
     assert!(rt; right == Some(2), "{right:?}");
 }
 
+const MOVE: &str = r#"{"map":["A.0"],"agents":["t"],"trees":{"t":["move","0"]}}"#;
+
 #[test]
-fn a_move_takes_its_answer(rt: HostRuntime) -> Result<(), Fail> {
-    let place = Place::new(0).ok_or("no such place")?;
+fn a_move_takes_its_answer(rt: HostRuntime) {
     for (answer, status, intent) in [
         (
             Answer::Step(Dir::East, 2),
@@ -152,40 +152,14 @@ fn a_move_takes_its_answer(rt: HostRuntime) -> Result<(), Fail> {
             intent,
             numbers: &[0],
         };
-        let right = right_ticks(rt.alloc(), Node::Move(place), "A.0", true, &[moved]);
+        let right = right_ticks(rt.alloc(), MOVE, true, &[moved]);
         assert!(rt; right == Some(1), "{answer:?}");
     }
-    Ok(())
-}
-
-fn in_box(alloc: Global, node: Node<Global>) -> Result<Box<Node<Global>>, AllocError> {
-    Ok(Box::new(alloc, node)?)
-}
-
-fn pair(
-    alloc: Global,
-    first: Node<Global>,
-    second: Node<Global>,
-) -> Result<Vec<Node<Global>>, AllocError> {
-    Ok(vec![in alloc; first, second]?)
 }
 
 /// A tree with a node of each kind.
-fn of_each_kind(alloc: Global, place: Place, letter: Signal) -> Result<Node<Global>, AllocError> {
-    let nodes = vec![in alloc;
-        Node::Seq(pair(alloc, Node::Move(place), Node::Carrying)?),
-        Node::Fallback(pair(alloc, Node::Carrying, Node::Move(place))?),
-        Node::SeqStar(pair(alloc, Node::Move(place), Node::Wait(1))?),
-        Node::FallbackStar(pair(alloc, Node::Move(place), Node::Take)?),
-        Node::Not(in_box(alloc, Node::Item)?),
-        Node::Tries(1, in_box(alloc, Node::Drop)?),
-        Node::Ticks(2, in_box(alloc, Node::Wait(2))?),
-        Node::At(place),
-        Node::Signal(letter),
-        Node::Near(3),
-    ]?;
-    Ok(Node::Par(1, nodes))
-}
+const EACH_KIND: &str =
+    r#"{"map":["A.0"],"agents":["t"],"trees":{"t":["par",1,["seq",["move","0"],["carrying"]],["fallback",["carrying"],["move","0"]],["seq*",["move","0"],["wait",1]],["fallback*",["move","0"],["take"]],["not",["item"]],["tries",1,["drop"]],["ticks",2,["wait",2]],["at","0"],["signal","a"],["near",3]]}}"#;
 
 const CUT: [Ticked<'static>; 2] = [
     Ticked {
@@ -212,34 +186,17 @@ const CUT: [Ticked<'static>; 2] = [
 ];
 
 #[test]
-fn cut_ticks_are_those_that_are_not_cut(rt: HostRuntime) -> Result<(), Fail> {
-    let (Some(place), Some(letter)) = (Place::new(0), Signal::new(0)) else {
-        return Err(Fail::from("no such place or signal"));
-    };
+fn cut_ticks_are_those_that_are_not_cut(rt: HostRuntime) {
     for copied in [false, true] {
-        let root = of_each_kind(rt.alloc(), place, letter)?;
-        let right = right_ticks(rt.alloc(), root, "A.0", copied, &CUT);
+        let right = right_ticks(rt.alloc(), EACH_KIND, copied, &CUT);
         assert!(rt; right == Some(2), "copied {copied}: {right:?}");
     }
-    Ok(())
 }
 
 /// A tree whose ticks pass over nodes: behind a child that fails, before the child at which a `SeqStar` stands, and below
 /// a `Tries` and a `Ticks` whose number is reached.
-fn passing(alloc: Global) -> Result<Node<Global>, AllocError> {
-    let deep = Node::Seq(pair(alloc, Node::Carrying, Node::Carrying)?);
-    let first = Node::Not(in_box(alloc, Node::Carrying)?);
-    let tried = Node::Seq(pair(alloc, Node::Carrying, Node::Carrying)?);
-    let timed = Node::Not(in_box(alloc, Node::Wait(5))?);
-    let nodes = vec![in alloc;
-        Node::Seq(pair(alloc, Node::Carrying, deep)?),
-        Node::SeqStar(pair(alloc, first, Node::Wait(5))?),
-        Node::Tries(1, in_box(alloc, tried)?),
-        Node::Ticks(1, in_box(alloc, timed)?),
-        Node::Wait(7),
-    ]?;
-    Ok(Node::Par(1, nodes))
-}
+const PASSING: &str =
+    r#"{"map":["A"],"agents":["t"],"trees":{"t":["par",1,["seq",["carrying"],["seq",["carrying"],["carrying"]]],["seq*",["not",["carrying"]],["wait",5]],["tries",1,["seq",["carrying"],["carrying"]]],["ticks",1,["not",["wait",5]]],["wait",7]]}}"#;
 
 const PASSED: [Ticked<'static>; 2] = [
     Ticked {
@@ -257,8 +214,7 @@ const PASSED: [Ticked<'static>; 2] = [
 ];
 
 #[test]
-fn nodes_that_are_passed_over_are_counted(rt: HostRuntime) -> Result<(), Fail> {
-    let right = right_ticks(rt.alloc(), passing(rt.alloc())?, "A", false, &PASSED);
+fn nodes_that_are_passed_over_are_counted(rt: HostRuntime) {
+    let right = right_ticks(rt.alloc(), PASSING, false, &PASSED);
     assert!(rt; right == Some(2), "{right:?}");
-    Ok(())
 }
