@@ -4,4 +4,6 @@
 #[cfg(test)]
 mod games;
 #[cfg(test)]
+mod sessions;
+#[cfg(test)]
 mod walk;
