@@ -114,25 +114,32 @@ fn sizes_and_depths_of_nodes(rt: HostRuntime) -> Result<(), Fail> {
     Ok(())
 }
 
-// Whether a `seq` of a wait and a take is this node.
-fn is_wait_and_take(alloc: Global, other: &Node<Global>) -> Option<bool> {
-    Some(pair(alloc, Node::Wait(1), Node::Take).ok()?.is_same(other))
+// Whether a `seq` of a wait and a take is one of these two nodes.
+fn is_wait_and_take(alloc: Global, first: Node<Global>, second: Node<Global>) -> Option<bool> {
+    let one = pair(alloc, Node::Wait(1), Node::Take).ok()?;
+    Some(one.is_same(&pair(alloc, first, second).ok()?))
 }
 
-fn differs(alloc: Global, first: Node<Global>, second: Node<Global>) -> Option<bool> {
-    is_wait_and_take(alloc, &pair(alloc, first, second).ok()?)
+// Whether a list of one node is.
+fn is_list_of_one(alloc: Global) -> Option<bool> {
+    let one = pair(alloc, Node::Wait(1), Node::Take).ok()?;
+    Some(one.is_same(&Node::Seq(list(alloc, 1).ok()?)))
+}
+
+fn is_nested_alike(alloc: Global, inversions: u64, others: u64) -> Option<bool> {
+    let one = nested(alloc, inversions).ok()?;
+    Some(one.is_same(&nested(alloc, others).ok()?))
 }
 
 #[test]
-fn trees_differ_in_kind_number_and_order(rt: HostRuntime) -> Result<(), Fail> {
+fn trees_differ_in_kind_number_and_order(rt: HostRuntime) {
     let alloc = rt.alloc();
-    assert!(rt; differs(alloc, Node::Wait(1), Node::Take) == Some(true));
-    assert!(rt; differs(alloc, Node::Take, Node::Wait(1)) == Some(false));
-    assert!(rt; differs(alloc, Node::Wait(2), Node::Take) == Some(false));
-    assert!(rt; differs(alloc, Node::Wait(1), Node::Drop) == Some(false));
-    assert!(rt; is_wait_and_take(alloc, &Node::Seq(list(alloc, 1)?)) == Some(false));
-    assert!(rt; !nested(alloc, 2)?.is_same(&nested(alloc, 3)?));
-    Ok(())
+    assert!(rt; is_wait_and_take(alloc, Node::Wait(1), Node::Take) == Some(true));
+    assert!(rt; is_wait_and_take(alloc, Node::Take, Node::Wait(1)) == Some(false));
+    assert!(rt; is_wait_and_take(alloc, Node::Wait(2), Node::Take) == Some(false));
+    assert!(rt; is_wait_and_take(alloc, Node::Wait(1), Node::Drop) == Some(false));
+    assert!(rt; is_list_of_one(alloc) == Some(false));
+    assert!(rt; is_nested_alike(alloc, 2, 3) == Some(false));
 }
 
 // Whether the subtrees of a tree, in preorder, have these sizes.

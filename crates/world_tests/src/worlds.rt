@@ -131,24 +131,26 @@ fn comes_to(
     Some(first.carrying == carrying && is_drawn(alloc, &world, drawn, picture)?)
 }
 
+// A row, whether its door is open, the intents of its agents, and the picture after them.
+const APPLIED: [(&str, bool, &[Intent], &[u8]); 12] = [
+    ("A.", false, &[EAST], b".A\n"),
+    ("A#", false, &[EAST], b"A#\n"),
+    ("A", false, &[NORTH], b"A\n"),
+    ("A", false, &[SOUTH], b"A\n"),
+    ("A", false, &[EAST], b"A\n"),
+    ("A", false, &[WEST], b"A\n"),
+    ("Aa", false, &[EAST], b"Aa\n"),
+    ("Aa", true, &[EAST], b".A\n"),
+    ("AB.", false, &[EAST, EAST], b"A.B\n"),
+    ("BA.", false, &[EAST, EAST], b".BA\n"),
+    ("A.B", false, &[EAST, WEST], b".AB\n"),
+    ("A*B", false, &[Intent::Take, Intent::Drop], b"A*B\n"),
+];
+
 #[test]
 fn applies_intents_in_order(rt: HostRuntime) {
-    let off = Signals::off();
-    let cases: [(&str, Signals, &[Intent], &[u8]); 12] = [
-        ("A.", off, &[EAST], b".A\n"),
-        ("A#", off, &[EAST], b"A#\n"),
-        ("A", off, &[NORTH], b"A\n"),
-        ("A", off, &[SOUTH], b"A\n"),
-        ("A", off, &[EAST], b"A\n"),
-        ("A", off, &[WEST], b"A\n"),
-        ("Aa", off, &[EAST], b"Aa\n"),
-        ("Aa", only(0), &[EAST], b".A\n"),
-        ("AB.", off, &[EAST, EAST], b"A.B\n"),
-        ("BA.", off, &[EAST, EAST], b".BA\n"),
-        ("A.B", off, &[EAST, WEST], b".AB\n"),
-        ("A*B", off, &[Intent::Take, Intent::Drop], b"A*B\n"),
-    ];
-    for (row, signals, intents, after) in cases {
+    for (row, open, intents, after) in APPLIED {
+        let signals = if open { only(0) } else { Signals::off() };
         let found = comes_to(rt.alloc(), row, signals, &[intents], signals, after, false);
         assert!(rt; found == Some(true), "after {row}");
     }
