@@ -2,7 +2,6 @@
 use denote.Ref.{NamedLft}
 use denote.Param.Send.{IsSend, sendable}
 use Rattle.std.proofs.Crossing.{crosses}
-use Rattle.job_core.specs.contracts.names.JobName as JobName
 use Rattle.job_log.proofs.jobs.JobLog.TheSendSync.{the_send as job_log}
 use Rattle.frame_params.proofs.Crossing.{session, way, thought, turn, band_mark, parked}
 use Rattle.job_shelf.specs.contracts.done.Done as Done

@@ -15,7 +15,11 @@ impl<'t> Board<'t> {
     /// Hands in what a worker's task came to: a frame that begins is spread, or held where it has no slot; a Think that
     /// has a question asks it; every other job is over. The step is of the board's own game, as what comes of a task is
     /// that `take` gave: no sessions are compared. Of a drawn band the board gets the mark alone.
-    pub fn hand_in(&mut self, worker: u32, step: BoardStep<'t>) -> Result<(), Refused<BoardStep<'t>>>
+    pub fn hand_in(
+        &mut self,
+        worker: u32,
+        step: BoardStep<'t>,
+    ) -> Result<(), Refused<BoardStep<'t>>>
         requires { IsToldIn self.old.run.game step }
         ensures ok { OnOk result (IsHandedIn self.old.run self.new.run worker step.entry) }
         ensures worked { OnOk result (self.new.worked ≡ slice_set self.old.worked worker false) }

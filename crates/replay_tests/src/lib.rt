@@ -4,4 +4,8 @@
 #[cfg(test)]
 mod games;
 #[cfg(test)]
+mod refusals;
+#[cfg(test)]
+mod sessions;
+#[cfg(test)]
 mod walk;

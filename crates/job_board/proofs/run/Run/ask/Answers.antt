@@ -1,4 +1,4 @@
-use Rattle.std.proofs.Common.{◌≡◌, Ok, Err, ap, ◌∙◌, inr, sym, subst}
+use Rattle.std.proofs.Common.{Ok, Err, ap, ◌∙◌, inr, sym, subst}
 use Rattle.job_core.specs.declared.names.Event.TheVariants.{Ask}
 use Rattle.job_log.specs.Looks.{IsRunning}
 use Rattle.job_log.specs.declared.fault.BoardFault.TheVariants.{WrongResult}

@@ -1,4 +1,4 @@
-use Rattle.std.proofs.Common.{◌≡◌, ◌<◌, ℕ, true, false, not, Option, Some, None, option_map, sym, ◌∙◌, arith}
+use Rattle.std.proofs.Common.{◌≡◌, ◌<◌, true, false, not, Some, None, sym, ◌∙◌, arith}
 use Rattle.board_law.specs.Lists.{tally}
 use Rattle.board_law.specs.Pick.{pick}
 use Rattle.job_queues.specs.Names.{picked}
