@@ -15,6 +15,32 @@ use std::sync::Wait;
 use std::sync::ledger::{Ledger, Share};
 use std::thread::{Scope, Threads};
 
+/// A worker's place in a hall.
+#[derive(Drop)]
+pub struct Post<'h, 't, L: RunLedger, M: Ledger> {
+    pub hall: &'h Hall<'t, L, M>,
+    pub putter: Putter<RunBand<'t, L>>,
+}
+
+// A worker's thread.
+fn work_at<'h, 't, L: RunLedger, M: Ledger, G: Gate, R: Wait>(
+    rt: &R,
+    alloc: Global,
+    session: &Session,
+    post: Post<'h, 't, L, M>,
+    gate: &G,
+    worker: u32,
+    share: Share<L>,
+) -> Worked<'t, L>
+    requires run { L.game ≡ Some session.now }
+    requires part { share.parts ≡ 1 }
+    requires putter { IsPutterOf post.hall.now.mail post.putter }
+    ensures { IsPutterOf post.entry.hall.now.mail result.putter × (result.putter.worker ≡ post.entry.putter.worker) }
+{
+    let Post { hall, putter } = post;
+    work(rt, alloc, session, hall, gate, worker, share, putter)
+}
+
 /// Starts a thread for each Putter, the last worker's first. False, with the board stopped, where one could not be started.
 #[tactic(auto, using(crate::proofs::Leaving::hall_lent, crate::proofs::Leaving::session_sync))]
 pub fn hire<'s, 't, E, L, M, G, R>(
@@ -46,12 +72,13 @@ where
     while let Some(putter) = putters.pop() {
         let worker = putters.len() as u32;
         let share = all.split_off(1, 0);
+        let post = Post { hall, putter };
         let job = move || -> Worked<L>
             requires run { L.game ≡ Some session.now }
             requires part { share.parts ≡ 1 }
-            requires putter { IsPutterOf hall.now.mail putter }
-            ensures { IsPutterOf hall.entry.now.mail result.putter × (result.putter.worker ≡ putter.entry.worker) }
-        { work(rt, alloc, session, hall, gate, worker, share, putter) };
+            requires putter { IsPutterOf post.hall.now.mail post.putter }
+            ensures { IsPutterOf post.entry.hall.now.mail result.putter × (result.putter.worker ≡ post.entry.putter.worker) }
+        { work_at(rt, alloc, session, post, gate, worker, share) };
         let mail = &hall.mail;
         match scope.spawn_with(SeatOf { mail, worker }, job) {
             Ok(handle) => crew.push_reserved(handle),

@@ -5,5 +5,5 @@ use Rattle.play_run.proofs.hiring.hire.Goals as goal
 
 pub spawn_with-requires-send-F : goal.spawn_with-requires-send-F
 spawn_with-requires-send-F g c κs within =
-    worker_send _ no _ _ _ _ _ _ _ g.row.L g.row.M g.row.G g.row.R g.L.RunLedger g.L.Ledger g.M.Ledger
+    worker_send _ no _ _ _ _ _ _ g.row.L g.row.M g.row.G g.row.R g.L.RunLedger g.L.Ledger g.M.Ledger
     (search (c.type_bounds.send-L, param_send)) (search (c.type_bounds.sync-G, param_sync)) (search (c.type_bounds.sync-R, param_sync))
