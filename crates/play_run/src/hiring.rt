@@ -23,7 +23,7 @@ pub struct Post<'h, 't, L: RunLedger, M: Ledger> {
 }
 
 // A worker's thread.
-fn work_at<'h, 't, L: RunLedger, M: Ledger, G: Gate, R: Wait>(
+fn work_at<'h, 't, L: RunLedger, M: Ledger, G: Gate, R: Wait + Clock>(
     rt: &R,
     alloc: Global,
     session: &Session,
