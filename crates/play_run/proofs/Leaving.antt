@@ -68,6 +68,6 @@ all_send ν A B C D E F G a b c d e f g =
 
 pub worker_send : (δ : Ty) (k : Kept) (ν : Sym) (κr κs κh κd κg : NamedLft) (L M G R : RattleType) (p : run_ledger.Ghosts L.Denot) (l : ledger.Ghosts L.Denot) (m : ledger.Ghosts M.Denot)
     → IsSend (param 1 L) → IsSync (param 3 G) → IsSync (param 4 R)
-    → IsSend (param 1 (arg δ k (TupleAt ν ((shr_ref_field κr (param 4 R) tt).row ∷ global.the_row ∷ (shr_ref_field κs session.the_row tt).row ∷ post.the_row κh κd (param 1 L) (param 2 M) p l m ∷ (shr_ref_field κg (param 3 G) tt).row ∷ u32-field.row ∷ share.the_row (param 1 L) l ∷ []))))
+    → IsSend (param 2 (arg δ k (TupleAt ν ((shr_ref_field κr (param 4 R) tt).row ∷ global.the_row ∷ (shr_ref_field κs session.the_row tt).row ∷ post.the_row κh κd (param 1 L) (param 2 M) p l m ∷ (shr_ref_field κg (param 3 G) tt).row ∷ u32-field.row ∷ share.the_row (param 1 L) l ∷ []))))
 worker_send δ k ν κr κs κh κd κg L M G R p l m sL sG sR =
-    param_send 1 _ (arg_send δ k _ (all_send ν _ _ _ _ _ _ _ (runtime_send κr R sR) alloc_send (session_send κs) (post_send κh κd L M p l m) (gate_send κg G sG) worker_number_send (share_send L l sL)))
+    param_send 2 _ (arg_send δ k _ (all_send ν _ _ _ _ _ _ _ (runtime_send κr R sR) alloc_send (session_send κs) (post_send κh κd L M p l m) (gate_send κg G sG) worker_number_send (share_send L l sL)))
