@@ -20,11 +20,7 @@ pub struct BandTable<'t, L: RunLedger> {
 
 impl<'t, L: RunLedger> BandTable<'t, L> {
     /// An empty table for so many frames of so many bands. All memory that it needs is taken here.
-    pub fn new(
-        alloc: Global,
-        frames: u32,
-        bands: u32,
-    ) -> Result<BandTable<'t, L>, AllocError> {
+    pub fn new(alloc: Global, frames: u32, bands: u32) -> Result<BandTable<'t, L>, AllocError> {
         let mut places = Vec::with_capacity(alloc, frames as usize)?;
         'frames: for _frame in 0..frames {
             places.push(FrameBands::new(alloc, bands)?)?;
