@@ -6,7 +6,7 @@ use crate::streams::{Pieces, Taker};
 use anyhow::Result;
 use commands::command;
 use std::alloc::Global;
-use std::rt::Files;
+use std::rt::{Clock, Files};
 use std::sync::Wait;
 use std::thread::Threads;
 use std::{fs, io};
@@ -137,7 +137,7 @@ fn taker(alloc: Global) -> Taker {
 }
 
 /// Whether the words that come after a run write the frames that the case has to write.
-fn repeats<H: Files + Threads + Wait + Sync>(rt: &H, alloc: Global, case: &Case) -> bool {
+fn repeats<H: Files + Threads + Wait + Clock + Sync>(rt: &H, alloc: Global, case: &Case) -> bool {
     let Some(words) = &case.then else {
         return true;
     };
@@ -148,7 +148,7 @@ fn repeats<H: Files + Threads + Wait + Sync>(rt: &H, alloc: Global, case: &Case)
     status == 0 && out.bytes.as_slice() == case.out.bytes.as_slice()
 }
 
-fn play_run<H: Files + Alloc<A = Global> + Threads + Wait + Sync>(
+fn play_run<H: Files + Alloc<A = Global> + Threads + Wait + Clock + Sync>(
     rt: &H,
     alloc: Global,
     case: &Case,
@@ -191,7 +191,7 @@ fn print_text<H: Print>(rt: &H, head: &str, bytes: &[u8]) -> io::Result<()> {
 }
 
 /// Says of a run that comes out otherwise what it gave.
-fn judge<H: Files + Alloc<A = Global> + Print + Threads + Wait + Sync>(
+fn judge<H: Files + Alloc<A = Global> + Print + Threads + Wait + Clock + Sync>(
     rt: &H,
     alloc: Global,
     case: &Case,
@@ -230,7 +230,7 @@ fn within(span: Option<Span>, at: usize) -> Option<usize> {
 }
 
 /// Plays each run of a case: each act, cut to each length, with each room.
-pub fn play_case<H: Files + Alloc<A = Global> + Print + Threads + Wait + Sync>(
+pub fn play_case<H: Files + Alloc<A = Global> + Print + Threads + Wait + Clock + Sync>(
     rt: &H,
     alloc: Global,
     case: &Case,

@@ -12,12 +12,13 @@ use job_board::Settings;
 use level_text::{Session, read_level, read_script};
 use std::alloc::Global;
 use std::io::Write;
+use std::rt::Clock;
 use std::sync::Wait;
 use std::thread::Threads;
 
 /// Plays the game that the level's and the script's bytes spell. The level is read before the script, and a fault of either
 /// is answered before anything is written.
-pub fn run_bytes<W: Write, G: Gate, R: Threads + Wait + Sync>(
+pub fn run_bytes<W: Write, G: Gate, R: Threads + Wait + Clock + Sync>(
     rt: &R,
     alloc: Global,
     level: &[u8],

@@ -1,3 +1,4 @@
+use crate::pace::Pace;
 use crate::waiters::Waiters;
 use shared_board::{RunLedger, SharedBoard};
 use std::sync::ledger::Ledger;
@@ -10,15 +11,37 @@ pub struct Hall<'t, L: RunLedger, M: Ledger> {
     pub board: Mutex<SharedBoard<'t, L, M>>,
     pub workers: Waiters,
     pub printer: Waiters,
+    pub pace: Pace,
+    all: u32,
 }
 
 impl<'t, L: RunLedger, M: Ledger> Hall<'t, L, M> {
-    pub fn new(board: SharedBoard<'t, L, M>) -> Hall<'t, L, M> {
+    pub fn new(board: SharedBoard<'t, L, M>, workers: u32) -> Hall<'t, L, M> {
         Hall {
             board: Mutex::new(board),
             workers: Waiters::new(),
             printer: Waiters::new(),
+            pace: Pace::new(),
+            all: workers,
         }
+    }
+
+    /// Whether to wake a worker for a task that could be taken now. Called under the lock. Where the work is short, whoever
+    /// is awake takes it sooner.
+    pub fn wants_worker(&self) -> bool {
+        if self.pace.is_short() && self.workers.sleepers() < u64::from(self.all) {
+            return false;
+        }
+        self.workers.want_one()
+    }
+
+    /// Whether to wake the printer for a frame that could be shown now. Called under the lock. Where the work is short, a
+    /// worker goes on first while it has a task.
+    pub fn wants_printer(&self, is_idle: bool) -> bool {
+        if self.pace.is_short() && !is_idle {
+            return false;
+        }
+        self.printer.want_one()
     }
 
     /// Stops the board, so that all threads end.

@@ -6,22 +6,25 @@ ghost use Rattle.play_run.specs.Printed.{WrotePart};
 use crate::drawing::text_of;
 use crate::fault::{Cause, RunFault};
 use crate::hall::Hall;
+use crate::rest::Rest;
 use byte_streams::write_whole;
 use job_board::{BoardFault, Settings, Shown};
 use level_text::Session;
 use shared_board::RunLedger;
 use std::alloc::Global;
 use std::io::Write;
+use std::rt::Clock;
 use std::sync::Wait;
 use std::sync::ledger::{Ledger, Share};
 
 // Shows the next frame, once all of it is drawn. The workers are told: a Logic may have waited for the frame's slot, and
 // after the last frame they end.
-fn emit<'t, L: RunLedger, M: Ledger, R: Wait>(
+fn emit<'t, L: RunLedger, M: Ledger, R: Wait + Clock>(
     rt: &R,
     session: &Session,
     settings: Settings,
     hall: &Hall<'t, L, M>,
+    rest: &mut Rest,
     emits: &mut Share<M>,
 ) -> Result<Shown<'t>, Cause>
     requires run { (L.game ≡ Some session.now) × (L.numbers ≡ Some settings) }
@@ -35,8 +38,9 @@ fn emit<'t, L: RunLedger, M: Ledger, R: Wait>(
     for _ in rt.forever() {
         match board.emit(session, settings, emits) {
             Ok(shown) => {
+                *rest = Rest::new();
                 let is_done = board.is_done();
-                let another = board.may_take() && hall.workers.want_one();
+                let another = board.may_take() && hall.wants_worker();
                 drop(board);
                 if is_done {
                     hall.workers.wake_all();
@@ -46,7 +50,13 @@ fn emit<'t, L: RunLedger, M: Ledger, R: Wait>(
                 }
                 return Ok(shown);
             }
-            Err(BoardFault::Illegal) => board = hall.printer.sleep(rt, board),
+            Err(BoardFault::Illegal) => {
+                let (again, is_over) = hall.printer.sleep(rt, board, rest.length());
+                board = again;
+                if is_over {
+                    rest.lengthen();
+                }
+            }
             Err(BoardFault::OutOfMemory) => return Err(Cause::OutOfMemory),
             Err(_) => return Err(Cause::Stranger),
         }
@@ -55,7 +65,7 @@ fn emit<'t, L: RunLedger, M: Ledger, R: Wait>(
 }
 
 /// Shows and writes all frames in order, and flushes. At a fault it stops the board.
-pub fn print<W: Write, L: RunLedger, M: Ledger, R: Wait>(
+pub fn print<W: Write, L: RunLedger, M: Ledger, R: Wait + Clock>(
     rt: &R,
     alloc: Global,
     session: &Session,
@@ -72,8 +82,9 @@ pub fn print<W: Write, L: RunLedger, M: Ledger, R: Wait>(
     ensures err { IfErr result (λ e. WrotePart (W.contents out.old) (W.contents out.new) session.now settings.frames e.frames) }
 {
     let last = settings.frames();
+    let mut rest = Rest::new();
     'shows: for done in 0..last {
-        let shown = match emit(rt, session, settings, hall, emits) {
+        let shown = match emit(rt, session, settings, hall, &mut rest, emits) {
             Ok(shown) => shown,
             Err(cause) => {
                 hall.stop(rt);

@@ -1,6 +1,8 @@
 use std::hint;
+use std::rt::Clock;
 use std::sync::atomic::{AtomicU64, Ordering};
 use std::sync::{Condvar, Mutex, MutexGuard, Wait};
+use std::time::Duration;
 
 // How often a thread looks for news before it sleeps: some microseconds.
 const LOOKS: u32 = 100;
@@ -42,12 +44,22 @@ impl Waiters {
         guard
     }
 
-    /// Gives the lock up and sleeps until it is woken.
-    pub fn sleep<'m, T, R: Wait>(&self, rt: &R, guard: MutexGuard<'m, T>) -> MutexGuard<'m, T> {
+    /// Gives the lock up and sleeps until it is woken, for a while at most. Whether the while is over.
+    pub fn sleep<'m, T, R: Wait + Clock>(
+        &self,
+        rt: &R,
+        guard: MutexGuard<'m, T>,
+        most: Duration,
+    ) -> (MutexGuard<'m, T>, bool) {
         self.sleeping.fetch_add(1, Ordering::SeqCst);
-        let guard = self.moved.wait(rt, guard);
+        let (guard, ended) = self.moved.wait_timeout(rt, guard, most);
         self.sleeping.fetch_sub(1, Ordering::SeqCst);
-        guard
+        (guard, ended.timed_out())
+    }
+
+    /// How many sleep. Called under the lock.
+    pub fn sleepers(&self) -> u64 {
+        self.sleeping.load(Ordering::SeqCst)
     }
 
     /// Tells those that spin of something to do. Whether one that sleeps is to be woken. Called under the lock.

@@ -7,12 +7,14 @@ ghost use Rattle.play_run.specs.Turns.{IsTurnIn};
 use crate::fault::Cause;
 use crate::gate::Gate;
 use crate::hall::Hall;
+use crate::rest::Rest;
 use crate::scratch::Scratch;
 use frame_params::{Step, Task};
 use job_board::BoardFault;
 use level_text::Session;
 use shared_board::RunLedger;
 use std::alloc::Global;
+use std::rt::Clock;
 use std::sync::Wait;
 use std::sync::ledger::{Ledger, Share};
 
@@ -45,11 +47,12 @@ fn turn_of<'t>(fault: BoardFault) -> Turn<'t>
 }
 
 // Waits for a task. Where there are more, the next worker is woken.
-fn wait_for_task<'t, L: RunLedger, M: Ledger, R: Wait>(
+fn wait_for_task<'t, L: RunLedger, M: Ledger, R: Wait + Clock>(
     rt: &R,
     session: &Session,
     hall: &Hall<'t, L, M>,
     worker: u32,
+    rest: &mut Rest,
     share: &mut Share<L>,
 ) -> Turn<'t>
     requires run { L.game ≡ Some session.now }
@@ -61,7 +64,7 @@ fn wait_for_task<'t, L: RunLedger, M: Ledger, R: Wait>(
     for _ in rt.forever() {
         match board.take(worker, session, share) {
             Ok(Some(task)) => {
-                let another = board.may_take() && hall.workers.want_one();
+                let another = board.may_take() && hall.wants_worker();
                 drop(board);
                 if another {
                     hall.workers.wake_one();
@@ -72,7 +75,11 @@ fn wait_for_task<'t, L: RunLedger, M: Ledger, R: Wait>(
                 if board.is_done() {
                     return Turn::Over;
                 }
-                board = hall.workers.sleep(rt, board);
+                let (again, is_over) = hall.workers.sleep(rt, board, rest.length());
+                board = again;
+                if is_over {
+                    rest.lengthen();
+                }
             }
             Err(fault) => return turn_of(fault),
         }
@@ -81,12 +88,13 @@ fn wait_for_task<'t, L: RunLedger, M: Ledger, R: Wait>(
 }
 
 // Hands in a step and takes the next task, in one hold of the lock; where there is none, waits for it.
-fn next_turn<'t, L: RunLedger, M: Ledger, R: Wait>(
+fn next_turn<'t, L: RunLedger, M: Ledger, R: Wait + Clock>(
     rt: &R,
     session: &Session,
     hall: &Hall<'t, L, M>,
     worker: u32,
     step: Step<'t>,
+    rest: &mut Rest,
     share: &mut Share<L>,
 ) -> Turn<'t>
     requires run { L.game ≡ Some session.now }
@@ -97,8 +105,9 @@ fn next_turn<'t, L: RunLedger, M: Ledger, R: Wait>(
 {
     let mut board = hall.board.lock(rt);
     let taken = board.next(worker, session, step, share);
-    let another = board.may_take() && hall.workers.want_one();
-    let shows = board.may_show() && hall.printer.want_one();
+    let another = board.may_take() && hall.wants_worker();
+    let is_idle = matches!(&taken, Ok(None));
+    let shows = board.may_show() && hall.wants_printer(is_idle);
     drop(board);
     if another {
         hall.workers.wake_one();
@@ -108,7 +117,7 @@ fn next_turn<'t, L: RunLedger, M: Ledger, R: Wait>(
     }
     match taken {
         Ok(Some(task)) => Turn::Task(task),
-        Ok(None) => wait_for_task(rt, session, hall, worker, share),
+        Ok(None) => wait_for_task(rt, session, hall, worker, rest, share),
         Err(fault) => turn_of(fault),
     }
 }
@@ -147,7 +156,7 @@ fn hand_back<L: Ledger>(share: Share<L>, fault: Option<Cause>) -> Worked<L>
 }
 
 /// Works on tasks until the board is done or stopped.
-pub fn work<'t, L: RunLedger, M: Ledger, G: Gate, R: Wait>(
+pub fn work<'t, L: RunLedger, M: Ledger, G: Gate, R: Wait + Clock>(
     rt: &R,
     alloc: Global,
     session: &Session,
@@ -161,7 +170,9 @@ pub fn work<'t, L: RunLedger, M: Ledger, G: Gate, R: Wait>(
 {
     let mut share = share;
     let mut scratch = Scratch::new(alloc);
-    let mut turn = wait_for_task(rt, session, hall, worker, &mut share);
+    let mut rest = Rest::new();
+    let mut number = 0u64;
+    let mut turn = wait_for_task(rt, session, hall, worker, &mut rest, &mut share);
     for _ in rt.forever() {
         let task = match turn {
             Turn::Task(task) => task,
@@ -171,8 +182,15 @@ pub fn work<'t, L: RunLedger, M: Ledger, G: Gate, R: Wait>(
                 return hand_back(share, Some(cause));
             }
         };
-        match work_of(alloc, &mut scratch, session, gate, worker, task) {
-            Ok(step) => turn = next_turn(rt, session, hall, worker, step, &mut share),
+        let began = hall.pace.begin(rt, number);
+        number = number.wrapping_add(1);
+        let worked = work_of(alloc, &mut scratch, session, gate, worker, task);
+        hall.pace.end(rt, began);
+        if !hall.pace.is_short() {
+            rest = Rest::new();
+        }
+        match worked {
+            Ok(step) => turn = next_turn(rt, session, hall, worker, step, &mut rest, &mut share),
             Err(cause) => {
                 hall.stop(rt);
                 return hand_back(share, Some(cause));
