@@ -1,9 +1,10 @@
-/* Refuses one growth, one read or write, or shortens one, of the program that it is loaded into (LD_PRELOAD):
+/* Refuses one growth, one opening, read or write of a file, or shortens one, of the program that it is loaded into (LD_PRELOAD):
    REFUSE=memory|calls|short, NTH=N, and where there is an Nth such call the file REPORT is made.
    scripts/refused_growths builds and uses it. */
 #define _GNU_SOURCE
 #include <errno.h>
 #include <fcntl.h>
+#include <stdarg.h>
 #include <stdatomic.h>
 #include <stdlib.h>
 #include <sys/syscall.h>
@@ -42,6 +43,17 @@ static int is_refused(void) {
 }
 
 static size_t shortened(size_t size) { return size > 1 && is_nth('s') ? 1 : size; }
+
+int open(const char *path, int flags, ...) {
+    mode_t mode = 0;
+    if (flags & O_CREAT) {
+        va_list rest;
+        va_start(rest, flags);
+        mode = va_arg(rest, mode_t);
+        va_end(rest);
+    }
+    return is_refused() ? -1 : syscall(SYS_openat, AT_FDCWD, path, flags, mode);
+}
 
 ssize_t read(int file, void *to, size_t size) {
     return is_refused() ? -1 : syscall(SYS_read, file, to, shortened(size));
