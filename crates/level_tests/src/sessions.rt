@@ -1,45 +1,44 @@
 use level_text::{Session, read_level, read_script};
 use std::alloc::Global;
-use std::test::Fail;
 
-fn session(alloc: Global, level: &str, script: &[u8]) -> Result<Session, Fail> {
-    Ok(Session::new(
-        read_level(alloc, level.as_bytes())?,
-        read_script(alloc, script)?,
-    ))
+/// The session of a level and a script.
+pub fn session_of(alloc: Global, level: &str, script: &[u8]) -> Option<Session> {
+    let level = read_level(alloc, level.as_bytes()).ok()?;
+    let script = read_script(alloc, script).ok()?;
+    Some(Session::new(level, script))
+}
+
+const GAME: &str = "{\"map\":[\"A.0\"],\"agents\":[\"t\"],\"trees\":{\"t\":[\"move\",\"0\"]}}";
+
+// Whether the game whose signal changes in its second frame is this one, and is itself.
+fn is_game(alloc: Global, level: &str, script: &[u8]) -> Option<bool> {
+    let game = session_of(alloc, GAME, b"2 on a\n")?;
+    let other = session_of(alloc, level, script)?;
+    Some(game.is_same(&game) && game.is_same(&other))
 }
 
 // Names of trees, and trees that no agent uses, make no other game.
 #[test]
-fn sessions_are_the_same_by_their_game(rt: HostRuntime) -> Result<(), Fail> {
-    let alloc = rt.alloc();
-    let one = session(
-        alloc,
-        "{\"map\":[\"A.0\"],\"agents\":[\"t\"],\"trees\":{\"t\":[\"move\",\"0\"]}}",
-        b"2 on a\n",
-    )?;
-    let renamed = session(
-        alloc,
-        "{\"map\":[\"A.0\"],\"agents\":[\"u\"],\"trees\":{\"t\":[\"take\"],\"u\":[\"move\",\"0\"]}}",
-        b"2 on a",
-    )?;
-    assert!(rt; one.is_same(&renamed));
-    assert!(rt; one.is_same(&one));
-    for (level, script) in [
+fn sessions_are_the_same_by_their_game(rt: HostRuntime) {
+    let cases: [(&str, &[u8], bool); 4] = [
+        (
+            "{\"map\":[\"A.0\"],\"agents\":[\"u\"],\"trees\":{\"t\":[\"take\"],\"u\":[\"move\",\"0\"]}}",
+            b"2 on a",
+            true,
+        ),
         (
             "{\"map\":[\"A.0.\"],\"agents\":[\"t\"],\"trees\":{\"t\":[\"move\",\"0\"]}}",
-            b"2 on a\n".as_slice(),
+            b"2 on a\n",
+            false,
         ),
         (
             "{\"map\":[\"A.0\"],\"agents\":[\"t\"],\"trees\":{\"t\":[\"at\",\"0\"]}}",
             b"2 on a\n",
+            false,
         ),
-        (
-            "{\"map\":[\"A.0\"],\"agents\":[\"t\"],\"trees\":{\"t\":[\"move\",\"0\"]}}",
-            b"2 on b\n",
-        ),
-    ] {
-        assert!(rt; !one.is_same(&session(alloc, level, script)?), "{level}");
+        (GAME, b"2 on b\n", false),
+    ];
+    for (level, script, same) in cases {
+        assert!(rt; is_game(rt.alloc(), level, script) == Some(same), "{level}");
     }
-    Ok(())
 }

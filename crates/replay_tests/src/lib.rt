@@ -2,10 +2,10 @@
 #![tactic(auto)]
 
 #[cfg(test)]
-mod game;
-#[cfg(test)]
 mod games;
 #[cfg(test)]
 mod refusals;
+#[cfg(test)]
+mod sessions;
 #[cfg(test)]
 mod walk;

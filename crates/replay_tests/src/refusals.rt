@@ -1,53 +1,40 @@
 // What no clause says: a call of the board that is refused for memory answers, once it is called again, as it should.
 //
-// No growth is refused where this is run as it is. `rt try refusals --test --fail-alloc 1..` refuses each in turn.
-use crate::game::{Game, session_of, settings_of};
+// No growth is refused where this is run as it is; `scripts/refused_growths` refuses each in turn.
+use crate::sessions::session_of;
 use bumpalo::Bump;
 use frame_params::{LogicStep, Parked, Step, Task, ThinkStep};
-use job_board::{Board, BoardFault, Done, Event, Refused, Settings};
+use job_board::{Board, BoardFault, Done, Refused, Settings};
 use level_text::Session;
 use replay_log::replay;
 use std::alloc::Global;
-use std::test::Fail;
 
-const GAME: Game = Game {
-    name: "two that wait, with one slot",
-    level: "{\"map\":[\"A..0\",\"B..1\"],\"agents\":[\"a\",\"b\"],\"trees\":{\"a\":[\"seq*\",[\"wait\",1],[\"move\",\"0\"]],\"b\":[\"seq\",[\"wait\",1],[\"move\",\"1\"]]}}",
-    script: "",
-    frames: 2,
-    workers: 1,
-    fibers: 3,
-    slots: 1,
-    text: "frame 1\nA..0\nB..1\nA R 0,0 -\nB R 0,1 -\nframe 2\n.A.0\n.B.1\nA R 1,0 -\nB R 1,1 -\n",
-};
+// Two that wait, with one slot, so a Logic holds.
+const LEVEL: &str =
+    "{\"map\":[\"A..0\",\"B..1\"],\"agents\":[\"a\",\"b\"],\"trees\":{\"a\":[\"seq*\",[\"wait\",1],[\"move\",\"0\"]],\"b\":[\"seq\",[\"wait\",1],[\"move\",\"1\"]]}}";
 
-// Whether a refusal was for memory, and left the events as they were.
-fn is_unchanged(board: &Board, events: usize, fault: BoardFault) -> Result<(), Fail> {
-    if fault == BoardFault::OutOfMemory && board.events().len() == events {
-        Ok(())
-    } else {
-        Err(Fail::from("refused, and not for memory alone"))
-    }
+const TEXT: &[u8] =
+    b"frame 1\nA..0\nB..1\nA R 0,0 -\nB R 0,1 -\nframe 2\n.A.0\n.B.1\nA R 1,0 -\nB R 1,1 -\n";
+
+// None of a refusal that was not for memory, or that did not leave the events as they were.
+fn unchanged(board: &Board, events: usize, fault: BoardFault) -> Option<()> {
+    (fault == BoardFault::OutOfMemory && board.events().len() == events).then_some(())
 }
 
-fn new_board<'t>(
-    alloc: Global,
-    session: &'t Session,
-    settings: Settings,
-) -> Result<Board<'t>, Fail> {
+fn new_board<'t>(alloc: Global, session: &'t Session, settings: Settings) -> Option<Board<'t>> {
     match Board::new(alloc, session, settings) {
-        Ok(board) => Ok(board),
-        Err(_) => Ok(Board::new(alloc, session, settings).map_err(|_| "board")?),
+        Ok(board) => Some(board),
+        Err(_) => Board::new(alloc, session, settings).ok(),
     }
 }
 
-fn take<'t>(board: &mut Board<'t>, worker: u32) -> Result<Option<Task<'t>>, Fail> {
+fn take<'t>(board: &mut Board<'t>) -> Option<Option<Task<'t>>> {
     let events = board.events().len();
-    match board.take(worker) {
-        Ok(task) => Ok(task),
+    match board.take(0) {
+        Ok(task) => Some(task),
         Err(fault) => {
-            is_unchanged(board, events, fault)?;
-            Ok(board.take(worker).map_err(|_| "take")?)
+            unchanged(board, events, fault)?;
+            board.take(0).ok()
         }
     }
 }
@@ -60,119 +47,132 @@ fn work<'t>(alloc: Global, arena: &Option<Bump>, task: &Task<'t>) -> Option<Step
     }
 }
 
-fn finish<'t>(board: &mut Board<'t>, worker: u32, done: Done<'t>) -> Result<(), Fail> {
+fn worked<'t>(alloc: Global, arena: &Option<Bump>, task: &Task<'t>) -> Option<Step<'t>> {
+    match work(alloc, arena, task) {
+        Some(step) => Some(step),
+        None => work(alloc, arena, task),
+    }
+}
+
+fn finish<'t>(board: &mut Board<'t>, done: Done<'t>) -> Option<()> {
     let events = board.events().len();
-    match board.finish(worker, done) {
-        Ok(()) => Ok(()),
+    match board.finish(0, done) {
+        Ok(()) => Some(()),
         Err(Refused { fault, value }) => {
-            is_unchanged(board, events, fault)?;
-            Ok(board.finish(worker, value).map_err(|_| "finish")?)
+            unchanged(board, events, fault)?;
+            board.finish(0, value).ok()
         }
     }
 }
 
-fn ask<'t>(board: &mut Board<'t>, worker: u32, parked: Parked<'t>) -> Result<(), Fail> {
+fn ask<'t>(board: &mut Board<'t>, parked: Parked<'t>) -> Option<()> {
     let events = board.events().len();
-    match board.ask(worker, parked) {
-        Ok(()) => Ok(()),
+    match board.ask(0, parked) {
+        Ok(()) => Some(()),
         Err(Refused { fault, value }) => {
-            is_unchanged(board, events, fault)?;
-            Ok(board.ask(worker, value).map_err(|_| "ask")?)
+            unchanged(board, events, fault)?;
+            board.ask(0, value).ok()
+        }
+    }
+}
+
+fn hold(board: &mut Board) -> Option<()> {
+    let events = board.events().len();
+    match board.hold(0) {
+        Ok(()) => Some(()),
+        Err(fault) => {
+            unchanged(board, events, fault)?;
+            board.hold(0).ok()
         }
     }
 }
 
 // A Logic's beginning: it spreads, or holds where that is illegal.
-fn begin(board: &mut Board, worker: u32) -> Result<(), Fail> {
+fn begin(board: &mut Board) -> Option<()> {
     let events = board.events().len();
-    let fault = match board.spread(worker) {
-        Ok(()) => return Ok(()),
-        Err(BoardFault::Illegal) => match board.hold(worker) {
-            Ok(()) => return Ok(()),
-            Err(fault) => fault,
-        },
-        Err(fault) => fault,
-    };
-    is_unchanged(board, events, fault)?;
-    match board.spread(worker) {
-        Ok(()) => Ok(()),
-        Err(_) => Ok(board.hold(worker).map_err(|_| "hold")?),
+    match board.spread(0) {
+        Ok(()) => Some(()),
+        Err(BoardFault::Illegal) => hold(board),
+        Err(fault) => {
+            unchanged(board, events, fault)?;
+            board.spread(0).ok()
+        }
     }
 }
 
-fn hand_in<'t>(board: &mut Board<'t>, worker: u32, step: Step<'t>) -> Result<(), Fail> {
+fn hand_in<'t>(board: &mut Board<'t>, step: Step<'t>) -> Option<()> {
     match step {
-        Step::Logic(LogicStep::Begins) => begin(board, worker),
-        Step::Logic(LogicStep::Turned(turn)) => finish(board, worker, Done::Turned(turn)),
-        Step::Think(ThinkStep::Ended(thought)) => finish(board, worker, Done::Thought(thought)),
-        Step::Think(ThinkStep::Asks(parked)) => ask(board, worker, parked),
-        Step::Path(way) => finish(board, worker, Done::Way(way)),
-        Step::Draw(band) => finish(board, worker, Done::Drawn(band)),
+        Step::Logic(LogicStep::Begins) => begin(board),
+        Step::Logic(LogicStep::Turned(turn)) => finish(board, Done::Turned(turn)),
+        Step::Think(ThinkStep::Ended(thought)) => finish(board, Done::Thought(thought)),
+        Step::Think(ThinkStep::Asks(parked)) => ask(board, parked),
+        Step::Path(way) => finish(board, Done::Way(way)),
+        Step::Draw(band) => finish(board, Done::Drawn(band)),
     }
 }
 
-fn emit(board: &mut Board) -> Result<(), Fail> {
+fn emit(board: &mut Board) -> Option<()> {
     let events = board.events().len();
     match board.emit() {
-        Ok(_) => Ok(()),
+        Ok(_) => Some(()),
         Err(fault) => {
-            is_unchanged(board, events, fault)?;
-            board.emit().map_err(|_| "emit")?;
-            Ok(())
+            unchanged(board, events, fault)?;
+            board.emit().ok()?;
+            Some(())
         }
     }
 }
 
-// One worker plays the game to its end: it takes a task where there is one, else the next frame is shown.
-fn play(alloc: Global, board: &mut Board, arena: &mut Option<Bump>) -> Result<(), Fail> {
+// A worker's task and all that comes of it, or the next frame is shown where there is none.
+fn turn(alloc: Global, board: &mut Board, arena: &mut Option<Bump>) -> Option<()> {
+    let Some(task) = take(board)? else {
+        return emit(board);
+    };
+    let step = worked(alloc, arena, &task)?;
+    hand_in(board, step)?;
+    match arena {
+        Some(arena) => arena.reset().ok(),
+        None => Some(()),
+    }
+}
+
+// Whether one worker plays the game to its end.
+fn plays(alloc: Global, board: &mut Board, arena: &mut Option<Bump>) -> Option<()> {
     for _turn in 0..1000 {
         if board.is_done() {
-            return Ok(());
+            return Some(());
         }
-        let Some(task) = take(board, 0)? else {
-            emit(board)?;
-            continue;
-        };
-        let step = match work(alloc, arena, &task) {
-            Some(step) => step,
-            None => work(alloc, arena, &task).ok_or("work")?,
-        };
-        hand_in(board, 0, step)?;
-        if let Some(arena) = arena {
-            arena.reset().map_err(|_| "reset")?;
-        }
+        turn(alloc, board, arena)?;
     }
-    Err(Fail::from("it does not end"))
+    None
 }
 
-// The text of the frames that the events of a game show, which is played to its end.
-fn played(alloc: Global, game: &Game, mut arena: Option<Bump>) -> Result<Vec<u8>, Fail> {
-    let session = match session_of(alloc, game) {
+fn shows(alloc: Global, session: &Session, settings: Settings, board: &Board) -> Option<bool> {
+    let frames = replay(alloc, session, settings, board.events()).ok()?;
+    Some(frames.text.as_slice() == TEXT)
+}
+
+// Whether the events of the game, played to its end, show its frames.
+fn is_played(alloc: Global, mut arena: Option<Bump>) -> Option<bool> {
+    let session = match session_of(alloc, LEVEL, "") {
         Some(session) => session,
-        None => session_of(alloc, game).ok_or("session")?,
+        None => session_of(alloc, LEVEL, "")?,
     };
-    let settings = settings_of(game)?;
+    let settings = Settings::new(2, 1, 3, 1).ok()?;
     let mut board = new_board(alloc, &session, settings)?;
-    play(alloc, &mut board, &mut arena)?;
-    let frames = match replay(alloc, &session, settings, board.events()) {
-        Ok(frames) => frames,
-        Err(_) => replay(alloc, &session, settings, board.events()).map_err(|_| "replay")?,
-    };
-    Ok(frames.text)
+    plays(alloc, &mut board, &mut arena)?;
+    match shows(alloc, &session, settings, &board) {
+        Some(is_shown) => Some(is_shown),
+        None => shows(alloc, &session, settings, &board),
+    }
 }
 
 #[test]
-fn refused_calls_are_repeated(rt: HostRuntime) -> Result<(), Fail> {
-    let alloc = rt.alloc();
-    let text = played(alloc, &GAME, None)?;
-    assert_eq!(rt; text.as_slice(), GAME.text.as_bytes());
-    Ok(())
+fn refused_calls_are_repeated(rt: HostRuntime) {
+    assert!(rt; is_played(rt.alloc(), None) == Some(true));
 }
 
 #[test]
-fn work_in_an_arena_comes_to_the_same(rt: HostRuntime) -> Result<(), Fail> {
-    let alloc = rt.alloc();
-    let text = played(alloc, &GAME, Some(Bump::new(alloc)))?;
-    assert_eq!(rt; text.as_slice(), GAME.text.as_bytes());
-    Ok(())
+fn work_in_an_arena_comes_to_the_same(rt: HostRuntime) {
+    assert!(rt; is_played(rt.alloc(), Some(Bump::new(rt.alloc()))) == Some(true));
 }

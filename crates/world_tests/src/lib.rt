@@ -4,6 +4,8 @@
 #[cfg(test)]
 mod drawings;
 #[cfg(test)]
+mod maps;
+#[cfg(test)]
 mod stacks;
 #[cfg(test)]
 mod trees;

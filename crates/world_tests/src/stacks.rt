@@ -2,46 +2,57 @@ use bt_nodes::Node;
 use bumpalo::Bump;
 use fiber_stack::{Frame, Pile, Stack};
 use linked_list_allocator::LocalHeap;
-use std::alloc::{AllocError, Global};
+use std::alloc::{AllocError, Allocator, Global};
 use std::test::Fail;
 
-fn frame(node: &Node<Global>, number: u64) -> Frame<'_, Global> {
-    Frame {
-        node,
-        number,
-        next: 1,
-        successes: 2,
-        failures: 3,
+// A stack of so many frames of a node, numbered from the bottom.
+fn stacked(alloc: Global, node: &Node<Global>, count: u64) -> Option<Stack<'_, Global, Global>> {
+    let mut stack = Stack::empty(alloc);
+    for number in 0..count {
+        let frame = Frame {
+            node,
+            number,
+            next: 1,
+            successes: 2,
+            failures: 3,
+        };
+        if stack.depth() == u32::MAX || stack.push(frame).is_err() {
+            return None;
+        }
     }
+    Some(stack)
+}
+
+// The numbers of the frame that is taken off.
+fn popped<A: Allocator>(stack: &mut Stack<'_, Global, A>) -> Option<[u64; 4]> {
+    let top = stack.pop()?;
+    if !matches!(top.node, Node::Wait(1)) {
+        return None;
+    }
+    Some([top.number, top.next, top.successes, top.failures])
+}
+
+fn top_number(stack: &Stack<'_, Global, Global>) -> Option<u64> {
+    Some(stack.top()?.number)
 }
 
 #[test]
 fn nine_frames_are_copied_into_an_arena(rt: HostRuntime) -> Result<(), Fail> {
     let node = Node::Wait(1);
-    let mut stack: Stack<Global, Global> = Stack::empty(rt.alloc());
-    for number in 0..9 {
-        assert!(rt; stack.depth() < u32::MAX);
-        assert!(rt; stack.push(frame(&node, number)).is_ok());
-    }
-    assert_eq!(rt; stack.depth(), 9);
+    let mut stack = stacked(rt.alloc(), &node, 9).ok_or("want of memory")?;
+    assert!(rt; stack.depth() == 9);
     let arena = Bump::new(rt.alloc());
     let mut copy = stack.copy_in(&arena)?;
-    assert_eq!(rt; copy.depth(), 9);
-    for above in 0..9 {
-        assert_eq!(rt; stack.top().map(|top| top.number), Some(8 - above));
-        let Some(top) = copy.pop() else {
-            return Err("the copy has too few frames".into());
-        };
-        assert!(rt; matches!(top.node, Node::Wait(1)));
-        assert_eq!(rt;
-            (top.number, top.next, top.successes, top.failures),
-            (8 - above, 1, 2, 3)
-        );
-        assert_eq!(rt; stack.pop().map(|top| top.number), Some(8 - above));
+    assert!(rt; copy.depth() == 9);
+    for number in [8, 7, 6, 5, 4, 3, 2, 1, 0] {
+        let frame = Some([number, 1, 2, 3]);
+        assert!(rt; top_number(&stack) == Some(number));
+        assert!(rt; popped(&mut copy) == frame);
+        assert!(rt; popped(&mut stack) == frame);
     }
-    assert!(rt; copy.pop().is_none());
-    assert!(rt; stack.top().is_none());
-    assert_eq!(rt; stack.depth(), 0);
+    assert!(rt; popped(&mut copy).is_none());
+    assert!(rt; top_number(&stack).is_none());
+    assert!(rt; stack.depth() == 0);
     Ok(())
 }
 
@@ -60,56 +71,60 @@ fn fill<'a>(
     Ok(all)
 }
 
+// Pushes these numbers in order, up to the first that has no room.
+fn push_all<A: Allocator + Clone>(pile: &mut Pile<u64, A>, numbers: &[u64]) -> Result<(), u64> {
+    for number in numbers {
+        if pile.depth() == u32::MAX {
+            return Err(*number);
+        }
+        pile.push(*number)?;
+    }
+    Ok(())
+}
+
+// Whether these numbers, and no others, are taken off in order.
+fn pops<A: Allocator>(pile: &mut Pile<u64, A>, numbers: &[u64]) -> bool {
+    for number in numbers {
+        if pile.pop() != Some(*number) {
+            return false;
+        }
+    }
+    pile.pop().is_none()
+}
+
 #[test]
 fn the_ninth_push_needs_memory(rt: HostRuntime) -> Result<(), Fail> {
     let heap = LocalHeap::new(rt.alloc(), 400)?;
     let mut pile = Pile::empty(&heap);
-    assert!(rt; pile.push(0u64).is_ok());
+    assert!(rt; push_all(&mut pile, &[0]).is_ok());
     let filled = fill(rt.alloc(), &heap)?;
-    for number in 1..8 {
-        assert!(rt; pile.depth() < u32::MAX);
-        assert_eq!(rt; pile.push(number), Ok(()));
-    }
-    assert!(rt; pile.depth() < u32::MAX);
-    assert_eq!(rt; pile.push(8), Err(8));
-    assert_eq!(rt; pile.depth(), 8);
+    assert!(rt; push_all(&mut pile, &[1, 2, 3, 4, 5, 6, 7]).is_ok());
+    assert!(rt; push_all(&mut pile, &[8]) == Err(8));
+    assert!(rt; pile.depth() == 8);
     drop(filled);
-    assert!(rt; pile.depth() < u32::MAX);
-    assert_eq!(rt; pile.push(8), Ok(()));
-    for above in 0..9 {
-        assert_eq!(rt; pile.pop(), Some(8 - above));
-    }
-    assert_eq!(rt; pile.pop(), None);
+    assert!(rt; push_all(&mut pile, &[8]).is_ok());
+    assert!(rt; pops(&mut pile, &[8, 7, 6, 5, 4, 3, 2, 1, 0]));
     Ok(())
 }
 
 #[test]
-fn the_top_is_replaced(rt: HostRuntime) -> Result<(), Fail> {
+fn the_top_is_replaced(rt: HostRuntime) {
     let mut pile = Pile::empty(rt.alloc());
-    assert_eq!(rt; pile.replace_top(7), None);
-    assert!(rt; pile.push(1).is_ok());
-    assert!(rt; pile.depth() < 2);
-    assert!(rt; pile.push(2).is_ok());
-    assert_eq!(rt; pile.replace_top(3), Some(2));
-    assert_eq!(rt; pile.depth(), 2);
-    assert_eq!(rt; pile.pop(), Some(3));
-    assert_eq!(rt; pile.pop(), Some(1));
-    assert_eq!(rt; pile.pop(), None);
-    Ok(())
+    assert!(rt; pile.replace_top(7).is_none());
+    assert!(rt; push_all(&mut pile, &[1, 2]).is_ok());
+    assert!(rt; pile.replace_top(3) == Some(2));
+    assert!(rt; pile.depth() == 2);
+    assert!(rt; pops(&mut pile, &[3, 1]));
 }
 
 // Neither the copy nor the two drops at the end may nest a call for each frame.
 #[test]
 fn a_hundred_thousand_frames(rt: HostRuntime) -> Result<(), Fail> {
-    let node = Node::Carrying;
-    let mut stack: Stack<Global, Global> = Stack::empty(rt.alloc());
-    for number in 0..100_000 {
-        assert!(rt; stack.depth() < u32::MAX);
-        assert!(rt; stack.push(frame(&node, number)).is_ok());
-    }
+    let node = Node::Wait(1);
+    let stack = stacked(rt.alloc(), &node, 100_000).ok_or("want of memory")?;
     let mut copy = stack.copy_in(rt.alloc())?;
-    assert_eq!(rt; copy.depth(), 100_000);
-    assert_eq!(rt; copy.pop().map(|top| top.number), Some(99_999));
-    assert_eq!(rt; stack.depth(), 100_000);
+    assert!(rt; copy.depth() == 100_000);
+    assert!(rt; popped(&mut copy) == Some([99_999, 1, 2, 3]));
+    assert!(rt; stack.depth() == 100_000);
     Ok(())
 }

@@ -1,105 +1,71 @@
 //! Questions with known answers, and a search compared with numbers of steps that are found another way.
+use crate::maps::{only, world_of};
 use grid_path::{PathFault, ask};
-use grid_world::{Answer, Dir, Place, Signal, Signals, World};
+use grid_world::{Answer, Dir, Place, Signals, World};
 use linked_list_allocator::LocalHeap;
 use std::alloc::Global;
 use std::test::Fail;
 
-fn world_of(alloc: Global, rows: &[&str]) -> Result<World, Fail> {
-    let mut map = Vec::new(alloc);
-    for row in rows {
-        map.push(String::from_str(alloc, row)?)?;
-    }
-    match World::from_rows(alloc, &map) {
-        Ok(world) => Ok(world),
-        Err(_) => Err(Fail::from("the map is refused")),
-    }
-}
-
-fn place(number: u32) -> Result<Place, Fail> {
-    match Place::new(number) {
-        Some(place) => Ok(place),
-        None => Err(Fail::from("no such place")),
-    }
+// What is answered on these rows.
+fn answer(
+    alloc: Global,
+    rows: &[&str],
+    from: (u32, u32),
+    number: u32,
+) -> Option<Result<Answer, PathFault>> {
+    let world = world_of(alloc, rows).ok()?;
+    Some(ask(alloc, &world, Signals::off(), from, Place::new(number)?))
 }
 
 #[test]
-fn answers(rt: HostRuntime) -> Result<(), Fail> {
-    let alloc = rt.alloc();
-    let off = Signals::off();
-    let square = world_of(alloc, &["A.", ".0"])?;
-    assert_eq!(rt;
-        ask(alloc, &square, off, (0, 0), place(0)?),
-        Ok(Answer::Step(Dir::East, 2))
-    );
-    let walled = world_of(alloc, &["A#0"])?;
-    assert_eq!(rt;
-        ask(alloc, &walled, off, (0, 0), place(0)?),
-        Ok(Answer::NoWay)
-    );
-    assert_eq!(rt;
-        ask(alloc, &walled, off, (2, 0), place(0)?),
-        Ok(Answer::Here)
-    );
-    assert_eq!(rt;
-        ask(alloc, &walled, off, (9, 9), place(0)?),
-        Err(PathFault::OffMap)
-    );
-    assert_eq!(rt;
-        ask(alloc, &walled, off, (0, 0), place(1)?),
-        Err(PathFault::OffMap)
-    );
-    let shut = world_of(alloc, &["Aa0"])?;
-    assert_eq!(rt;
-        ask(alloc, &shut, off, (1, 0), place(0)?),
-        Ok(Answer::Step(Dir::East, 1))
-    );
-    assert_eq!(rt;
-        ask(alloc, &shut, off, (0, 0), place(0)?),
-        Ok(Answer::NoWay)
-    );
-    Ok(())
+fn answers(rt: HostRuntime) {
+    let walled: &[&str] = &["A#0"];
+    let shut: &[&str] = &["Aa0"];
+    let ring: &[&str] = &["...", "A#0", "..."];
+    let cases: [(&[&str], (u32, u32), u32, Result<Answer, PathFault>); 9] = [
+        (&["A.", ".0"], (0, 0), 0, Ok(Answer::Step(Dir::East, 2))),
+        (walled, (0, 0), 0, Ok(Answer::NoWay)),
+        (walled, (2, 0), 0, Ok(Answer::Here)),
+        (walled, (9, 9), 0, Err(PathFault::OffMap)),
+        (walled, (0, 0), 1, Err(PathFault::OffMap)),
+        (shut, (1, 0), 0, Ok(Answer::Step(Dir::East, 1))),
+        (shut, (0, 0), 0, Ok(Answer::NoWay)),
+        // two equal ways
+        (ring, (0, 1), 0, Ok(Answer::Step(Dir::North, 4))),
+        (ring, (1, 2), 0, Ok(Answer::Step(Dir::East, 2))),
+    ];
+    for (rows, from, number, want) in cases {
+        let found = answer(rt.alloc(), rows, from, number);
+        assert!(rt; found == Some(want), "{rows:?} from {from:?} to {number}");
+    }
 }
 
-#[test]
-fn two_equal_ways(rt: HostRuntime) -> Result<(), Fail> {
-    let alloc = rt.alloc();
-    let ring = world_of(alloc, &["...", "A#0", "..."])?;
-    assert_eq!(rt;
-        ask(alloc, &ring, Signals::off(), (0, 1), place(0)?),
-        Ok(Answer::Step(Dir::North, 4))
-    );
-    assert_eq!(rt;
-        ask(alloc, &ring, Signals::off(), (1, 2), place(0)?),
-        Ok(Answer::Step(Dir::East, 2))
-    );
-    Ok(())
+// What is answered in a row of three cells from the first, from the place in the last and from beside the map, over one heap of so many bytes.
+fn answers_in(alloc: Global, bytes: usize) -> Option<[Result<Answer, PathFault>; 3]> {
+    let row = world_of(alloc, &["A.0"]).ok()?;
+    let heap = LocalHeap::new(alloc, bytes).ok()?;
+    let place = Place::new(0)?;
+    Some([
+        ask(&heap, &row, Signals::off(), (0, 0), place),
+        ask(&heap, &row, Signals::off(), (2, 0), place),
+        ask(&heap, &row, Signals::off(), (3, 0), place),
+    ])
 }
 
 // A heap of 48 bytes has room for the table of 15 cells, and none for the queue.
 #[test]
-fn refused_memory(rt: HostRuntime) -> Result<(), Fail> {
-    let alloc = rt.alloc();
-    let off = Signals::off();
-    let row = world_of(alloc, &["A.0"])?;
-    for bytes in [16, 48] {
-        let small = LocalHeap::new(alloc, bytes)?;
-        assert_eq!(rt;
-            ask(&small, &row, off, (0, 0), place(0)?),
-            Err(PathFault::OutOfMemory)
-        );
-        assert_eq!(rt; ask(&small, &row, off, (2, 0), place(0)?), Ok(Answer::Here));
-        assert_eq!(rt;
-            ask(&small, &row, off, (3, 0), place(0)?),
-            Err(PathFault::OffMap)
+fn refused_memory(rt: HostRuntime) {
+    for (bytes, first) in [
+        (16, Err(PathFault::OutOfMemory)),
+        (48, Err(PathFault::OutOfMemory)),
+        (4096, Ok(Answer::Step(Dir::East, 2))),
+    ] {
+        let want = [first, Ok(Answer::Here), Err(PathFault::OffMap)];
+        assert!(rt;
+            answers_in(rt.alloc(), bytes) == Some(want),
+            "{bytes} bytes"
         );
     }
-    let large = LocalHeap::new(alloc, 4096)?;
-    assert_eq!(rt;
-        ask(&large, &row, off, (0, 0), place(0)?),
-        Ok(Answer::Step(Dir::East, 2))
-    );
-    Ok(())
 }
 
 const MAZE: [&str; 7] = [
@@ -134,34 +100,35 @@ fn steps_at(steps: &[u32], x: u32, y: u32) -> u32 {
     }
 }
 
+// One more than the fewest steps of an open neighbour.
+fn next_steps(maze: &World, signals: Signals, steps: &[u32], x: u32, y: u32) -> u32 {
+    let mut least = u32::MAX;
+    for direction in DIRECTIONS {
+        let (column, row) = beside(direction, x, y);
+        if maze.is_open(signals, column, row) {
+            least = least.min(steps_at(steps, column, row).saturating_add(1));
+        }
+    }
+    least
+}
+
 // The steps from each cell of the maze to a goal: each is lowered to one more than an open neighbour's, over and over.
-fn relaxed(
-    alloc: Global,
-    maze: &World,
-    signals: Signals,
-    goal: (u32, u32),
-) -> Result<Vec<u32>, Fail> {
-    let mut steps = Vec::from_elem(alloc, u32::MAX, 84)?;
+fn relaxed(maze: &World, signals: Signals, goal: (u32, u32)) -> [u32; 84] {
+    let mut steps = [u32::MAX; 84];
     for _ in 0..84 {
         for y in 0..7u32 {
             for x in 0..12u32 {
-                let mut least = steps_at(&steps, x, y);
-                if (x, y) == goal {
-                    least = 0;
-                }
-                for direction in DIRECTIONS {
-                    let (column, row) = beside(direction, x, y);
-                    if maze.is_open(signals, column, row) {
-                        least = least.min(steps_at(&steps, column, row).saturating_add(1));
-                    }
-                }
-                if let Some(entry) = steps.get_mut(y as usize * 12 + x as usize) {
-                    *entry = least;
-                }
+                let least = if (x, y) == goal {
+                    0
+                } else {
+                    next_steps(maze, signals, &steps, x, y)
+                };
+                let cell = y as usize * 12 + x as usize;
+                steps[cell] = least.min(steps[cell]);
             }
         }
     }
-    Ok(steps)
+    steps
 }
 
 fn wanted(maze: &World, signals: Signals, steps: &[u32], x: u32, y: u32) -> Answer {
@@ -183,30 +150,29 @@ fn wanted(maze: &World, signals: Signals, steps: &[u32], x: u32, y: u32) -> Answ
     Answer::NoWay
 }
 
+// The first cell of the maze from which another answer comes than from the numbers of steps.
+fn other_answer(alloc: Global, maze: &World, signals: Signals, place: Place) -> Option<(u32, u32)> {
+    let steps = relaxed(maze, signals, maze.place(place)?);
+    for y in 0..7u32 {
+        for x in 0..12u32 {
+            let answer = ask(alloc, maze, signals, (x, y), place);
+            if answer != Ok(wanted(maze, signals, &steps, x, y)) {
+                return Some((x, y));
+            }
+        }
+    }
+    None
+}
+
 #[test]
 fn each_cell_of_a_maze(rt: HostRuntime) -> Result<(), Fail> {
-    let alloc = rt.alloc();
-    let maze = world_of(alloc, &MAZE)?;
-    let mut open = Signals::off();
-    if let Some(first) = Signal::new(0) {
-        open.set(first, true);
-    }
-    for signals in [Signals::off(), open] {
-        for number in 0..2 {
-            let Some(goal) = maze.place(place(number)?) else {
-                return Err(Fail::from("a place is missing"));
-            };
-            let steps = relaxed(alloc, &maze, signals, goal)?;
-            for y in 0..7u32 {
-                for x in 0..12u32 {
-                    let answer = ask(alloc, &maze, signals, (x, y), place(number)?);
-                    assert_eq!(rt;
-                        answer,
-                        Ok(wanted(&maze, signals, &steps, x, y)),
-                        "from {x},{y} to {number}"
-                    );
-                }
-            }
+    let maze = world_of(rt.alloc(), &MAZE)?;
+    for number in 0..2 {
+        let place = Place::new(number).ok_or("no such place")?;
+        assert!(rt; maze.place(place).is_some(), "{number}");
+        for signals in [Signals::off(), only(0)] {
+            let other = other_answer(rt.alloc(), &maze, signals, place);
+            assert!(rt; other.is_none(), "from {other:?} to {number}");
         }
     }
     Ok(())
