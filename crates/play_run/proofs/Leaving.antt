@@ -23,6 +23,7 @@ use Rattle.frame_print.proofs.Crossing as prints
 use Rattle.level_text.specs.contracts.session.Session as session
 use Rattle.run_hall.specs.contracts.hall.Hall as hall
 use Rattle.run_hall.proofs.Sends.{hall_sync}
+use Rattle.run_worker.specs.contracts.worker.Worked as worked
 use Rattle.play_run.specs.contracts.hiring.Post as post
 
 pub session_sync : IsSync session.the_row
@@ -59,6 +60,10 @@ post_send : (κh κd : NamedLft) (L M : RattleType) (p : run_ledger.Ghosts L.Den
 post_send κh κd L M p l m =
     declared_send (post.the_type κh κd (param 1 L) (param 2 M) p l m)
     (as_row_send (shr_ref_field κh (hall.the_row κd (param 1 L) (param 2 M) p l m) tt) (hall_send κh κd L M p l m), (putter_send κd L p l, tt))
+
+-- what a worker's thread hands back
+pub worked_send : (κ : NamedLft) (L : RattleType) (p : run_ledger.Ghosts L.Denot) (l : ledger.Ghosts L.Denot) → IsSend (param 1 L) → IsSend (worked.the_row κ (param 1 L) p l)
+worked_send κ L p l sL = declared_send (worked.the_type κ (param 1 L) p l) (share_send L l sL, (putter_send κ L p l, (search (crosses, sendable) depth 40, tt)))
 
 all_send : (ν : Sym) (A B C D E F G : RattleType) → IsSend A → IsSend B → IsSend C → IsSend D → IsSend E → IsSend F → IsSend G
     → IsSend (TupleAt ν (A ∷ B ∷ C ∷ D ∷ E ∷ F ∷ G ∷ []))

@@ -1,4 +1,4 @@
-ghost use Rattle.std.specs.Prelude.{◌≡◌, ◌+◌, ◌<◌, ◌≤◌, ℕ, true, get_or, length, vec_len, vec_capacity, Some};
+ghost use Rattle.std.specs.Prelude.{◌≡◌, ◌+◌, ◌<◌, ◌≤◌, ℕ, true, get_or, length, vec_len, vec_capacity, Some, IfSome};
 ghost use Rattle.band_mail.specs.Mails.{IsPutterOf, ArePuttersOf};
 
 use crate::seats::{Seat, SeatOf};
@@ -41,8 +41,42 @@ fn work_at<'h, 't, L: RunLedger, M: Ledger, G: Gate, R: Wait + Clock>(
     work(rt, alloc, session, hall, gate, worker, share, putter)
 }
 
-/// Starts a thread for each Putter, the last worker's first. False, with the board stopped, where one could not be started.
+// Starts a worker's thread. None where it could not be started.
 #[tactic(auto, using(crate::proofs::Leaving::hall_lent, crate::proofs::Leaving::session_sync))]
+fn start<'s, 't, E, L, M, G, R>(
+    scope: &Scope<'s, E>,
+    rt: &'s R,
+    alloc: Global,
+    session: &'s Session,
+    hall: &'s Hall<'t, L, M>,
+    gate: &'s G,
+    worker: u32,
+    share: Share<L>,
+    putter: Putter<RunBand<'t, L>>,
+) -> Option<Seat<'s, 't, L>>
+where
+    L: RunLedger + Send + Sync + 's,
+    M: Ledger + Send + Sync + 's,
+    G: Gate,
+    R: Threads + Wait + Clock + Sync,
+    't: 's,
+    requires run { L.game ≡ Some session.now }
+    requires part { share.parts ≡ 1 }
+    requires putter { IsPutterOf hall.now.mail putter × (putter.worker ≡ worker) }
+    ensures seat { IfSome result (λ h. (h.promise.mail.now ≡ hall.now.mail) × (h.promise.worker ≡ worker)) }
+{
+    let post = Post { hall, putter };
+    let job = move || -> Worked<L>
+        requires run { L.game ≡ Some session.now }
+        requires part { share.parts ≡ 1 }
+        requires putter { IsPutterOf post.hall.now.mail post.putter }
+        ensures { IsPutterOf post.entry.hall.now.mail result.putter × (result.putter.worker ≡ post.entry.putter.worker) }
+    { work_at(rt, alloc, session, post, gate, worker, share) };
+    let mail = &hall.mail;
+    scope.spawn_with(SeatOf { mail, worker }, job).ok()
+}
+
+/// Starts a thread for each Putter, the last worker's first. False, with the board stopped, where one could not be started.
 pub fn hire<'s, 't, E, L, M, G, R>(
     scope: &Scope<'s, E>,
     rt: &'s R,
@@ -72,17 +106,11 @@ where
     while let Some(putter) = putters.pop() {
         let worker = putters.len() as u32;
         let share = all.split_off(1, 0);
-        let post = Post { hall, putter };
-        let job = move || -> Worked<L>
-            requires run { L.game ≡ Some session.now }
-            requires part { share.parts ≡ 1 }
-            requires putter { IsPutterOf post.hall.now.mail post.putter }
-            ensures { IsPutterOf post.entry.hall.now.mail result.putter × (result.putter.worker ≡ post.entry.putter.worker) }
-        { work_at(rt, alloc, session, post, gate, worker, share) };
-        let mail = &hall.mail;
-        match scope.spawn_with(SeatOf { mail, worker }, job) {
-            Ok(handle) => crew.push_reserved(handle),
-            Err(_) => {
+        match start(
+            scope, rt, alloc, session, hall, gate, worker, share, putter,
+        ) {
+            Some(seat) => crew.push_reserved(seat),
+            None => {
                 hall.stop(rt);
                 return false;
             }

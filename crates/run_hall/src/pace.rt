@@ -8,6 +8,12 @@ const SHORT: u64 = 3_000;
 // Of how many tasks one is measured.
 const EVERY: u64 = 8;
 
+// How often an idle thread looks for news before it sleeps: a microsecond where work is short, and else some twenty, which is less than to be
+// woken twice.
+const FEW_LOOKS: u32 = 100;
+
+const MANY_LOOKS: u32 = 3_000;
+
 // What was known counts fifteen times, and what is new once.
 fn lately(old: u64, new: u64) -> u64 {
     old.saturating_mul(15).saturating_add(new) / 16
@@ -31,6 +37,15 @@ impl Pace {
     /// Whether the work of a task is over so soon that whoever is at work had better do the next one too.
     pub fn is_short(&self) -> bool {
         self.nanos.load(Ordering::SeqCst) < SHORT
+    }
+
+    /// How often an idle worker looks for a task before it sleeps.
+    pub fn looks(&self) -> u32 {
+        if self.is_short() {
+            FEW_LOOKS
+        } else {
+            MANY_LOOKS
+        }
     }
 
     /// The time at which a worker's task of this number begins, for those that are measured.

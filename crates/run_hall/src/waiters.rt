@@ -1,11 +1,9 @@
+use crate::lock::lock_soon;
 use std::hint;
 use std::rt::Clock;
 use std::sync::atomic::{AtomicU64, Ordering};
 use std::sync::{Condvar, Mutex, MutexGuard, Wait};
 use std::time::Duration;
-
-// How often a thread looks for news before it sleeps: some microseconds.
-const LOOKS: u32 = 100;
 
 /// Threads that wait for something to do under a lock. Each spins a short while and then sleeps.
 ///
@@ -29,19 +27,29 @@ impl Waiters {
         }
     }
 
-    /// Spins until there are news, a short while at most, and takes the lock.
-    pub fn spin<'m, T, R: Wait>(&self, rt: &R, lock: &'m Mutex<T>) -> MutexGuard<'m, T> {
+    /// Looks for news, so often at most, and takes the lock. Whether there were any.
+    pub fn spin<'m, T, R: Wait>(
+        &self,
+        rt: &R,
+        lock: &'m Mutex<T>,
+        looks: u32,
+    ) -> (MutexGuard<'m, T>, bool) {
         self.spinning.fetch_add(1, Ordering::SeqCst);
+        let is_news = self.look(looks);
+        let guard = lock_soon(rt, lock);
+        self.spinning.fetch_sub(1, Ordering::SeqCst);
+        (guard, is_news)
+    }
+
+    fn look(&self, looks: u32) -> bool {
         let seen = self.news.load(Ordering::SeqCst);
-        for _ in 0..LOOKS {
+        for _ in 0..looks {
             if self.news.load(Ordering::SeqCst) != seen {
-                break;
+                return true;
             }
             hint::spin_loop();
         }
-        let guard = lock.lock(rt);
-        self.spinning.fetch_sub(1, Ordering::SeqCst);
-        guard
+        false
     }
 
     /// Gives the lock up and sleeps until it is woken.

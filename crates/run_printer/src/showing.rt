@@ -13,6 +13,9 @@ use std::rt::Clock;
 use std::sync::ledger::{Ledger, Share};
 use std::sync::{MutexGuard, Wait};
 
+// How often the printer looks for a frame before it sleeps: a microsecond, for the workers may want its core.
+const LOOKS: u32 = 100;
+
 // Waits until the next frame may be there. Where the mail has bands they are taken in place of sleeping, so a worker that finds no room there
 // is never left waiting.
 fn wait_for_frame<'m, 't, L: RunLedger, M: Ledger, R: Wait + Clock>(
@@ -34,7 +37,7 @@ fn wait_for_frame<'m, 't, L: RunLedger, M: Ledger, R: Wait + Clock>(
     }
     drop(board);
     inbox.take_all(rt, hall);
-    let board = hall.printer.spin(rt, &hall.board);
+    let (board, _) = hall.printer.spin(rt, &hall.board, LOOKS);
     if hall.room.any_asleep() {
         hall.room.wake_all();
     }
@@ -61,7 +64,7 @@ fn emit<'t, L: RunLedger, M: Ledger, R: Wait + Clock>(
     ensures inbox { inbox.new.taker.mail ≡ hall.now.mail }
 {
     let mut rest = Rest::new();
-    let mut board = hall.printer.spin(rt, &hall.board);
+    let (mut board, _) = hall.printer.spin(rt, &hall.board, LOOKS);
     for _ in rt.forever() {
         match board.emit(session, settings, emits) {
             Ok(shown) => {

@@ -14,7 +14,7 @@ use frame_print::RunBand;
 use job_board::BoardFault;
 use level_text::Session;
 use run_fault::Cause;
-use run_hall::{Hall, Rest};
+use run_hall::{Hall, Rest, lock_soon};
 use run_ledger::RunLedger;
 use std::alloc::Global;
 use std::rt::Clock;
@@ -64,7 +64,7 @@ fn wait_for_task<'t, L: RunLedger, M: Ledger, R: Wait + Clock>(
     ensures part { share.new.parts ≡ 1 }
     ensures game { IsTurnIn session.now result }
 {
-    let mut board = hall.workers.spin(rt, &hall.board);
+    let (mut board, mut is_news) = hall.workers.spin(rt, &hall.board, hall.pace.looks());
     for _ in rt.forever() {
         match board.take(worker, session, share) {
             Ok(Some(task)) => {
@@ -79,8 +79,14 @@ fn wait_for_task<'t, L: RunLedger, M: Ledger, R: Wait + Clock>(
                 if board.is_done() {
                     return Turn::Over;
                 }
+                if is_news {
+                    drop(board);
+                    (board, is_news) = hall.workers.spin(rt, &hall.board, hall.pace.looks());
+                    continue;
+                }
                 let (again, is_over) = hall.workers.doze(rt, board, rest.length());
                 board = again;
+                is_news = !is_over;
                 if is_over {
                     rest.lengthen();
                 }
@@ -107,7 +113,7 @@ fn next_turn<'t, L: RunLedger, M: Ledger, R: Wait + Clock>(
     ensures part { share.new.parts ≡ 1 }
     ensures game { IsTurnIn session.now result }
 {
-    let mut board = hall.board.lock(rt);
+    let mut board = lock_soon(rt, &hall.board);
     let taken = board.next(worker, session, told, share);
     let another = board.may_take() && hall.wants_worker();
     let is_idle = matches!(&taken, Ok(None));

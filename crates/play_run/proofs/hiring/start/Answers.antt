@@ -1,7 +1,7 @@
 use denote.Exit.{no}
 use denote.Param.Send.{param_send, param_sync}
 use Rattle.play_run.proofs.Leaving.{worker_send}
-use Rattle.play_run.proofs.hiring.hire.Goals as goal
+use Rattle.play_run.proofs.hiring.start.Goals as goal
 
 pub spawn_with-requires-send-F : goal.spawn_with-requires-send-F
 spawn_with-requires-send-F g c κs within =
