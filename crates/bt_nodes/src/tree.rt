@@ -10,7 +10,7 @@ use std::alloc::{AllocError, Allocator};
 /// A tree within the limits: 1 to 255 nodes, a depth of 1 to 32, a child in each node that lists children, the
 /// threshold of each `Par` from 1 to its number of children, each number of `Tries`, `Ticks` and `Wait` from 1 to
 /// 1000, and each of `Near` from 1 to 16.
-#[derive(Debug, Drop)]
+#[derive(Debug)]
 pub struct Tree<A: Allocator> {
     root: Node<A>,
     nodes: u64,
@@ -21,6 +21,17 @@ pub struct Tree<A: Allocator> {
     ghost counted: { nodes ≡ size (plain root) },
     ghost measured: { levels ≡ depth (plain root) },
     ghost listed: { take nodes subtrees ≡ subtree_sizes (plain root) },
+}
+
+impl<A: Allocator> Drop for Tree<A> {
+    fn drop(self) {
+        let Self {
+            root: _,
+            nodes: _,
+            levels: _,
+            subtrees: _,
+        } = self;
+    }
 }
 
 impl<A: Allocator> Tree<A> {

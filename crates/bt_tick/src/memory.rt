@@ -8,9 +8,14 @@ use std::alloc::{AllocError, Allocator, Global};
 use std::marker::Model;
 
 /// An agent's memory of its tree: a number for each node, in preorder from 0.
-#[derive(Drop)]
 pub struct Memory {
     pub(crate) numbers: Vec<u64>,
+}
+
+impl Drop for Memory {
+    fn drop(self) {
+        let Self { numbers: _ } = self;
+    }
 }
 
 impl Model for Memory {

@@ -12,12 +12,22 @@ use std::sync::Arc;
 
 // The distances to a place on the ground of a session while the doors of these signals are open. All that read them share
 // them.
-#[derive(Drop)]
 pub(crate) struct KeptDistances<'t> {
     session: &'t Session,
     signals: Signals,
     place: Place,
     distances: Arc<Distances>,
+}
+
+impl<'t> Drop for KeptDistances<'t> {
+    fn drop(self) {
+        let Self {
+            session: _,
+            signals: _,
+            place: _,
+            distances: _,
+        } = self;
+    }
 }
 
 impl<'t> Model for KeptDistances<'t> {

@@ -8,11 +8,20 @@ use std::marker::Model;
 use std::sync::Arc;
 
 // The distances that were found on the ground of a session under one state of the signals, for a place once at most.
-#[derive(Drop)]
 pub(crate) struct Known<'t> {
     session: &'t Session,
     signals: Signals,
     all: Arc<Vec<KeptDistances<'t>>>,
+}
+
+impl<'t> Drop for Known<'t> {
+    fn drop(self) {
+        let Self {
+            session: _,
+            signals: _,
+            all: _,
+        } = self;
+    }
 }
 
 impl<'t> Model for Known<'t> {

@@ -19,11 +19,20 @@ use std::marker::Model;
 use std::sync::Arc;
 
 /// A frame's logic, at its start or with the thoughts of all agents.
-#[derive(Drop)]
 pub struct LogicTask<'t> {
     session: &'t Session,
     frame: u32,
     gathered: Option<Gathered<'t>>,
+}
+
+impl<'t> Drop for LogicTask<'t> {
+    fn drop(self) {
+        let Self {
+            session: _,
+            frame: _,
+            gathered: _,
+        } = self;
+    }
 }
 
 impl<'t> Model for LogicTask<'t> {

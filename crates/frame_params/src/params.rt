@@ -16,7 +16,6 @@ use std::sync::Arc;
 
 /// What the jobs of a frame read: the frame's signals, the world and the memories of the frame before, and the distances
 /// that were found so far under these signals. The tasks that are made of it share these with it.
-#[derive(Drop)]
 pub struct FrameParams<'t> {
     pub(crate) session: &'t Session,
     pub(crate) frame: u32,
@@ -24,6 +23,19 @@ pub struct FrameParams<'t> {
     pub(crate) world: Arc<World>,
     pub(crate) memories: Arc<Vec<KeptMemory>>,
     pub(crate) known: Known<'t>,
+}
+
+impl<'t> Drop for FrameParams<'t> {
+    fn drop(self) {
+        let Self {
+            session: _,
+            frame: _,
+            signals: _,
+            world: _,
+            memories: _,
+            known: _,
+        } = self;
+    }
 }
 
 impl<'t> Model for FrameParams<'t> {

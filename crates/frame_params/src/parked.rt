@@ -9,7 +9,6 @@ use std::marker::Model;
 use std::sync::Arc;
 
 /// An agent's tick in a frame that stands at one of its path questions.
-#[derive(Drop)]
 pub struct Parked<'t> {
     pub(crate) session: &'t Session,
     pub(crate) frame: u32,
@@ -17,6 +16,18 @@ pub struct Parked<'t> {
     pub(crate) question: u32,
     // Shared with the task that goes on with it.
     pub(crate) pending: Arc<Pending<'t, Global, Global>>,
+}
+
+impl<'t> Drop for Parked<'t> {
+    fn drop(self) {
+        let Self {
+            session: _,
+            frame: _,
+            agent: _,
+            question: _,
+            pending: _,
+        } = self;
+    }
 }
 
 impl<'t> Model for Parked<'t> {

@@ -16,7 +16,6 @@ use std::marker::Model;
 use std::sync::Arc;
 
 /// A path question of an agent in a frame that is to be answered.
-#[derive(Drop)]
 pub struct PathTask<'t> {
     session: &'t Session,
     frame: u32,
@@ -27,6 +26,21 @@ pub struct PathTask<'t> {
     world: Arc<World>,
     // The distances to the place, where they are known.
     known: Option<KeptDistances<'t>>,
+}
+
+impl<'t> Drop for PathTask<'t> {
+    fn drop(self) {
+        let Self {
+            session: _,
+            frame: _,
+            agent: _,
+            question: _,
+            place: _,
+            signals: _,
+            world: _,
+            known: _,
+        } = self;
+    }
 }
 
 impl<'t> Model for PathTask<'t> {

@@ -6,9 +6,14 @@ use std::alloc::{AllocError, Global};
 use std::marker::Model;
 
 /// A fixed number of places for the parameters of the frames under way: frame `f` has the place `f` modulo their number.
-#[derive(Drop)]
 pub struct Slots<'t> {
     places: Vec<Option<FrameParams<'t>>>,
+}
+
+impl<'t> Drop for Slots<'t> {
+    fn drop(self) {
+        let Self { places: _ } = self;
+    }
 }
 
 impl<'t> Model for Slots<'t> {

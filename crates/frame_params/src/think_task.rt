@@ -25,7 +25,6 @@ use std::marker::Model;
 use std::sync::Arc;
 
 /// An agent's thought in a frame, at its start or with the answer to the question at which it stood.
-#[derive(Drop)]
 pub struct ThinkTask<'t> {
     session: &'t Session,
     frame: u32,
@@ -33,6 +32,19 @@ pub struct ThinkTask<'t> {
     signals: Signals,
     world: Arc<World>,
     stand: Stand<'t>,
+}
+
+impl<'t> Drop for ThinkTask<'t> {
+    fn drop(self) {
+        let Self {
+            session: _,
+            frame: _,
+            agent: _,
+            signals: _,
+            world: _,
+            stand: _,
+        } = self;
+    }
 }
 
 impl<'t> Model for ThinkTask<'t> {

@@ -11,7 +11,6 @@ use level_text::Session;
 use std::marker::Model;
 
 /// What an agent thought in a frame: its tick's answer, its memory after it, and what it wants to do.
-#[derive(Drop)]
 pub struct Thought<'t> {
     pub(crate) session: &'t Session,
     pub(crate) frame: u32,
@@ -20,6 +19,20 @@ pub struct Thought<'t> {
     pub(crate) status: Status,
     pub(crate) memory: KeptMemory,
     pub(crate) intent: Intent,
+}
+
+impl<'t> Drop for Thought<'t> {
+    fn drop(self) {
+        let Self {
+            session: _,
+            frame: _,
+            agent: _,
+            questions: _,
+            status: _,
+            memory: _,
+            intent: _,
+        } = self;
+    }
 }
 
 impl<'t> Model for Thought<'t> {

@@ -12,7 +12,6 @@ use std::marker::Model;
 use std::sync::Arc;
 
 /// What came of a frame: the world and the memories after it, and the answers of the agents' ticks.
-#[derive(Drop)]
 pub struct Turn<'t> {
     pub(crate) session: &'t Session,
     pub(crate) frame: u32,
@@ -22,6 +21,19 @@ pub struct Turn<'t> {
     pub(crate) statuses: Arc<Vec<Status>>,
     // What was found under the signals of the frame.
     pub(crate) known: Known<'t>,
+}
+
+impl<'t> Drop for Turn<'t> {
+    fn drop(self) {
+        let Self {
+            session: _,
+            frame: _,
+            world: _,
+            memories: _,
+            statuses: _,
+            known: _,
+        } = self;
+    }
 }
 
 impl<'t> Model for Turn<'t> {

@@ -8,7 +8,6 @@ use level_text::Session;
 use std::marker::Model;
 
 /// The answer to a path question of an agent in a frame.
-#[derive(Drop)]
 pub struct Way<'t> {
     pub(crate) session: &'t Session,
     pub(crate) frame: u32,
@@ -17,6 +16,19 @@ pub struct Way<'t> {
     pub(crate) answer: Answer,
     // The distances that its search found; they are under the signals of the frame.
     pub(crate) found: Option<KeptDistances<'t>>,
+}
+
+impl<'t> Drop for Way<'t> {
+    fn drop(self) {
+        let Self {
+            session: _,
+            frame: _,
+            agent: _,
+            question: _,
+            answer: _,
+            found: _,
+        } = self;
+    }
 }
 
 impl<'t> Model for Way<'t> {

@@ -15,9 +15,14 @@ use std::marker::Model;
 
 /// For each cell of a map, and of a border around it, one more than the least number of steps from there to a place, or 0
 /// where the cell is not open or no walk leads there. They are seen as these numbers, row after row.
-#[derive(Drop)]
 pub struct Distances {
     marks: Vec<u16>,
+}
+
+impl Drop for Distances {
+    fn drop(self) {
+        let Self { marks: _ } = self;
+    }
 }
 
 impl Model for Distances {

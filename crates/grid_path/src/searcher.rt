@@ -14,7 +14,6 @@ use std::alloc::{AllocError, Global};
 ///
 /// Its table of the open cells and its queue are made for the first question that needs a search, and serve all later
 /// ones, which take no memory.
-#[derive(Drop)]
 pub struct Searcher<'w> {
     pub world: &'w World,
     pub signals: Signals,
@@ -26,6 +25,20 @@ pub struct Searcher<'w> {
     ghost table: { is_made ≡ true → IsTable world.now signals passable.items },
     ghost cleared: { is_made ≡ true → length unmet.items ≡ length passable.items },
     ghost room: { is_made ≡ true → length queue.items ≡ length passable.items + 1 },
+}
+
+impl<'w> Drop for Searcher<'w> {
+    fn drop(self) {
+        let Self {
+            world: _,
+            signals: _,
+            alloc: _,
+            is_made: _,
+            passable: _,
+            unmet: _,
+            queue: _,
+        } = self;
+    }
 }
 
 impl<'w> Searcher<'w> {

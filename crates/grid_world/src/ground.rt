@@ -13,7 +13,6 @@ use std::alloc::{AllocError, Global};
 use std::marker::Model;
 
 /// What of a world never changes: made once, and shared by all worlds that follow one another.
-#[derive(Drop)]
 pub struct Ground {
     columns: u32,
     rows: u32,
@@ -23,6 +22,20 @@ pub struct Ground {
     spots: [Option<u32>; 10],
     // the text of the rows while all signals are off, with nobody and no item there
     text: Vec<u8>,
+}
+
+impl Drop for Ground {
+    fn drop(self) {
+        let Self {
+            columns: _,
+            rows: _,
+            kinds: _,
+            floor: _,
+            doors: _,
+            spots: _,
+            text: _,
+        } = self;
+    }
 }
 
 impl Model for Ground {

@@ -28,12 +28,21 @@ pub use changes::resolve;
 ///
 /// What never changes is shared by all worlds that come from one map; a world of its own holds only
 /// its agents and a table of the cells with an item.
-#[derive(Drop)]
 pub struct World {
     ground: Arc<Ground>,
     // for each cell whether an item lies there
     has_item: Vec<bool>,
     crew: Vec<Agent>,
+}
+
+impl Drop for World {
+    fn drop(self) {
+        let Self {
+            ground: _,
+            has_item: _,
+            crew: _,
+        } = self;
+    }
 }
 
 // The number of the agent on a cell.

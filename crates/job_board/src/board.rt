@@ -22,11 +22,16 @@ use std::marker::Model;
 /// The jobs of a run over a session, and what their work came to. Each call that answers Ok, but for a `take` that
 /// gives nothing and a `stop` of a stopped board, does one event, which was legal and is the last of `events` from then
 /// on; a call that is refused changes nothing.
-#[derive(Drop)]
 pub struct Board<'t> {
     pub(crate) run: Run<'t>,
     // For each worker the work of the job that it runs, where `apply` has done it.
     pub(crate) works: Works<'t>,
+}
+
+impl<'t> Drop for Board<'t> {
+    fn drop(self) {
+        let Self { run: _, works: _ } = self;
+    }
 }
 
 impl<'t> Model for Board<'t> {

@@ -22,7 +22,6 @@ use std::marker::Model;
 /// What the board keeps: which jobs are queued, which fibers are ready and taken, what each fiber holds and each
 /// worker runs, the counters, and which frame lies in each slot. It has one method for each event, which tests
 /// nothing again: that the event may happen is the caller's to show.
-#[derive(Drop)]
 pub struct Machine {
     pub(crate) queues: Queues,
     pub(crate) pool: FiberPool,
@@ -32,6 +31,21 @@ pub struct Machine {
     pub(crate) slots: Vec<Option<u32>>,
     pub(crate) emitted: u32,
     pub(crate) stopped: bool,
+}
+
+impl Drop for Machine {
+    fn drop(self) {
+        let Self {
+            queues: _,
+            pool: _,
+            jobs: _,
+            workers: _,
+            counters: _,
+            slots: _,
+            emitted: _,
+            stopped: _,
+        } = self;
+    }
 }
 
 impl Model for Machine {

@@ -8,11 +8,20 @@ use level_text::Session;
 use std::marker::Model;
 
 /// The question at which an agent's thought stands in the frame under way, and the answer to it.
-#[derive(Drop)]
 pub(crate) struct Asking<'t> {
     session: &'t Session,
     parked: Option<Parked<'t>>,
     way: Option<Way<'t>>,
+}
+
+impl<'t> Drop for Asking<'t> {
+    fn drop(self) {
+        let Self {
+            session: _,
+            parked: _,
+            way: _,
+        } = self;
+    }
 }
 
 impl<'t> Model for Asking<'t> {

@@ -27,7 +27,6 @@ use std::marker::Model;
 use std::mem;
 
 /// What the work of the frames under way came to, for the tasks that are made of it.
-#[derive(Drop)]
 pub struct Shelf<'t> {
     session: &'t Session,
     // Those of the next frame to spread.
@@ -38,6 +37,19 @@ pub struct Shelf<'t> {
     thoughts: Thoughts<'t>,
     // Of the frames in the slots.
     drawn: Vec<Drawn<'t>>,
+}
+
+impl<'t> Drop for Shelf<'t> {
+    fn drop(self) {
+        let Self {
+            session: _,
+            next: _,
+            slots: _,
+            asking: _,
+            thoughts: _,
+            drawn: _,
+        } = self;
+    }
 }
 
 impl<'t> Model for Shelf<'t> {

@@ -8,10 +8,15 @@ use std::alloc::{AllocError, Global};
 use std::marker::Model;
 
 /// What the agents thought in the frame under way, by agent number. There is room for the thoughts of all agents.
-#[derive(Drop)]
 pub(crate) struct Thoughts<'t> {
     session: &'t Session,
     all: Vec<Thought<'t>>,
+}
+
+impl<'t> Drop for Thoughts<'t> {
+    fn drop(self) {
+        let Self { session: _, all: _ } = self;
+    }
 }
 
 impl<'t> Model for Thoughts<'t> {

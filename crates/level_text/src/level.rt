@@ -14,7 +14,6 @@ use std::alloc::Global;
 
 /// A level: a map, the tree names of its agents, and the trees by name, in order of the names' bytes. Each agent has
 /// a tree, and each place that a tree names is on the map.
-#[derive(Drop)]
 pub struct Level {
     pub(crate) rows: Vec<String>,
     pub(crate) names: Vec<String>,
@@ -27,6 +26,18 @@ pub struct Level {
     ghost ordered: { IsTrue (is_in_order (names_of (kept rows.items names.items trees.items).trees)) },
     ghost built: { world ≡ world_of (kept rows.items names.items trees.items) },
     ghost picked: { picks.items ≡ map (index_of (kept rows.items names.items trees.items).trees) (kept rows.items names.items trees.items).names },
+}
+
+impl Drop for Level {
+    fn drop(self) {
+        let Self {
+            rows: _,
+            names: _,
+            trees: _,
+            world: _,
+            picks: _,
+        } = self;
+    }
 }
 
 impl Level {

@@ -8,11 +8,20 @@ use std::alloc::{AllocError, Global};
 use std::marker::Model;
 
 /// The changes of signals that a script file spells, line by line: their frames never fall.
-#[derive(Debug, Drop)]
+#[derive(Debug)]
 pub struct Script {
     changes: Vec<Change>,
     // The signals after each change, so that no frame walks the changes before it.
     after: Vec<Signals>,
+}
+
+impl Drop for Script {
+    fn drop(self) {
+        let Self {
+            changes: _,
+            after: _,
+        } = self;
+    }
 }
 
 impl Model for Script {

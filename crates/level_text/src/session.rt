@@ -14,10 +14,18 @@ use std::alloc::Global;
 use std::marker::Model;
 
 /// What is played: a level, and the script that changes its signals. It is seen as its game.
-#[derive(Drop)]
 pub struct Session {
     level: Level,
     script: Script,
+}
+
+impl Drop for Session {
+    fn drop(self) {
+        let Self {
+            level: _,
+            script: _,
+        } = self;
+    }
 }
 
 impl Model for Session {

@@ -11,7 +11,6 @@ use std::sync::{Mutex, Wait};
 
 /// Where the threads of a run meet: the locked board, the mail by which bands go to the printer, and those that wait beside the lock: the
 /// workers for a task or for room in the mail, and the printer for a frame.
-#[derive(Drop)]
 pub struct Hall<'t, L: RunLedger, M: Ledger> {
     pub board: Mutex<SharedBoard<'t, L, M>>,
     pub mail: BandMail<RunBand<'t, L>>,
@@ -20,6 +19,20 @@ pub struct Hall<'t, L: RunLedger, M: Ledger> {
     pub printer: Waiters,
     pub pace: Pace,
     count: u32,
+}
+
+impl<'t, L: RunLedger, M: Ledger> Drop for Hall<'t, L, M> {
+    fn drop(self) {
+        let Self {
+            board: _,
+            mail: _,
+            workers: _,
+            room: _,
+            printer: _,
+            pace: _,
+            count: _,
+        } = self;
+    }
 }
 
 impl<'t, L: RunLedger, M: Ledger> Hall<'t, L, M> {
@@ -71,7 +84,15 @@ impl<'t, L: RunLedger, M: Ledger> Hall<'t, L, M> {
     pub fn into_parts(self) -> (SharedBoard<'t, L, M>, BandMail<RunBand<'t, L>>)
         ensures { result.1 ≡ self.entry.mail }
     {
-        let Hall { board, mail, .. } = self;
+        let Self {
+            board,
+            mail,
+            workers: _,
+            room: _,
+            printer: _,
+            pace: _,
+            count: _,
+        } = self;
         (board.into_inner(), mail)
     }
 }

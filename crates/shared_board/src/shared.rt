@@ -16,7 +16,6 @@ use std::sync::ledger::{Book, Ledger, Share};
 
 /// A board with two books: one of its events that name a worker, one of those that show a frame. A thread that makes
 /// such an event happen adds one to its share of the book.
-#[derive(Drop)]
 pub struct SharedBoard<'t, L: RunLedger, M: Ledger> {
     board: Board<'t>,
     named: Book<L>,
@@ -25,6 +24,16 @@ pub struct SharedBoard<'t, L: RunLedger, M: Ledger> {
     ghost numbers_are: { L.numbers ≡ Some board.run.numbers },
     ghost named_is: { named.total ≡ count_by names_worker board.run.events },
     ghost emitted_is: { emitted.total ≡ count_by is_emit board.run.events },
+}
+
+impl<'t, L: RunLedger, M: Ledger> Drop for SharedBoard<'t, L, M> {
+    fn drop(self) {
+        let Self {
+            board: _,
+            named: _,
+            emitted: _,
+        } = self;
+    }
 }
 
 impl<'t, L: RunLedger, M: Ledger> SharedBoard<'t, L, M> {
