@@ -36,11 +36,15 @@ text-frame g (suc f) h =
     ap (λ k. text (suc f) (play g (suc f)).world (signals g.changes (suc f)) (map (λ t. t.status) (thoughts g (suc f) (play g k)))) n
 
 -- what is written of a frame's turn and of all its bands
-pub written_is : (g : Game) (f n : ℕ) (drawn : List Band) (world : Grid) (statuses : List Status) (written : List ℕ) → 0 < f
-    → n ≡ f → drawn ≡ map (band_in g f) (count_up 0 (bands_in g)) → world ≡ world_after g f → statuses ≡ statuses_in g f
+pub written_is : (g own : Game) (f n : ℕ) (drawn : List Band) (world : Grid) (statuses : List Status) (written : List ℕ) → own ≡ g → 0 < f
+    → n ≡ f → drawn ≡ map (band_in g n) (count_up 0 (bands_in own)) → world ≡ world_after own f → statuses ≡ statuses_in own f
     → ((on : List Bool) → drawn ≡ bands_of world on → written ≡ text n world on statuses) → written ≡ frame_text g f
-written_is g f n drawn world statuses written later number bands_are world_is statuses_are h =
+written_is g own f n drawn world statuses written game later number bands_are world_are statuses_are h =
     let on = signals_in g f in
-    let whole : drawn ≡ bands_of world on = bands_are ∙ all_drawn g f ∙ ap (λ w. bands_of w on) (sym world_is) in
+    let world_is : world ≡ world_after g f = world_are ∙ ap (λ (x : Game). world_after x f) game in
+    let statuses_is : statuses ≡ statuses_in g f = statuses_are ∙ ap (λ (x : Game). statuses_in x f) game in
+    let bands_is : drawn ≡ map (band_in g f) (count_up 0 (bands_in g)) =
+    bands_are ∙ ap (λ k. map (band_in g k) (count_up 0 (bands_in own))) number ∙ ap (λ (x : Game). map (band_in g f) (count_up 0 (bands_in x))) game in
+    let whole : drawn ≡ bands_of world on = bands_is ∙ all_drawn g f ∙ ap (λ w. bands_of w on) (sym world_is) in
     h on whole ∙ ap (λ k. text k world on statuses) number ∙ ap (λ w. text f w on statuses) world_is
-    ∙ ap (text f (world_after g f) on) statuses_are ∙ text-frame g f later
+    ∙ ap (text f (world_after g f) on) statuses_is ∙ text-frame g f later

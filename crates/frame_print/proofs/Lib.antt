@@ -1,2 +1,5 @@
 mod Drawn
+pub mod Places
+pub mod Taking
+pub mod Tables
 pub mod Crossing

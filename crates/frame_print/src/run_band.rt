@@ -1,4 +1,4 @@
-ghost use Rattle.std.specs.Prelude.{◌≡◌, Some, IfSome};
+ghost use Rattle.std.specs.Prelude.{◌≡◌, Some, IfSome, IfNone};
 ghost use Rattle.std.specs.Coded.{Coded-set, coded_option};
 ghost use Rattle.level_text.specs.GameCode.{game_code};
 ghost use Rattle.frame_params.specs.Contents.{band_in};
@@ -33,7 +33,8 @@ impl<'t, L: RunLedger> RunBand<'t, L> {
     /// What the band holds, where it is this band of this frame.
     pub fn into_band_at(self, session: &Session, frame: u32, number: u32) -> Option<Band>
         requires { L.game ≡ Some session.now }
-        ensures { IfSome result (λ band. band ≡ band_in session.now frame number) }
+        ensures value { IfSome result (λ band. band ≡ band_in session.now frame number) }
+        ensures another { IfNone result ((self.entry.band.frame ≡ frame) × (self.entry.band.number ≡ number) → ⊥) }
     {
         let _ = session;
         let RunBand { band, .. } = self;

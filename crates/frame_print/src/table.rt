@@ -1,5 +1,7 @@
-ghost use Rattle.std.specs.Prelude.{◌≡◌, ◌<◌, IfOk, IfSome, Some};
+ghost use Rattle.std.specs.Prelude.{◌≡◌, ◌<◌, IfOk, IfSome, IfNone, Some};
 ghost use Rattle.game_rules.specs.Text.{frame_text};
+ghost use Rattle.frame_params.specs.Contents.{bands_in};
+ghost use Rattle.frame_print.specs.Tables.{no_bands, row_of, with_band, LacksBand, IsElsewhereSame, IsSameSize};
 
 use crate::frame_bands::FrameBands;
 use crate::run_band::RunBand;
@@ -8,6 +10,7 @@ use frame_params::Turn;
 use level_text::Session;
 use run_ledger::RunLedger;
 use std::alloc::{AllocError, Global};
+use std::marker::Model;
 
 /// The bands of a run's frames that are not printed yet, by frame and number. So many frames as it is made for have places of their own; a
 /// band of a later frame takes the place of one so many frames before.
@@ -18,9 +21,22 @@ pub struct BandTable<'t, L: RunLedger> {
     drawn: Vec<Band>,
 }
 
+impl<'t, L: RunLedger> Model for BandTable<'t, L> {
+    ghost use Rattle.std.specs.Prelude.{ℕ, List, Option};
+    ghost use Rattle.std.specs.Coded.{coded_ℕ, coded_list, coded_option};
+
+    ghost Value = { List (List (Option ℕ)) };
+
+    ghost coded = { coded_list (coded_list (coded_option coded_ℕ)) };
+
+    ghost view = { λ t. t.frames.items };
+}
+
 impl<'t, L: RunLedger> BandTable<'t, L> {
     /// An empty table for so many frames of so many bands. All memory that it needs is taken here.
-    pub fn new(alloc: Global, frames: u32, bands: u32) -> Result<BandTable<'t, L>, AllocError> {
+    pub fn new(alloc: Global, frames: u32, bands: u32) -> Result<BandTable<'t, L>, AllocError>
+        ensures { IfOk result (λ table. table ≡ no_bands frames bands) }
+    {
         let mut places = Vec::with_capacity(alloc, frames as usize)?;
         'frames: for _frame in 0..frames {
             places.push(FrameBands::new(alloc, bands)?)?;
@@ -32,7 +48,9 @@ impl<'t, L: RunLedger> BandTable<'t, L> {
     }
 
     /// Keeps a band until its frame is printed.
-    pub fn keep(&mut self, band: RunBand<'t, L>) {
+    pub fn keep(&mut self, band: RunBand<'t, L>)
+        ensures { self.new ≡ with_band self.old band.entry.band.frame band.entry.band.number }
+    {
         let frames = self.frames.len();
         if frames == 0 {
             return;
@@ -52,11 +70,16 @@ impl<'t, L: RunLedger> BandTable<'t, L> {
         requires run { L.game ≡ Some session.now }
         requires own { turn.now.game ≡ session.now }
         requires later { 0 < turn.now.frame }
-        ensures { IfOk result (λ text. IfSome text (λ t. t.items ≡ frame_text session.now turn.now.frame)) }
+        ensures text { IfOk result (λ text. IfSome text (λ t. t.items ≡ frame_text session.now turn.now.frame)) }
+        ensures missing { IfOk result (λ text. IfNone text (LacksBand (row_of self.old turn.now.frame) turn.now.frame (bands_in session.now))) }
+        ensures others { IsElsewhereSame turn.now.frame self.old self.new }
+        ensures size { IsSameSize self.old self.new }
     {
         let BandTable { frames, drawn } = self;
         drawn.clear();
         let count = frames.len();
+        // A world has rows, so where nothing has a place a band is missing.
+        prove!(turn.world().height() > 0);
         if count == 0 {
             return Ok(None);
         }
