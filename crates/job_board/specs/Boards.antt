@@ -1,5 +1,5 @@
 -- What a board is seen as, and what its calls do and refuse.
-use Rattle.std.specs.Prelude.{◌≡◌, ◌≤◌, ◌<◌, ℕ, true, false, not, List, [], ◌∷◌, ◌++◌, ◌⊎◌, Option, Some, None, length}
+use Rattle.std.specs.Prelude.{◌≡◌, ◌≤◌, ◌<◌, ℕ, true, false, List, [], ◌∷◌, ◌++◌, ◌⊎◌, Option, Some, None, length}
 use Rattle.game_rules.specs.Game.{Game}
 use Rattle.job_core.specs.declared.names.JobName.{JobName}
 use Rattle.job_core.specs.declared.names.JobName.TheVariants.{Logic}
@@ -7,9 +7,9 @@ use Rattle.job_core.specs.declared.names.Event.{Event}
 use Rattle.job_core.specs.declared.names.Event.TheVariants.{Start, Resume, Emit, Stop as StopEvent}
 use Rattle.job_core.specs.Core.{Setup, State, Runs, Waits, IsIdle, IsLegal, IsLegalList, state}
 use Rattle.game_jobs.specs.Instance.{asked_in}
-use Rattle.board_law.specs.Lists.{tally, first_place}
+use Rattle.board_law.specs.Lists.{first_place}
 use Rattle.board_law.specs.Board.{Held, core_of, holds}
-use Rattle.board_law.specs.Pick.{Pick, Ready, New, pick}
+use Rattle.board_law.specs.Pick.{Pick, Ready, New, given}
 use Rattle.frame_params.specs.Names.{FrameOf}
 use Rattle.frame_params.specs.Contents.{bands_in}
 use Rattle.frame_params.specs.Tasks.{job_of, IsTaskAt}
@@ -50,7 +50,7 @@ pub record Happens (old new : Played) (e : Event) : Type 0 where
 
 -- what an idle worker is given
 abbrev pub pick_in : Played → Option Pick
-pick_in b = pick (tally not (core_of (setup_in b) b.events).seats.taken) (core_of (setup_in b) b.events).queues
+pick_in b = given (core_of (setup_in b) b.events)
 
 -- nothing is stopped, and a worker that is idle is given a job
 abbrev pub GivesJob : Played → Type 0

@@ -1,8 +1,8 @@
-ghost use Rattle.std.specs.Prelude.{◌≡◌, ◌≤◌, ◌<◌, ◌+◌, ℕ, IfOk, IfSome, None, true, false, option_map, not};
+ghost use Rattle.std.specs.Prelude.{◌≡◌, ◌≤◌, ◌<◌, ◌+◌, ℕ, IfOk, IfSome, None, true, false, option_map};
 ghost use Rattle.job_core.specs.Core.{Waits, IsIdle, IsLegal, IsLegalList};
-ghost use Rattle.board_law.specs.Lists.{tally, first_place};
+ghost use Rattle.board_law.specs.Lists.{first_place};
 ghost use Rattle.board_law.specs.Board.{holds};
-ghost use Rattle.board_law.specs.Pick.{pick};
+ghost use Rattle.board_law.specs.Pick.{given};
 ghost use Rattle.job_log.specs.Logged.{setup_of, kept, reached};
 ghost use Rattle.job_log.specs.Looks.{Always, IsOn, IsRunning, IsGivenTo, IsToShow, IsPlace, as_pick};
 
@@ -10,7 +10,7 @@ use super::fault::BoardFault;
 use super::jobs::JobLog;
 use super::next::Next;
 use job_core::names::{Event, JobName};
-use job_machine::{Fiber, Held, Pick, fibers_wanted};
+use job_machine::{Fiber, Held, Pick};
 
 // What may happen next. None of these takes memory.
 impl JobLog {
@@ -33,8 +33,8 @@ impl JobLog {
     /// What an idle worker does next: the first of the highest priority that has a fiber ready or a job that may start.
     pub fn given(&self, worker: u32) -> Result<Option<Next>, BoardFault>
         ensures given { Always self.now (IsGivenTo worker result) }
-        ensures picked { IfOk result (λ given. (questions : ℕ → ℕ → ℕ) → IsLegalList (setup_of self.now questions) self.now.events
-            → option_map as_pick given ≡ pick (tally not (kept self.now questions).seats.taken) (kept self.now questions).queues) }
+        ensures picked { IfOk result (λ next. (questions : ℕ → ℕ → ℕ) → IsLegalList (setup_of self.now questions) self.now.events
+            → option_map as_pick next ≡ given (kept self.now questions)) }
         ensures place { IfOk result (λ given. (questions : ℕ → ℕ → ℕ) → IsLegalList (setup_of self.now questions) self.now.events
             → IsPlace (kept self.now questions) given) }
     {
@@ -90,7 +90,7 @@ impl JobLog {
         if !self.machine.is_queued(job) {
             return false;
         }
-        if fibers_wanted(job) > self.machine.free() {
+        if !self.machine.has_fiber(job) {
             return false;
         }
         true

@@ -14,6 +14,6 @@ pub use counters::CounterKey;
 pub use fault::OutOfMemory;
 pub use held::Held;
 pub use job_core::names::{Event, JobName};
-pub use job_queues::{Fiber, Pick, fibers_wanted};
+pub use job_queues::{Fiber, Pick};
 pub use machine::Machine;
 pub use settings::{Settings, SettingsFault};

@@ -1,8 +1,8 @@
-ghost use Rattle.std.specs.Prelude.{◌≡◌, ◌<◌, ◌^◌, ◌==◌, MatchOption, true, false, option_map, length, not};
+ghost use Rattle.std.specs.Prelude.{◌≡◌, ◌<◌, ◌^◌, ◌==◌, MatchOption, true, false, option_map, length};
 ghost use Rattle.job_core.specs.Core.{same};
 ghost use Rattle.board_law.specs.Lists.{all, has, tally, at};
-ghost use Rattle.board_law.specs.Board.{holds};
-ghost use Rattle.board_law.specs.Pick.{pick};
+ghost use Rattle.board_law.specs.Board.{has_fiber, holds};
+ghost use Rattle.board_law.specs.Pick.{given};
 ghost use Rattle.board_law.specs.Passes.{on_fiber};
 ghost use Rattle.job_queues.specs.Names.{picked};
 ghost use Rattle.job_machine.specs.Seats.{IsHolder, IsDrawn};
@@ -12,13 +12,13 @@ use super::machine::Machine;
 use super::tables::{entry, place_of};
 use counters::CounterKey;
 use job_core::names::JobName;
-use job_queues::{Fiber, Pick};
+use job_queues::{Fiber, Pick, fibers_wanted};
 
 // What a board asks its machine before it does an event. None of these takes memory.
 impl Machine {
     /// What an idle worker is given, with nothing taken out.
     pub fn peek(&self) -> Option<Pick>
-        ensures { option_map picked result ≡ pick (tally not self.now.seats.taken) self.now.queues }
+        ensures { option_map picked result ≡ given self.now }
     {
         self.queues.peek(self.pool.free())
     }
@@ -61,11 +61,11 @@ impl Machine {
         self.queues.is_ready(fiber)
     }
 
-    /// How many fibers are free.
-    pub fn free(&self) -> u32
-        ensures { result ≡ tally not self.now.seats.taken }
+    /// Whether fibers enough are free for a job to start.
+    pub fn has_fiber(&self, job: JobName) -> bool
+        ensures { result ≡ has_fiber self.now.seats job }
     {
-        self.pool.free()
+        fibers_wanted(job) <= self.pool.free()
     }
 
     /// How many frames are shown.

@@ -70,7 +70,7 @@ impl Lane {
     }
 
     pub(crate) fn peek(&self, free: u32) -> Option<Pick>
-        ensures { option_map picked result ≡ lane free self.now.ready.items self.now.fresh.items None }
+        ensures { option_map picked result ≡ lane (may_start free) self.now.ready.items self.now.fresh.items None }
     {
         if let Some(fiber) = self.ready.front() {
             return Some(Pick::Ready(*fiber));
@@ -80,7 +80,7 @@ impl Lane {
     }
 
     pub(crate) fn pick(&mut self, free: u32) -> Option<Pick>
-        ensures value { option_map picked result ≡ lane free self.old.ready.items self.old.fresh.items None }
+        ensures value { option_map picked result ≡ lane (may_start free) self.old.ready.items self.old.fresh.items None }
         ensures after { IsPickedFrom result self.old.ready.items self.new.ready.items self.old.fresh.items self.new.fresh.items }
         ensures room { deque_capacity self.new.ready ≡ deque_capacity self.old.ready }
     {

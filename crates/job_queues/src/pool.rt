@@ -1,4 +1,4 @@
-ghost use Rattle.std.specs.Prelude.{◌≡◌, ◌<◌, ◌≤◌, ◌≢◌, not, true, false, length, replicate, slice_get, Some, count_by, position, IfOk, IfSome, OnOk, OnErr};
+ghost use Rattle.std.specs.Prelude.{◌≡◌, ◌<◌, ◌≤◌, ◌≢◌, not, true, false, length, replicate, slice_get, Some, position, IfOk, IfSome, OnOk, OnErr};
 ghost use Rattle.board_law.specs.Lists.{tally, write, first_place};
 
 use super::fiber::Fiber;
@@ -12,21 +12,23 @@ pub struct NoFiber;
 #[derive(Clone, Copy, Debug, PartialEq, Eq)]
 pub struct NotTaken;
 
-/// Which fibers are taken. It lies in a fixed table and takes no memory.
+/// Which fibers are taken, and how many are not. It lies in a fixed table and takes no memory.
 #[derive(Drop)]
 pub struct FiberPool {
     taken: [bool; 128],
     count: usize,
+    free: u32,
 }
 
 impl Model for FiberPool {
-    ghost use Rattle.std.specs.Prelude.{Bool, List, take, ◌≤◌};
+    ghost use Rattle.std.specs.Prelude.{◌≡◌, ◌≤◌, Bool, List, not, take};
+    ghost use Rattle.board_law.specs.Lists.{tally};
 
     ghost Value = { List Bool };
 
     ghost view = { λ p. take p.count p.taken };
 
-    ghost invariant = { λ p. p.count ≤ 128 };
+    ghost invariant = { λ p. (p.count ≤ 128) × (p.free ≡ tally not (take p.count p.taken)) };
 }
 
 fn position_of_free(taken: &[bool]) -> Option<usize>
@@ -34,13 +36,6 @@ fn position_of_free(taken: &[bool]) -> Option<usize>
     ensures bound { IfSome result (λ i. i < length taken.now) }
 {
     taken.iter().position(|taken| !*taken)
-}
-
-fn count_of_free(taken: &[bool]) -> usize
-    ensures count { result ≡ count_by not taken.now }
-    ensures bound { result ≤ length taken.now }
-{
-    taken.iter().filter(|taken| !**taken).count()
 }
 
 impl FiberPool {
@@ -52,6 +47,7 @@ impl FiberPool {
         FiberPool {
             taken: [false; 128],
             count: fibers as usize,
+            free: fibers,
         }
     }
 
@@ -59,7 +55,7 @@ impl FiberPool {
     pub fn free(&self) -> u32
         ensures { result ≡ tally not self.now }
     {
-        count_of_free(&self.taken[..self.count]) as u32
+        self.free
     }
 
     /// The lowest free fiber. It takes no memory.
@@ -74,6 +70,7 @@ impl FiberPool {
             return Err(NoFiber);
         };
         self.taken[at] = true;
+        self.free -= 1;
         Ok(Fiber(at as u32))
     }
 
@@ -92,6 +89,7 @@ impl FiberPool {
             return Err(NotTaken);
         }
         self.taken[at] = false;
+        self.free += 1;
         Ok(())
     }
 }

@@ -4,6 +4,7 @@ ghost use Rattle.board_law.specs.Lists.{all, has};
 ghost use Rattle.board_law.specs.Board.{put_all};
 ghost use Rattle.board_law.specs.Pick.{pick};
 ghost use Rattle.job_queues.specs.Names.{level, picked};
+ghost use Rattle.job_queues.specs.Lanes.{may_start};
 ghost use Rattle.job_queues.specs.Waiting.{empty, with_fresh, put_new, put_ready, without_job, without_fiber};
 ghost use Rattle.job_queues.specs.Picks.{after_pick};
 
@@ -81,7 +82,7 @@ impl Queues {
 
     /// What `pick` would answer, with nothing taken out. It takes no memory.
     pub fn peek(&self, free: u32) -> Option<Pick>
-        ensures { option_map picked result ≡ pick free self.now.queues }
+        ensures { option_map picked result ≡ pick (may_start free) self.now.queues }
     {
         if let Some(pick) = self.high.peek(free) {
             return Some(pick);
@@ -123,7 +124,7 @@ impl Queues {
     /// Takes out, of the highest priority that has one, the first ready fiber, or else the first new job that may
     /// start where so many fibers are free. The time is that of a look at the jobs before it.
     pub fn pick(&mut self, free: u32) -> Option<Pick>
-        ensures value { option_map picked result ≡ pick free self.old.queues }
+        ensures value { option_map picked result ≡ pick (may_start free) self.old.queues }
         ensures after { self.new ≡ after_pick result self.old }
     {
         if let Some(pick) = self.high.pick(free) {

@@ -1,9 +1,9 @@
-use Rattle.std.proofs.Common.{◌≡◌, ℕ, not, Ok, Err, Some, None, option_map, sym, ap, ◌∙◌, subst}
+use Rattle.std.proofs.Common.{◌≡◌, ℕ, Ok, Err, Some, None, option_map, sym, ap, ◌∙◌, subst}
 use Rattle.job_core.specs.declared.names.Event.TheVariants.{Start, Resume}
 use Rattle.job_core.specs.Core.{IsIdle, IsLegal, IsLegalList}
-use Rattle.board_law.specs.Lists.{tally, first_place}
+use Rattle.board_law.specs.Lists.{first_place}
 use Rattle.board_law.specs.Board.{Held, core_of, holds}
-use Rattle.board_law.specs.Pick.{Ready, New, pick}
+use Rattle.board_law.specs.Pick.{Ready, New, given}
 use Rattle.job_log.specs.Logged.{setup_of, kept}
 use Rattle.job_log.specs.Looks.{Always, IsGivenTo, IsPlace, as_pick}
 use Rattle.job_log.specs.declared.next.Next.TheVariants as next
@@ -38,8 +38,8 @@ returns-in-Start-clause-legal c =
 pub returns-in-Start-clause-given : goal.returns-in-Start-clause-given
 returns-in-Start-clause-given c =
     let is : c.in-Ok.given ≡ Some (next.Start c.in-Start.job) = c.in-Some-given.is ∙ ap Some c.in-Start.is in
-    let picked = subst (λ o. (q : ℕ → ℕ → ℕ) → IsLegalList (setup_of c.self.inside.jobs q) c.self.inside.jobs.events → option_map as_pick o ≡ pick (tally not (kept c.self.inside.jobs q).seats.taken) (kept c.self.inside.jobs q).queues) is c.in-Ok.ensures.picked in
-    let found = sym (known_of c.self.inside.session.now c.self.inside.jobs c.self.inside.shelf c.self.invariant (λ v q. Some (New c.in-Start.job) ≡ pick (tally not (kept v q).seats.taken) (kept v q).queues) picked) in
+    let picked = subst (λ o. (q : ℕ → ℕ → ℕ) → IsLegalList (setup_of c.self.inside.jobs q) c.self.inside.jobs.events → option_map as_pick o ≡ given (kept c.self.inside.jobs q)) is c.in-Ok.ensures.picked in
+    let found = sym (known_of c.self.inside.session.now c.self.inside.jobs c.self.inside.shelf c.self.invariant (λ v q. Some (New c.in-Start.job) ≡ given (kept v q)) picked) in
     (c.in-Some.ensures.lowest, subst (λ p. pick_in p ≡ Some (New c.in-Start.job)) c.self.view_is found)
 
 pub returns-in-Resume-clause-legal : goal.returns-in-Resume-clause-legal
@@ -54,11 +54,11 @@ returns-in-Resume-clause-legal c =
 pub returns-in-Resume-clause-given : goal.returns-in-Resume-clause-given
 returns-in-Resume-clause-given c =
     let is : c.in-Ok.given ≡ Some (next.Resume c.in-Resume.field-0 c.in-Resume.held) = c.in-Some-given.is ∙ ap Some c.in-Resume.is in
-    let picked = subst (λ o. (q : ℕ → ℕ → ℕ) → IsLegalList (setup_of c.self.inside.jobs q) c.self.inside.jobs.events → option_map as_pick o ≡ pick (tally not (kept c.self.inside.jobs q).seats.taken) (kept c.self.inside.jobs q).queues) is c.in-Ok.ensures.picked in
+    let picked = subst (λ o. (q : ℕ → ℕ → ℕ) → IsLegalList (setup_of c.self.inside.jobs q) c.self.inside.jobs.events → option_map as_pick o ≡ given (kept c.self.inside.jobs q)) is c.in-Ok.ensures.picked in
     let place = subst (λ o. (q : ℕ → ℕ → ℕ) → IsLegalList (setup_of c.self.inside.jobs q) c.self.inside.jobs.events → IsPlace (kept c.self.inside.jobs q) o) is c.in-Ok.ensures.place in
     let job : c.held.inside.job ≡ c.in-Resume.held.job = ap (λ (h : Held). h.job) c.held.view_is in
     let b = seen_as c.self.inside.session.now c.self.inside.jobs in
-    let found = sym (known_of c.self.inside.session.now c.self.inside.jobs c.self.inside.shelf c.self.invariant (λ v q. Some (Ready c.in-Resume.field-0) ≡ pick (tally not (kept v q).seats.taken) (kept v q).queues) picked) in
+    let found = sym (known_of c.self.inside.session.now c.self.inside.jobs c.self.inside.shelf c.self.invariant (λ v q. Some (Ready c.in-Resume.field-0) ≡ given (kept v q)) picked) in
     let holder = known_of c.self.inside.session.now c.self.inside.jobs c.self.inside.shelf c.self.invariant (λ v q. first_place (holds c.in-Resume.held.job) (kept v q).seats.jobs ≡ c.in-Resume.field-0) place in
     let given : pick_in b ≡ Some (Ready (first_place (holds c.held.inside.job) (core_of (setup_in b) b.events).seats.jobs)) =
     found ∙ (ap (λ x. Some (Ready x)) (sym holder) ∙ ap (λ j. Some (Ready (first_place (holds j) (core_of (setup_in b) b.events).seats.jobs))) (sym job)) in
