@@ -45,7 +45,7 @@ pub set_numbered : (numbers : List (Option ℕ)) (i : ℕ) (o : Option ℕ) → 
 set_numbered numbers i o own before place number h =
     elim (set_cases numbers i place o) [ inl w ↦ own number (sym w.1 ∙ h) ∙ sym w.0 | inr e ↦ before place number (sym e ∙ h) ]
 
-some_same : (a b : ℕ) → Some a ≡ Some b → a ≡ b
+pub some_same : (a b : ℕ) → Some a ≡ Some b → a ≡ b
 some_same a b e = cc
 
 -- ---- a place that is filled

@@ -8,7 +8,7 @@ use Rattle.draw_list.specs.declared.band.Band.{Band}
 use Rattle.frame_params.specs.Contents.{band_in}
 use Rattle.frame_print.specs.Tables.{LacksBand, AreAtTheirNumbers}
 use Rattle.frame_print.proofs.Drawn.{one_more}
-use Rattle.frame_print.proofs.Places.{each, emptied_is, emptied_numbered, emptied_length}
+use Rattle.frame_print.proofs.Places.{some_same, each, emptied_is, emptied_numbered, emptied_length}
 
 -- the bands below n are taken; the places have these frames and these numbers
 pub record IsTaking (g : Game) (f n : ℕ) (old : List (Option ℕ)) (into : List Band) (frames numbers : List (Option ℕ)) : Type 0 where
@@ -38,9 +38,6 @@ lacks_none old frames f n bands below same none = (n, below, λ h. let wrong : N
 
 pub lacks_place : (old frames : List (Option ℕ)) (f n bands : ℕ) → n < bands → get_or frames n None ≡ get_or old n None → length frames ≤ n → LacksBand old f bands
 lacks_place old frames f n bands below same past = lacks_none old frames f n bands below same (get_or-eq_default frames None past)
-
-some_same : (a b : ℕ) → Some a ≡ Some b → a ≡ b
-some_same a b e = cc
 
 -- another band lies there: since it has the place of its number, it is of another frame
 pub lacks_other : (old frames numbers : List (Option ℕ)) (f n bands frame number : ℕ) → n < bands → get_or frames n None ≡ get_or old n None
