@@ -106,9 +106,7 @@ where
     while let Some(putter) = putters.pop() {
         let worker = putters.len() as u32;
         let share = all.split_off(1, 0);
-        match start(
-            scope, rt, alloc, session, hall, gate, worker, share, putter,
-        ) {
+        match start(scope, rt, alloc, session, hall, gate, worker, share, putter) {
             Some(seat) => crew.push_reserved(seat),
             None => {
                 hall.stop(rt);
