@@ -5,6 +5,7 @@ mod bytes;
 mod crew;
 mod fault;
 mod hiring;
+mod opening;
 mod seats;
 mod whole_run;
 
