@@ -1,5 +1,5 @@
 -- Marks of cells, level by level.
-use Rattle.std.proofs.Common.{◌*◌, take, drop, ◌++◌, [], ◌≡◌, ◌≢◌, ℕ, zero, suc, ◌+◌, ◌<◌, ◌≤◌, ◌⊎◌, inl, inr, Bool, true, false, List, length, set, refl, sym, ap, subst, ◌∙◌, arith, ⊎_elim, get_or-set_same, get_or-set_other}
+use Rattle.std.proofs.Common.{◌*◌, take, drop, ◌++◌, ◌≡◌, ◌≢◌, ℕ, zero, suc, ◌+◌, ◌<◌, ◌≤◌, inl, inr, Bool, true, false, List, length, set, refl, sym, ap, subst, ◌∙◌, arith, ⊎_elim, get_or-set_same, get_or-set_other}
 use Rattle.std.specs.Prelude.{slice_index, Some}
 use Rattle.std.proofs.Math.Seq.{take-append_seam}
 use Rattle.std.proofs.lemmas.Bool.{both_ways, cases_Bool, cases_eq, cases_lt}
@@ -10,7 +10,7 @@ use Rattle.grid_world.specs.Grid.{Grid, Point, place_of}
 use Rattle.grid_world.specs.Way.{way}
 use Rattle.grid_world.specs.World.{IsSized}
 use Rattle.grid_path.specs.Bordered.{IsNext, IsTable, stride_of, number_of}
-use Rattle.grid_path.specs.Levels.{at, Reaches, IsBeside, Meets, Level, Nears, IsFirst, IsFound}
+use Rattle.grid_path.specs.Levels.{at, Reaches, IsBeside, Meets, Nears, IsFirst, IsFound}
 use Rattle.grid_path.specs.Distances.{IsMark, IsMeasured, AreDistances, IsSoFar, Measuring, IsLeast}
 use Rattle.grid_path.proofs.Asked.{asked_way}
 use Rattle.grid_path.proofs.Cells.{IsIn, inner_number}

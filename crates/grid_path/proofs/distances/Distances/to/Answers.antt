@@ -1,6 +1,5 @@
-use Rattle.std.proofs.Common.{◌≡◌, ◌+◌, ◌≤◌, ℕ, Bool, List, length, take, drop, ◌++◌, arith, ap, sym, subst, ◌∙◌}
+use Rattle.std.proofs.Common.{◌≡◌, ℕ, List, length, arith, sym, subst}
 use Rattle.grid_world.specs.World.{point}
-use Rattle.grid_path.specs.Bordered.{number_of}
 use Rattle.grid_path.specs.Distances.{AreDistances}
 use Rattle.grid_path.proofs.Asked.{asked_inner, asked_goal}
 use Rattle.grid_path.proofs.Measured.{are_distances, written}

@@ -1,11 +1,9 @@
-use Rattle.std.proofs.Common.{◌≡◌, ◌≢◌, ◌+◌, ◌*◌, ◌<◌, ◌∙◌, ℕ, Bool, List, nat_lt, length, refl, sym, ap, subst, arith}
-use Rattle.std.specs.Prelude.{slice_index}
+use Rattle.std.proofs.Common.{◌≢◌, ◌∙◌, nat_lt, length, sym, ap}
 use Rattle.std.proofs.lemmas.Bool.{both_ways, ltb-true}
 use Rattle.grid_world.specs.Grid.{Point, same_point}
 use Rattle.grid_world.specs.World.{point}
 use Rattle.grid_world.proofs.Rows.{and_parts}
 use Rattle.grid_world.proofs.Simple.{eq-same_point}
-use Rattle.grid_path.specs.Bordered.{number_of}
 use Rattle.grid_path.proofs.Cells.{IsIn}
 use Rattle.grid_path.proofs.Measured.{marks_way, in_marks}
 use Rattle.grid_path.proofs.distances.Distances.way.Goals as goal
