@@ -1,7 +1,6 @@
 use Rattle.std.proofs.Common.{rules, ◌≡◌, ◌+◌, ◌<◌, arith, ap, ◌∙◌}
 use Rattle.std.specs.Io.KnownBytes.{Appends}
 use Rattle.std.proofs.KnownBytes.{Appends-kept}
-use Rattle.game_rules.specs.Game.{Game}
 use Rattle.game_rules.specs.Text.{texts, frame_text}
 use Rattle.run_fault.proofs.Texts.{part-of_more, part-of_whole}
 use Rattle.run_printer.proofs.printer.print.Goals as goal
