@@ -1,7 +1,7 @@
 //! One worker's queue.
 ghost use Rattle.std.specs.Prelude.{◌≡◌, ◌<◌, ◌≤◌, ◌+◌, true, false, [], ◌∷◌, ◌++◌, IfOk, MatchResult, MatchOption, List, map, vec_len, vec_capacity};
 ghost use Rattle.crossbeam_queue.specs.Passes.{view, IsSamePass, IsPassOf, ruled_capacity};
-ghost use Rattle.band_mail.specs.Relay.{log, MayPut, MayTake};
+ghost use Rattle.band_mail.specs.Relay.{log};
 
 use crate::relay::{Drains, PassLog, Puts, Relay, Roles, Takes};
 use crossbeam_queue::{Pass, RuledArrayQueue};

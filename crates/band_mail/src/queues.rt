@@ -1,5 +1,5 @@
 //! All queues of a mail, with the passes of its Taker.
-ghost use Rattle.std.specs.Prelude.{◌≡◌, ◌<◌, ◌≤◌, ◌*◌, ◌^◌, [], ◌∷◌, ◌++◌, All, MatchOption, map, slice_set, slice_index_or, vec_len, vec_capacity};
+ghost use Rattle.std.specs.Prelude.{◌≡◌, ◌<◌, ◌≤◌, ◌*◌, ◌^◌, [], ◌∷◌, ◌++◌, All, MatchOption, slice_set, slice_index_or, vec_len, vec_capacity};
 ghost use Rattle.band_mail.specs.Mails.{IsAllDelivered, all_queues, all_put};
 ghost use Rattle.band_mail.specs.Queues.{queue_names, pass_names, all_taken, HaveCapacity};
 ghost use Rattle.band_mail.specs.Relay.{MayTake};

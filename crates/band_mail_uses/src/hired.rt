@@ -1,5 +1,5 @@
 //! A thread for each worker of the run that `L` names, with its Putter and its part of a ledger, and both back.
-ghost use Rattle.std.specs.Prelude.{◌≡◌, ◌<◌, ◌≤◌, ◌+◌, ℕ, length, IsTrue, get_or, vec_len, vec_capacity};
+ghost use Rattle.std.specs.Prelude.{◌≡◌, ◌<◌, ◌≤◌, ◌+◌, ℕ, IsTrue, get_or, vec_len, vec_capacity};
 ghost use Rattle.band_mail.specs.Mails.{IsPutterOf, ArePuttersOf};
 
 use band_mail::{BandMail, Putter};

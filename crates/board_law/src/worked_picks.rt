@@ -1,5 +1,5 @@
 // Worked runs: what an idle worker is given.
-ghost use Rattle.std.specs.Prelude.{◌≡◌, [], ◌∷◌, ◌++◌, not, Some, None};
+ghost use Rattle.std.specs.Prelude.{◌≡◌, [], ◌∷◌, ◌++◌, Some, None};
 ghost use Rattle.job_core.specs.declared.names.JobName.TheVariants.{Logic, Think, Path, Draw};
 ghost use Rattle.job_core.specs.declared.names.Event.TheVariants.{Start, Finish};
 ghost use Rattle.job_core.specs.Worked.{setup_of, two_slots, two_agents, no_agents, second_begun, spread_once, asked_once, both_drawn};

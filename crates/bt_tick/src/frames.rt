@@ -1,7 +1,7 @@
 // How a machine opens, goes on with and leaves nodes. All steps of a machine are inlined into its run, since a call would
 // copy the frame that it takes.
 
-ghost use Rattle.std.specs.Prelude.{◌≡◌, ◌<◌, ◌≤◌, ◌+◌, ◌-◌, ◌*◌, ◌^◌, ◌∷◌, List, length, drop, IfOk};
+ghost use Rattle.std.specs.Prelude.{◌≡◌, ◌<◌, ◌≤◌, ◌+◌, ◌-◌, ◌*◌, ◌^◌, ◌∷◌, length, drop, IfOk};
 ghost use Rattle.bt_nodes.specs.Plain.{Plain, plain, plains};
 ghost use Rattle.bt_nodes.specs.Sizes.{size};
 ghost use Rattle.game_rules.specs.View.{View};

@@ -1,5 +1,4 @@
-ghost use Rattle.std.specs.Prelude.{◌≡◌, ℕ, ◌<◌, ◌≤◌, ◌^◌, ◌↔◌, List, length, slice_index, slice_set, slice_get, IfOk, IsTrue};
-ghost use Rattle.bt_nodes.specs.Plain.{plain};
+ghost use Rattle.std.specs.Prelude.{◌≡◌, ℕ, ◌<◌, List, length, slice_index, slice_set, slice_get, IfOk};
 ghost use Rattle.bt_nodes.specs.Bounds.{Fits, zero_memory};
 ghost use Rattle.bt_nodes.specs.Trees.{plain_of};
 

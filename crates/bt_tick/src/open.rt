@@ -1,6 +1,6 @@
 // How a machine opens a node.
 
-ghost use Rattle.std.specs.Prelude.{◌≡◌, ◌<◌, ◌≤◌, ◌+◌, ◌-◌, ◌*◌, ◌^◌, ◌∷◌, length, IfOk};
+ghost use Rattle.std.specs.Prelude.{◌≡◌, ◌<◌, ◌≤◌, ◌+◌, ◌-◌, ◌*◌, length, IfOk};
 ghost use Rattle.bt_nodes.specs.Plain.{plain, plains, none, tree};
 ghost use Rattle.bt_nodes.specs.Sizes.{size};
 ghost use Rattle.game_rules.specs.View.{View};

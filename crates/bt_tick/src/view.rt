@@ -1,4 +1,4 @@
-ghost use Rattle.std.specs.Prelude.{◌≡◌, ◌+◌, ◌<◌, length};
+ghost use Rattle.std.specs.Prelude.{◌≡◌, ◌+◌, ◌<◌};
 ghost use Rattle.grid_world.specs.Grid.{is_spot};
 ghost use Rattle.grid_world.specs.World.{IsStanding};
 ghost use Rattle.game_rules.specs.View.{self_of, gap};

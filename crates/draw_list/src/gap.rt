@@ -1,5 +1,5 @@
 // Whether bands are those of a map, by their numbers and sizes.
-ghost use Rattle.std.specs.Prelude.{◌≡◌, ◌≤◌, ◌<◌, ◌+◌, ◌^◌, length};
+ghost use Rattle.std.specs.Prelude.{◌≡◌, ◌≤◌, ◌<◌, ◌+◌};
 ghost use Rattle.draw_list.specs.Bands.{stands_at, gap_from, band_height};
 
 use crate::band::{BAND_ROWS, Band};

@@ -1,5 +1,4 @@
 ghost use Rattle.std.specs.Prelude.{◌≡◌, IfOk, length};
-ghost use Rattle.std.specs.Arc.{arc_value};
 ghost use Rattle.grid_world.specs.Intents.{apply_all};
 ghost use Rattle.frame_params.specs.Logic.{IsGathered};
 

@@ -1,7 +1,5 @@
-ghost use Rattle.std.specs.Prelude.{◌≡◌, ◌+◌, ◌<◌, IfOk, IsOk, true, false, map, length, get_or};
-ghost use Rattle.bt_nodes.specs.Bounds.{Fits};
-ghost use Rattle.game_jobs.specs.Instance.{tree_of};
-ghost use Rattle.frame_params.specs.Names.{PartOf, AreOfAllAgents};
+ghost use Rattle.std.specs.Prelude.{◌≡◌, ◌<◌, IfOk, IsOk, true, false, map};
+ghost use Rattle.frame_params.specs.Names.{AreOfAllAgents};
 ghost use Rattle.frame_params.specs.Contents.{thought_for};
 ghost use Rattle.frame_params.specs.Logic.{AllFitOwn, IsLogicStep};
 

@@ -1,4 +1,4 @@
-ghost use Rattle.std.specs.Prelude.{◌≡◌, ◌≢◌, ◌≤◌, ◌<◌, ◌%◌, ◌==◌, ℕ, IfOk, IfSome, None, Some, true, replicate, length, slice_set, option_copied};
+ghost use Rattle.std.specs.Prelude.{◌≡◌, ◌≤◌, ◌<◌, ◌%◌, ◌==◌, IfOk, IfSome, None, Some, true, replicate, slice_set, option_copied};
 
 use crate::params::FrameParams;
 use crate::way::Way;

@@ -3,7 +3,7 @@ ghost use Rattle.grid_path.specs.Distances.{IsLeast, IsMeasured, mark_in};
 ghost use Rattle.grid_path.specs.Levels.{at, IsFound};
 ghost use Rattle.grid_world.specs.Way.{order};
 ghost use Rattle.grid_world.specs.declared.cell.Dir.{Dir};
-ghost use Rattle.std.specs.Prelude.{◌≡◌, ◌≢◌, ◌⊎◌, ◌+◌, ◌<◌, ◌≤◌, ◌^◌, ℕ, Bool, true, length, count_by, slice_index, replicate};
+ghost use Rattle.std.specs.Prelude.{◌≡◌, ◌≢◌, ◌⊎◌, ◌+◌, ◌<◌, ◌≤◌, ◌^◌, ℕ, Bool, true, length, slice_index, replicate};
 
 use crate::search::{expand_level, meet};
 use grid_world::{Answer, Dir};

@@ -1,4 +1,4 @@
-ghost use Rattle.std.specs.Prelude.{◌≡◌, ℕ, None, IfOk, IfErr, IfSome, OnOk, OnErr, true, false};
+ghost use Rattle.std.specs.Prelude.{◌≡◌, ℕ, None, IfOk, IfSome, OnOk, OnErr, true, false};
 ghost use Rattle.job_core.specs.declared.names.Event.TheVariants.{Start, Resume, Emit};
 ghost use Rattle.job_core.specs.Core.{Runs, Waits, IsLegal};
 ghost use Rattle.board_law.specs.Lists.{first_place};

@@ -1,4 +1,4 @@
-ghost use Rattle.std.specs.Prelude.{◌≡◌, ◌<◌, ℕ, IfSome, None, Some, true, false};
+ghost use Rattle.std.specs.Prelude.{◌≡◌, ◌<◌, IfSome, None, Some, true, false};
 ghost use Rattle.job_core.specs.Core.{IsIdle, IsLegal};
 ghost use Rattle.job_board.specs.Boards.{setup_in, state_in};
 ghost use Rattle.job_board.specs.Works.{IsWorkBy};

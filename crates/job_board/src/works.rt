@@ -1,4 +1,4 @@
-ghost use Rattle.std.specs.Prelude.{◌≡◌, ◌<◌, ℕ, false, None, Some, length, replicate, slice_set, slice_index_or, option_copied, IfOk, IfSome};
+ghost use Rattle.std.specs.Prelude.{◌≡◌, ◌<◌, None, Some, length, replicate, slice_set, slice_index_or, option_copied, IfOk, IfSome};
 
 use super::work::Work;
 use std::alloc::{AllocError, Global};

@@ -2,7 +2,7 @@
 ghost use Rattle.std.specs.Prelude.{◌≡◌, ◌++◌, length};
 ghost use Rattle.job_core.specs.declared.names.JobName.TheVariants.{Logic, Think, Path, Draw};
 ghost use Rattle.job_core.specs.declared.names.Event.TheVariants.{Start};
-ghost use Rattle.job_core.specs.Core.{Queued, IsLegal, IsComplete, free, state};
+ghost use Rattle.job_core.specs.Core.{IsLegal, IsComplete, free, state};
 ghost use Rattle.job_core.specs.Amounts.{most, least, holds};
 ghost use Rattle.job_core.specs.Worked.{lone, one_slot, two_slots, two_agents, no_agents, two_workers, one_frame, held_once, second_begun, second_ended, spread_once, asked_once, one_drawn, both_drawn, shared};
 

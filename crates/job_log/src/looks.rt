@@ -3,7 +3,7 @@ ghost use Rattle.job_core.specs.Core.{Waits, IsIdle, IsLegal, IsLegalList};
 ghost use Rattle.board_law.specs.Lists.{first_place};
 ghost use Rattle.board_law.specs.Board.{holds};
 ghost use Rattle.board_law.specs.Pick.{given};
-ghost use Rattle.job_log.specs.Logged.{setup_of, kept, reached};
+ghost use Rattle.job_log.specs.Logged.{setup_of, kept};
 ghost use Rattle.job_log.specs.Looks.{Always, IsOn, IsRunning, IsGivenTo, IsToShow, IsPlace, as_pick};
 
 use super::fault::BoardFault;

@@ -4,4 +4,3 @@ pub mod Picks
 pub mod Pools
 pub mod AfterPick
 pub mod Takings
-pub mod Given

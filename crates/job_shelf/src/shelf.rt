@@ -1,15 +1,14 @@
 ghost use Rattle.std.specs.Prelude.{◌≡◌, ◌<◌, ◌≤◌, ◌%◌, ◌+◌, ℕ, IfOk, Some, None, false, length, replicate, slice_get, slice_set};
-ghost use Rattle.std.specs.List.{All};
 ghost use Rattle.std.specs.Option.{IsSomeAnd};
 ghost use Rattle.job_core.specs.Core.{State};
 ghost use Rattle.job_core.specs.declared.names.Event.TheVariants.{Spread, Finish, Emit};
 ghost use Rattle.job_core.specs.declared.names.JobName.TheVariants.{Logic, Path, Draw};
 ghost use Rattle.board_law.specs.Stored.{stored_first, asked, nothing, turned, parts};
-ghost use Rattle.board_law.specs.Needed.{HasParts, IsThere, IsInSlot, IsAsked};
+ghost use Rattle.board_law.specs.Needed.{HasParts, IsInSlot, IsAsked};
 ghost use Rattle.frame_params.specs.Names.{frame_of};
 ghost use Rattle.frame_params.specs.Contents.{bands_in};
 ghost use Rattle.frame_params.specs.Tasks.{IsTaskAt};
-ghost use Rattle.job_shelf.specs.Shelf.{AskedOf, DrawnOf, IsOfGame, Stores, IsWanted, IsBeforeLast, next_done, sizes};
+ghost use Rattle.job_shelf.specs.Shelf.{Stores, IsWanted, IsBeforeLast, next_done, sizes};
 ghost use Rattle.job_shelf.specs.Dones.{game_done, job_done};
 
 use super::asking::Asking;

@@ -5,8 +5,8 @@ ghost use Rattle.grid_world.specs.Map.{grid_of};
 ghost use Rattle.std.specs.Str.{chars, bytes_eq};
 ghost use Rattle.level_text.specs.Drafts.{parts_view, node_view};
 ghost use Rattle.level_text.specs.Names.{is_in_order, names_of};
-ghost use Rattle.level_text.specs.Faults.{row_fault, limit_fault, agent_fault, place_fault, no_place, is_named};
-ghost use Rattle.level_text.specs.Kept.{tree_view, trees_view, texts_view, index_of as spelled_index};
+ghost use Rattle.level_text.specs.Faults.{row_fault, limit_fault, agent_fault, place_fault, no_place};
+ghost use Rattle.level_text.specs.Kept.{trees_view, texts_view, index_of as spelled_index};
 ghost use Rattle.level_text.specs.Levels.{value_of, of_parts, spelled, level_of as spelled_level, IsFaultOf, IsFirstOf};
 ghost use Rattle.level_text.specs.declared.named_tree.NamedTree.{NamedTree};
 

@@ -1,4 +1,4 @@
-ghost use Rattle.std.specs.Prelude.{◌≡◌, ◌≤◌, ◌^◌, ◌<◌, ℕ, List, [], ◌∷◌, ◌++◌, IfOk, IsTrue, IsOk, OnErr, ◌≢◌, false, length, take};
+ghost use Rattle.std.specs.Prelude.{◌≡◌, ◌≤◌, ◌<◌, List, [], ◌∷◌, ◌++◌, IfOk, IsTrue, ◌≢◌, false, length, take};
 ghost use Rattle.game_rules.specs.Game.{signals};
 ghost use Rattle.level_text.specs.Changes.{last_frame, changed_all, all_off};
 

@@ -1,5 +1,5 @@
-ghost use Rattle.std.specs.Prelude.{◌≡◌, ◌≢◌, ◌==◌, ◌+◌, ◌<◌, ℕ, List, [], ◌∷◌, ◌++◌, length, All, IfOk, IfErr, IfSome, IfNone, ◌⊎◌, MatchOption, Ok, Err, false};
-ghost use Rattle.level_text.specs.Scripts.{lines_of, words_of, frame_of, switch_of, letter_of, change_of, script_of};
+ghost use Rattle.std.specs.Prelude.{◌≡◌, ◌==◌, ◌+◌, ◌<◌, [], ◌∷◌, ◌++◌, length, All, IfOk, IfErr, IfSome, IfNone, ◌⊎◌, Ok, Err, false};
+ghost use Rattle.level_text.specs.Scripts.{lines_of, frame_of, switch_of, letter_of, change_of, script_of};
 
 use crate::script::Script;
 use game_rules::Change;

@@ -1,6 +1,4 @@
-ghost use Rattle.std.specs.Prelude.{◌≡◌, OnOk, OnErr, IfOk, IfErr, IsSomeAnd, MatchOption};
-ghost use Rattle.std.specs.Io.KnownBytes.{Appends, Keeps};
-ghost use Rattle.game_rules.specs.Text.{texts};
+ghost use Rattle.std.specs.Prelude.{IfOk, IfErr, IsSomeAnd};
 ghost use Rattle.play_run.specs.Games.{spelled_game};
 ghost use Rattle.play_run.specs.Plays.{IsPlayed, IsPlayFault};
 

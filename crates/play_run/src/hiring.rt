@@ -1,4 +1,4 @@
-ghost use Rattle.std.specs.Prelude.{◌≡◌, ◌+◌, ◌<◌, ◌≤◌, ℕ, true, get_or, length, vec_len, vec_capacity, Some, IfSome};
+ghost use Rattle.std.specs.Prelude.{◌≡◌, ◌+◌, ◌<◌, ◌≤◌, ℕ, true, get_or, vec_len, vec_capacity, Some, IfSome};
 ghost use Rattle.band_mail.specs.Mails.{IsPutterOf, ArePuttersOf};
 
 use crate::seats::{Seat, SeatOf};

@@ -1,4 +1,4 @@
-ghost use Rattle.std.specs.Prelude.{◌≡◌, ◌<◌, MatchResult, IfOk, IfErr, vec_len, slice_index, count_by, sum, ℕ, Some};
+ghost use Rattle.std.specs.Prelude.{◌≡◌, ◌<◌, IfOk, IfErr, count_by, sum, Some};
 ghost use Rattle.job_core.specs.Core.{IsComplete};
 ghost use Rattle.shared_board.specs.Counts.{names, names_worker, steps_of};
 ghost use Rattle.shared_board.specs.Runs.{setup_for};

@@ -1,4 +1,4 @@
-ghost use Rattle.std.specs.Prelude.{◌≡◌, ◌+◌, ◌<◌, ◌≤◌, ◌⊎◌, MatchResult, MatchOption, IfOk, IfSome, count_by, [], true, Some};
+ghost use Rattle.std.specs.Prelude.{◌≡◌, ◌+◌, ◌<◌, ◌≤◌, ◌⊎◌, MatchResult, MatchOption, IfOk, IfSome, count_by, [], Some};
 ghost use Rattle.std.specs.Coded.{Coded-set, coded_option};
 ghost use Rattle.level_text.specs.GameCode.{game_code};
 ghost use Rattle.job_core.specs.Core.{IsComplete};
