@@ -7,8 +7,6 @@ mod fault;
 mod negative;
 mod reading;
 mod request;
-#[cfg(test)]
-mod tests;
 
 pub use fault::WordsFault;
 pub use reading::read_words;
