@@ -1,5 +1,5 @@
-ghost use Rattle.std.specs.Prelude.{◌≡◌};
-ghost use Rattle.band_mail.specs.Mails.{IsPutterOf};
+ghost use Rattle.std.specs.Prelude.{◌≡◌, true, false};
+ghost use Rattle.band_mail.specs.Mails.{IsPutterOf, with_put};
 
 use band_mail::Putter;
 use frame_print::RunBand;
@@ -24,7 +24,9 @@ pub fn put_band<'t, L: RunLedger, M: Ledger, R: Wait>(
     band: RunBand<'t, L>,
 ) -> bool
     requires { IsPutterOf hall.now.mail putter.old }
-    ensures { IsPutterOf hall.now.mail putter.new × (putter.new.worker ≡ putter.old.worker) }
+    ensures putter { IsPutterOf hall.now.mail putter.new × (putter.new.worker ≡ putter.old.worker) }
+    ensures put { result ≡ true → putter.new ≡ with_put putter.old band.entry }
+    ensures kept { result ≡ false → putter.new ≡ putter.old }
 {
     let mut band = band;
     'tries: for _ in 0..TRIES {
