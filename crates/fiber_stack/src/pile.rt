@@ -102,6 +102,7 @@ impl<F: Copy, A: Allocator> Pile<F, A> {
 impl<F: Copy, A: Allocator + Clone> Pile<F, A> {
     /// Puts a value on the top. Where memory is refused it is handed back, and the stack is unchanged. It takes memory
     /// only where the depth is a multiple of eight.
+    #[inline(always)]
     pub fn push(&mut self, element: F) -> Result<(), F>
         requires { length self.old < 2 ^ 32 - 1 }
         ensures pushed { MatchResult result (λ done. self.new ≡ element ∷ self.old)
