@@ -1,4 +1,4 @@
-ghost use Rattle.std.specs.Prelude.{◌≡◌, ◌<◌, OnOk, OnErr};
+ghost use Rattle.std.specs.Prelude.{◌≡◌, ◌<◌, [], OnOk, OnErr};
 ghost use Rattle.board_law.specs.Board.{has_key, lowered, with_waiter};
 ghost use Rattle.counters.specs.Keys.{counter_of};
 ghost use Rattle.counters.specs.Rows.{started, emptied};
@@ -65,11 +65,29 @@ impl Counter {
         mem::replace(&mut self.waiters, Vec::new(alloc))
     }
 
-    pub(crate) fn wait(&mut self, fiber: Fiber) -> Result<(), AllocError>
+    /// The first that waits does so in the memory of the spare list.
+    pub(crate) fn wait(&mut self, fiber: Fiber, spare: &mut Vec<Fiber>) -> Result<(), AllocError>
+        requires { spare.old.items ≡ [] }
         ensures ok { OnOk result (self.new ≡ with_waiter fiber self.old) }
         ensures unchanged { OnErr result (self.new ≡ self.old) }
+        ensures spare { spare.new.items ≡ [] }
     {
+        if self.waiters.is_empty() {
+            mem::swap(&mut self.waiters, spare);
+        }
         self.waiters.push(fiber)?;
         Ok(())
+    }
+
+    /// What a counter leaves that is taken out.
+    pub(crate) fn into_waiters(self) -> Vec<Fiber>
+        ensures { result.items ≡ self.waiters }
+    {
+        let Self {
+            key: _,
+            left: _,
+            waiters,
+        } = self;
+        waiters
     }
 }
