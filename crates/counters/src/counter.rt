@@ -65,18 +65,31 @@ impl Counter {
         mem::replace(&mut self.waiters, Vec::new(alloc))
     }
 
-    /// The first that waits does so in the memory of the spare list.
-    pub(crate) fn wait(&mut self, fiber: Fiber, spare: &mut Vec<Fiber>) -> Result<(), AllocError>
-        requires { spare.old.items ≡ [] }
+    /// The first that waits does so in the memory of a spare list, if there is one.
+    pub(crate) fn wait(
+        &mut self,
+        fiber: Fiber,
+        spare: &mut Vec<Vec<Fiber>>,
+    ) -> Result<(), AllocError>
         ensures ok { OnOk result (self.new ≡ with_waiter fiber self.old) }
         ensures unchanged { OnErr result (self.new ≡ self.old) }
-        ensures spare { spare.new.items ≡ [] }
     {
         if self.waiters.is_empty() {
-            mem::swap(&mut self.waiters, spare);
+            self.take_room(spare);
         }
         self.waiters.push(fiber)?;
         Ok(())
+    }
+
+    fn take_room(&mut self, spare: &mut Vec<Vec<Fiber>>)
+        requires { self.old.waiters ≡ [] }
+        ensures { self.new ≡ self.old }
+    {
+        let Some(mut list) = spare.pop() else {
+            return;
+        };
+        list.clear();
+        self.waiters = list;
     }
 
     /// What a counter leaves that is taken out.

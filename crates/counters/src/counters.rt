@@ -43,8 +43,8 @@ pub enum Waits {
 pub struct Counters {
     alloc: Global,
     all: Vec<Counter>,
-    // An empty list: its memory is for the next counter for which a fiber waits.
-    spare: Vec<Fiber>,
+    // Lists of which only the memory is kept, for the next counters for which fibers wait.
+    spare: Vec<Vec<Fiber>>,
 }
 
 impl Drop for Counters {
@@ -58,14 +58,12 @@ impl Drop for Counters {
 }
 
 impl Model for Counters {
-    ghost use Rattle.std.specs.Prelude.{◌≡◌, [], List};
+    ghost use Rattle.std.specs.Prelude.{List};
     ghost use Rattle.board_law.specs.Board.{Row};
 
     ghost Value = { List Row };
 
     ghost view = { λ c. c.all.items };
-
-    ghost invariant = { λ c. c.spare.items ≡ [] };
 }
 
 fn position_of(all: &[Counter], key: CounterKey) -> Option<usize>
@@ -153,7 +151,7 @@ impl Counters {
         Some(self.all.remove(at).into_waiters())
     }
 
-    /// Takes back the memory of a list that was given out, for the next one. It takes no memory.
+    /// Takes back the memory of a list that was given out, for the next one.
     pub fn keep(&mut self, fibers: Vec<Fiber>)
         ensures { self.new ≡ self.old }
     {
@@ -161,9 +159,8 @@ impl Counters {
         if fibers.is_empty() {
             return;
         }
-        let mut fibers = fibers;
-        fibers.clear();
-        self.spare = fibers;
+        // Where there is no room for it the list is let go.
+        let _ = self.spare.push(fibers);
     }
 
     /// Keeps a fiber until the counter reaches 0, or says that it is at 0. `NotThere` where there is no such counter.
