@@ -1,10 +1,10 @@
 -- A write at the place of a key's first row is a change of that row.
-use Rattle.std.proofs.Common.{◌≡◌, ℕ, true, List, [], ◌∷◌, Option, Some, None, Result, Ok, Err, OnOk, is_ok, cond, if◌then◌else◌, find, slice_set, slice_index_or, sym, ◌∙◌, ap, refl, subst}
+use Rattle.std.proofs.Common.{◌≡◌, ◌<◌, ℕ, true, List, [], ◌∷◌, Option, Some, None, Result, Ok, Err, OnOk, is_ok, cond, if◌then◌else◌, find, slice_set, slice_index_or, sym, ◌∙◌, ap, refl, subst, arith}
 use Rattle.std.specs.Option.{is_some}
 use Rattle.job_core.specs.Core.{Counter}
 use Rattle.job_core.proofs.ByCases.{by_eq}
-use Rattle.board_law.specs.Lists.{change_first}
-use Rattle.board_law.specs.Board.{Row, has_key, first_row, lowered}
+use Rattle.board_law.specs.Lists.{drop_first, change_first}
+use Rattle.board_law.specs.Board.{Row, has_key, first_row, lowered, lower}
 use Rattle.board_law.proofs.Kit.{by_bool}
 use Rattle.job_queues.specs.Places.{IsFirst, HasNone, IsFirstPlace}
 use Rattle.counters.specs.declared.counters.CounterFault.TheVariants.{Busy}
@@ -35,6 +35,10 @@ module _ (key : Counter) (seen rows : List Row) (same : seen ≡ rows) where
 
   pub changed_there : (f : Row → Row) (i : ℕ) (row new : Row) → IsFirst (has_key key) seen i → row ≡ slice_index_or rows i row → new ≡ f row → slice_set rows i new ≡ change_first f (has_key key) rows
   changed_there f i row new h e n = ap (slice_set rows i) (n ∙ ap f e) ∙ sym ((subst (λ xs. IsFirst (has_key key) xs i) same h).changed f row)
+
+  -- a row above 1 is lowered, and stays
+  pub lowered_there : (i : ℕ) (row new : Row) → IsFirst (has_key key) seen i → row ≡ slice_index_or rows i row → 1 < row.left → new ≡ lowered row → slice_set rows i new ≡ lower key rows
+  lowered_there i row new h e more n = rw (row_there i row h e) (by_eq row.left 1 (λ b. slice_set rows i new ≡ (if b then drop_first (has_key key) rows else change_first lowered (has_key key) rows)) (λ one. absurd (omega arith)) (λ _. changed_there lowered i row new h e n))
 
 pub on_ok : {T E P : Type 0} (r : Result T E) → is_ok r ≡ true → OnOk r P → P
 on_ok (Ok x) e h = h

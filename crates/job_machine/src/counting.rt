@@ -1,11 +1,11 @@
-ghost use Rattle.std.specs.Prelude.{◌≡◌, ◌<◌, None, [], IsSomeAnd, MatchOption, OnOk, OnErr};
+ghost use Rattle.std.specs.Prelude.{◌≡◌, None, OnOk, OnErr};
 ghost use Rattle.board_law.specs.Lists.{drop_first};
 ghost use Rattle.job_core.specs.Core.{Thinks, Shown};
-ghost use Rattle.board_law.specs.Board.{has_key, first_row, raise, wait, lower, woken};
+ghost use Rattle.board_law.specs.Board.{has_key, first_row, raise, wait};
 ghost use Rattle.counters.specs.Keys.{counter_of};
 
 use super::fault::OutOfMemory;
-use counters::{CounterKey, Counters, Lowered, Waits};
+use counters::{CounterKey, Counters, Waits};
 use job_queues::Fiber;
 
 // A counter at 0 has nothing to count, and is not kept.
@@ -63,24 +63,6 @@ pub(crate) fn raise_awaited(
         }
     }
     Ok(())
-}
-
-// Lowers a counter, and takes it out at 0, with the fibers that waited for it.
-pub(crate) fn lower(counters: &mut Counters, key: CounterKey) -> Option<Vec<Fiber>>
-    requires { IsSomeAnd (first_row (counter_of key) counters.old) (λ row. 0 < row.left) }
-    ensures lowered { counters.new ≡ lower (counter_of key) counters.old }
-    ensures woken { MatchOption result ([] ≡ woken (counter_of key) counters.old) (λ fibers. fibers.items ≡ woken (counter_of key) counters.old) }
-{
-    let Ok(lowered) = counters.lower(key) else {
-        unreachable!()
-    };
-    match lowered {
-        Lowered::Left(_) => None,
-        Lowered::Zero(fibers) => {
-            without(counters, key);
-            Some(fibers)
-        }
-    }
 }
 
 // The counters of a frame that is under way from now on. A fiber waits for its thinks.

@@ -7,7 +7,7 @@ ghost use Rattle.counters.specs.Keys.{counter_of};
 ghost use Rattle.job_machine.specs.Opening.{opened};
 ghost use Rattle.job_machine.specs.Seats.{holding, left_by, less_one};
 
-use super::counting::{lower, raise, raise_awaited, raise_frame, without, without_frame};
+use super::counting::{raise, raise_awaited, raise_frame, without, without_frame};
 use super::fault::OutOfMemory;
 use super::held::Held;
 use super::settings::Settings;
@@ -313,10 +313,11 @@ impl Machine {
         requires room { length (all self.old.queues.ready) + length (woken (counter_of key) self.old.counters) ≤ length self.old.seats.jobs }
         ensures { self.new ≡ less_one self.old (counter_of key) }
     {
-        let Some(fibers) = lower(&mut self.counters, key) else {
+        let Some(fibers) = self.counters.lower_out(key) else {
             return;
         };
         wake(&mut self.queues, &self.jobs, &fibers);
+        self.counters.keep(fibers);
     }
 
     /// A worker's Think, Path or Draw is over, and lowers the counter of its kind.

@@ -90,9 +90,10 @@ impl Machine {
         if self.counters.left(CounterKey::Shown { frame }).is_none() {
             return false;
         }
-        if self.holder(JobName::Logic { frame }).is_some() {
+        // The counters are few, and mostly say no: the fibers are looked at last.
+        if self.counters.left(CounterKey::Draws { frame }).is_some() {
             return false;
         }
-        self.counters.left(CounterKey::Draws { frame }).is_none()
+        self.holder(JobName::Logic { frame }).is_none()
     }
 }

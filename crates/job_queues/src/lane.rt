@@ -75,6 +75,13 @@ impl Lane {
         if let Some(fiber) = self.ready.front() {
             return Some(Pick::Ready(*fiber));
         }
+        // Mostly no job is there, or the first one may start: then there is nothing to look through.
+        let Some(job) = self.fresh.front() else {
+            return None;
+        };
+        if fibers_wanted(*job) <= free {
+            return Some(Pick::New(*job));
+        }
         let at = first_to_start(&self.fresh, free)?;
         Some(Pick::New(self.fresh[at]))
     }
@@ -153,6 +160,14 @@ impl Lane {
         ensures fresh { self.new.fresh.items ≡ drop_first (same job) self.old.fresh.items }
         ensures ready { self.new.ready ≡ self.old.ready }
     {
+        // Mostly no job is there, or it is the first one.
+        let Some(front) = self.fresh.front() else {
+            return false;
+        };
+        if is_same(job, *front) {
+            let _job = self.fresh.pop_front();
+            return true;
+        }
         let Some(at) = first_of_job(&self.fresh, job) else {
             return false;
         };
@@ -167,6 +182,13 @@ impl Lane {
         ensures fresh { self.new.fresh ≡ self.old.fresh }
         ensures room { deque_capacity self.new.ready ≡ deque_capacity self.old.ready }
     {
+        let Some(front) = self.ready.front() else {
+            return false;
+        };
+        if fiber.0 == front.0 {
+            let _fiber = self.ready.pop_front();
+            return true;
+        }
         let Some(at) = first_of_fiber(&self.ready, fiber) else {
             return false;
         };
