@@ -1,7 +1,6 @@
 // Logs that are completed.
-use crate::case::Completion;
-use crate::streams::Taker;
 use anyhow::{Context, Result};
+use case_files::{Completion, Taker};
 use level_text::{Session, read_level, read_script};
 use replay_log::{complete, read_log, write_log};
 use std::alloc::Global;

@@ -3,15 +3,11 @@
 // `cases.txt` names the files of cases, one a line; README.md beside it says how a case is written.
 #![tactic(auto)]
 
-mod case;
 mod completing;
-mod listing;
-mod outcome;
 mod playing;
-mod streams;
 
 use anyhow::Result;
-use listing::cases_in;
+use case_files::cases_in;
 use playing::play_case;
 use std::alloc::Alloc;
 use std::fs;

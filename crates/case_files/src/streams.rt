@@ -1,4 +1,5 @@
 // A reader and a writer over bytes.
+use std::alloc::Global;
 use std::io;
 use std::io::{Read, Write};
 
@@ -29,6 +30,18 @@ pub struct Taker {
     pub room: Option<usize>,
     pub flushes: u32,
     pub flush_fails: bool,
+}
+
+impl Taker {
+    /// Takes all bytes, and its flushes succeed.
+    pub fn new(alloc: Global) -> Taker {
+        Taker {
+            bytes: Vec::new(alloc),
+            room: None,
+            flushes: 0,
+            flush_fails: false,
+        }
+    }
 }
 
 impl Write for Taker {

@@ -113,4 +113,12 @@ impl Case {
             counted: Vec::new(alloc),
         }
     }
+
+    /// The lengths that a file or standard input is cut to; none where nothing is cut.
+    pub fn cuts(&self) -> Option<Span> {
+        match &self.cut {
+            Some(cut) => Some(cut.lengths),
+            None => None,
+        }
+    }
 }
