@@ -1,8 +1,6 @@
-// Queues, counters, settings and logs by example: tests alone.
+// Queues, counters and settings by example: tests alone.
 #![tactic(auto)]
 
-#[cfg(test)]
-mod logs;
 #[cfg(test)]
 mod machines;
 #[cfg(test)]
