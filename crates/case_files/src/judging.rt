@@ -13,12 +13,7 @@ fn print_text<H: Print>(rt: &H, head: &str, bytes: &[u8]) -> io::Result<()> {
 }
 
 /// Whether a run came out as its case says; where it did not, prints what it gave.
-pub fn judge<H: Print>(
-    rt: &H,
-    case: &Case,
-    run: &Run<'_>,
-    outcome: &Outcome,
-) -> io::Result<bool> {
+pub fn judge<H: Print>(rt: &H, case: &Case, run: &Run<'_>, outcome: &Outcome) -> io::Result<bool> {
     let room = run.room.unwrap_or(usize::MAX);
     let Some(what) = outcome.difference(case.status, &case.out, room, &case.err) else {
         return Ok(true);
