@@ -1,4 +1,4 @@
-ghost use Rattle.std.specs.Prelude.{◌≡◌, IfOk, Some};
+ghost use Rattle.std.specs.Prelude.{◌≡◌, IfOk, IfSome, Some};
 ghost use Rattle.game_rules.specs.Game.{Game};
 ghost use Rattle.band_mail.specs.Mails.{IsPutterOf};
 ghost use Rattle.frame_params.specs.BoardSteps.{IsToldIn};
@@ -16,9 +16,10 @@ use level_text::Session;
 use run_fault::Cause;
 use run_hall::{Hall, Rest, lock_soon};
 use run_ledger::RunLedger;
+use shared_board::SharedBoard;
 use std::alloc::Global;
 use std::rt::Clock;
-use std::sync::Wait;
+use std::sync::{MutexGuard, Wait};
 use std::sync::ledger::{Ledger, Share};
 
 /// What a worker's thread hands back: its share of the events, its Putter, and the fault that it met.
@@ -50,7 +51,38 @@ fn turn_of<'t>(fault: BoardFault) -> Turn<'t>
     }
 }
 
-// Waits for a task. Where there are more, the next worker is woken.
+// Lets the lock go. Where there are more tasks, the next worker is woken.
+fn let_go<'h, 't, L: RunLedger, M: Ledger>(
+    hall: &'h Hall<'t, L, M>,
+    board: MutexGuard<'h, SharedBoard<'t, L, M>>,
+) {
+    let another = board.may_take() && hall.wants_worker();
+    drop(board);
+    if another {
+        hall.workers.wake_one();
+    }
+}
+
+// Looks for news with the lock free where there lately was some, else sleeps for it. Says whether there may be some.
+fn await_news<'h, 't, L: RunLedger, M: Ledger, R: Wait + Clock>(
+    rt: &R,
+    hall: &'h Hall<'t, L, M>,
+    rest: &mut Rest,
+    board: MutexGuard<'h, SharedBoard<'t, L, M>>,
+    had_news: bool,
+) -> (MutexGuard<'h, SharedBoard<'t, L, M>>, bool) {
+    if had_news {
+        drop(board);
+        return hall.workers.spin(rt, &hall.board, hall.pace.looks());
+    }
+    let (board, is_over) = hall.workers.doze(rt, board, rest.length());
+    if is_over {
+        rest.lengthen();
+    }
+    (board, !is_over)
+}
+
+// Waits for a task.
 fn wait_for_task<'t, L: RunLedger, M: Ledger, R: Wait + Clock>(
     rt: &R,
     session: &Session,
@@ -68,28 +100,14 @@ fn wait_for_task<'t, L: RunLedger, M: Ledger, R: Wait + Clock>(
     for _ in rt.forever() {
         match board.take(worker, session, share) {
             Ok(Some(task)) => {
-                let another = board.may_take() && hall.wants_worker();
-                drop(board);
-                if another {
-                    hall.workers.wake_one();
-                }
+                let_go(hall, board);
                 return Turn::Task(task);
             }
             Ok(None) => {
                 if board.is_done() {
                     return Turn::Over;
                 }
-                if is_news {
-                    drop(board);
-                    (board, is_news) = hall.workers.spin(rt, &hall.board, hall.pace.looks());
-                    continue;
-                }
-                let (again, is_over) = hall.workers.doze(rt, board, rest.length());
-                board = again;
-                is_news = !is_over;
-                if is_over {
-                    rest.lengthen();
-                }
+                (board, is_news) = await_news(rt, hall, rest, board, is_news);
             }
             Err(fault) => return turn_of(fault),
         }
@@ -97,7 +115,33 @@ fn wait_for_task<'t, L: RunLedger, M: Ledger, R: Wait + Clock>(
     unreachable!()
 }
 
-// Tells the board what a worker's work came to and takes the next task, in one hold of the lock; where there is none, waits for it.
+// Tells the board what a worker's work came to and takes the next task, in one hold of the lock. Whoever may go on now is woken.
+fn tell<'t, L: RunLedger, M: Ledger, R: Wait + Clock>(
+    rt: &R,
+    session: &Session,
+    hall: &Hall<'t, L, M>,
+    worker: u32,
+    told: BoardStep<'t>,
+    share: &mut Share<L>,
+) -> Result<Option<Task<'t>>, BoardFault>
+    requires run { L.game ≡ Some session.now }
+    requires own { IsToldIn session.now told }
+    requires part { share.old.parts ≡ 1 }
+    ensures part { share.new.parts ≡ 1 }
+    ensures game { IfOk result (λ task. IfSome task (λ t. game_of t ≡ session.now)) }
+{
+    let mut board = lock_soon(rt, &hall.board);
+    let taken = board.next(worker, session, told, share);
+    let is_idle = matches!(&taken, Ok(None));
+    let shows = board.may_show() && hall.wants_printer(is_idle);
+    let_go(hall, board);
+    if shows {
+        hall.printer.wake_one();
+    }
+    taken
+}
+
+// Tells the board what a worker's work came to and takes the next task; where there is none, waits for it.
 fn next_turn<'t, L: RunLedger, M: Ledger, R: Wait + Clock>(
     rt: &R,
     session: &Session,
@@ -113,19 +157,7 @@ fn next_turn<'t, L: RunLedger, M: Ledger, R: Wait + Clock>(
     ensures part { share.new.parts ≡ 1 }
     ensures game { IsTurnIn session.now result }
 {
-    let mut board = lock_soon(rt, &hall.board);
-    let taken = board.next(worker, session, told, share);
-    let another = board.may_take() && hall.wants_worker();
-    let is_idle = matches!(&taken, Ok(None));
-    let shows = board.may_show() && hall.wants_printer(is_idle);
-    drop(board);
-    if another {
-        hall.workers.wake_one();
-    }
-    if shows {
-        hall.printer.wake_one();
-    }
-    match taken {
+    match tell(rt, session, hall, worker, told, share) {
         Ok(Some(task)) => Turn::Task(task),
         Ok(None) => wait_for_task(rt, session, hall, worker, rest, share),
         Err(fault) => turn_of(fault),
@@ -152,12 +184,15 @@ fn deliver<'t, L: RunLedger, M: Ledger, R: Wait + Clock>(
     ensures game { IsTurnIn session.now result }
 {
     let (told, band) = step.deliver();
-    if let Some(band) = band {
-        if !put_band(rt, hall, putter, RunBand::new(session, band)) {
-            return Turn::Over;
-        }
+    let is_out = match band {
+        Some(band) => put_band(rt, hall, putter, RunBand::new(session, band)),
+        None => true,
+    };
+    if is_out {
+        next_turn(rt, session, hall, worker, told, rest, share)
+    } else {
+        Turn::Over
     }
-    next_turn(rt, session, hall, worker, told, rest, share)
 }
 
 // The work of a task, between the two questions to the gate. The task is let go with the lock free.

@@ -170,10 +170,8 @@ fn check_command<'a>(alloc: Global) -> Result<Command<'a>, AllocError>
 fn top_command<'a>(alloc: Global) -> Command<'a>
     ensures { app_of result ≡ on_top (λ s. record s { no_binary_name = true }) (new_app (codes "btworld")) }
 {
-    Command::new(alloc, "btworld")
+    new_command(alloc, "btworld", ABOUT, "btworld\n       btworld <COMMAND>")
         .no_binary_name(true)
-        .about(ABOUT)
-        .override_usage("btworld\n       btworld <COMMAND>")
         .after_help(STATUSES)
 }
 
