@@ -19,8 +19,8 @@ use run_ledger::RunLedger;
 use shared_board::SharedBoard;
 use std::alloc::Global;
 use std::rt::Clock;
-use std::sync::{MutexGuard, Wait};
 use std::sync::ledger::{Ledger, Share};
+use std::sync::{MutexGuard, Wait};
 
 /// What a worker's thread hands back: its share of the events, its Putter, and the fault that it met.
 #[derive(Drop)]
