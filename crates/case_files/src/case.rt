@@ -66,6 +66,8 @@ pub enum Act {
 #[derive(Drop)]
 pub struct Case {
     pub name: String,
+    /// What judging has to find different, in its own words, where the case is wrong on purpose.
+    pub differs: Option<String>,
     /// Each is a run of its own.
     pub acts: Vec<Act>,
     /// Words of a run that comes after each, and has to write the same frames.
@@ -91,6 +93,7 @@ impl Case {
     pub fn new(alloc: Global, name: String) -> Case {
         Case {
             name,
+            differs: None,
             acts: Vec::new(alloc),
             then: None,
             files: Vec::new(alloc),
@@ -111,6 +114,14 @@ impl Case {
             status: 0,
             made: Vec::new(alloc),
             counted: Vec::new(alloc),
+        }
+    }
+
+    /// What of its runs has to differ; none where the case is right.
+    pub fn foreseen(&self) -> Option<&str> {
+        match &self.differs {
+            Some(what) => Some(what.as_str()),
+            None => None,
         }
     }
 

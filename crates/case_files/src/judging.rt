@@ -12,15 +12,22 @@ fn print_text<H: Print>(rt: &H, head: &str, bytes: &[u8]) -> io::Result<()> {
     }
 }
 
-/// Whether a run came out as its case says; where it did not, prints what it gave.
+/// Whether a run differs from what its case says. Prints what it gave where that is not foreseen: a case that is right
+/// must not differ, one that is wrong on purpose has to, and in the thing that it names.
 pub fn judge<H: Print>(rt: &H, case: &Case, run: &Run<'_>, outcome: &Outcome) -> io::Result<bool> {
     let room = run.room.unwrap_or(usize::MAX);
-    let Some(what) = outcome.difference(case.status, &case.out, room, &case.err) else {
-        return Ok(true);
-    };
+    let found = outcome.difference(case.status, &case.out, room, &case.err);
+    let foreseen = case.foreseen();
+    if found == foreseen {
+        return Ok(found.is_some());
+    }
     println!(rt;
-        "{}: {what} differs (cut {:?}, room {:?})",
-        case.name, run.cut, run.room
+        "{}: {} differs, {} should (cut {:?}, room {:?})",
+        case.name,
+        found.unwrap_or("nothing"),
+        foreseen.unwrap_or("nothing"),
+        run.cut,
+        run.room
     )?;
     if let Act::Words(words) = run.act {
         println!(rt; "  words: {words:?}")?;
@@ -31,5 +38,5 @@ pub fn judge<H: Print>(rt: &H, case: &Case, run: &Run<'_>, outcome: &Outcome) ->
     )?;
     print_text(rt, "standard output", &outcome.out)?;
     print_text(rt, "standard error", &outcome.err)?;
-    Ok(false)
+    Ok(found.is_some())
 }

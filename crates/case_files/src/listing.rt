@@ -135,6 +135,7 @@ fn put_word(alloc: Global, case: &mut Case, word: &str, rest: &str) -> Result<Op
     match word {
         "words" => case.acts.push(Act::Words(words_in(alloc, rest)?))?,
         "complete" => case.acts.push(Act::Complete(completion_in(alloc, rest)?))?,
+        "differs" => case.differs = Some(String::from_str(alloc, rest)?),
         "then" => case.then = Some(words_in(alloc, rest)?),
         "lines" => case.counted.push(counted(alloc, rest)?)?,
         "status" => case.status = rest.parse::<u8>().context("status")?,

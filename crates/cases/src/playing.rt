@@ -1,5 +1,6 @@
 // Runs of the program, and what comes of them.
 use crate::completing::complete_files;
+use crate::tally::Tally;
 use anyhow::Result;
 use case_files::{
     Act, Case, Outcome, Pieces, Run, Span, Taker, judge, take_files, take_made, write_files,
@@ -9,13 +10,6 @@ use std::alloc::Global;
 use std::rt::{Clock, Files};
 use std::sync::Wait;
 use std::thread::Threads;
-
-/// How many runs a case took, and how many of them came out otherwise.
-#[derive(Clone, Copy, Drop)]
-pub struct Tally {
-    pub runs: u64,
-    pub differ: u64,
-}
 
 /// Whether the words that come after a run write the frames that the case has to write.
 fn repeats<H: Files + Threads + Wait + Clock + Sync>(rt: &H, alloc: Global, case: &Case) -> bool {
@@ -79,7 +73,7 @@ pub fn play_case<H: Files + Alloc<A = Global> + Print + Threads + Wait + Clock +
     alloc: Global,
     case: &Case,
 ) -> Result<Tally> {
-    let mut tally = Tally { runs: 0, differ: 0 };
+    let mut tally = Tally::new();
     let cuts = case.cuts();
     for act in &case.acts {
         for cut in lengths(cuts).first..=lengths(cuts).last {
@@ -90,10 +84,7 @@ pub fn play_case<H: Files + Alloc<A = Global> + Print + Threads + Wait + Clock +
                     room: within(case.room, room),
                 };
                 let outcome = play_run(rt, alloc, case, &run)?;
-                tally.runs = tally.runs.saturating_add(1);
-                if !judge(rt, case, &run, &outcome)? {
-                    tally.differ = tally.differ.saturating_add(1);
-                }
+                tally.count(judge(rt, case, &run, &outcome)?);
             }
         }
     }
