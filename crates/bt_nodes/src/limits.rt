@@ -25,15 +25,7 @@ impl<A: Allocator> Node<A> {
             Node::Not(child) | Node::Tries(_, child) | Node::Ticks(_, child) => {
                 child.has_children()
             }
-            Node::Wait(_)
-            | Node::Move(_)
-            | Node::Take
-            | Node::Drop
-            | Node::At(_)
-            | Node::Carrying
-            | Node::Item
-            | Node::Signal(_)
-            | Node::Near(_) => true,
+            _ => true,
         }
     }
 
@@ -65,15 +57,7 @@ impl<A: Allocator> Node<A> {
             Node::Not(child) | Node::Tries(_, child) | Node::Ticks(_, child) => {
                 child.has_thresholds()
             }
-            Node::Wait(_)
-            | Node::Move(_)
-            | Node::Take
-            | Node::Drop
-            | Node::At(_)
-            | Node::Carrying
-            | Node::Item
-            | Node::Signal(_)
-            | Node::Near(_) => true,
+            _ => true,
         }
     }
 
@@ -106,13 +90,7 @@ impl<A: Allocator> Node<A> {
             }
             Node::Wait(ticks) => is_count(*ticks),
             Node::Near(distance) => *distance >= 1 && *distance <= 16,
-            Node::Move(_)
-            | Node::Take
-            | Node::Drop
-            | Node::At(_)
-            | Node::Carrying
-            | Node::Item
-            | Node::Signal(_) => true,
+            _ => true,
         }
     }
 

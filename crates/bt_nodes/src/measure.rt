@@ -21,15 +21,7 @@ impl<A: Allocator> Node<A> {
             Node::Not(child) | Node::Tries(_, child) | Node::Ticks(_, child) => {
                 child.size().saturating_add(1)
             }
-            Node::Wait(_)
-            | Node::Move(_)
-            | Node::Take
-            | Node::Drop
-            | Node::At(_)
-            | Node::Carrying
-            | Node::Item
-            | Node::Signal(_)
-            | Node::Near(_) => 1,
+            _ => 1,
         }
     }
 
@@ -59,15 +51,7 @@ impl<A: Allocator> Node<A> {
             Node::Not(child) | Node::Tries(_, child) | Node::Ticks(_, child) => {
                 child.depth().saturating_add(1)
             }
-            Node::Wait(_)
-            | Node::Move(_)
-            | Node::Take
-            | Node::Drop
-            | Node::At(_)
-            | Node::Carrying
-            | Node::Item
-            | Node::Signal(_)
-            | Node::Near(_) => 1,
+            _ => 1,
         }
     }
 

@@ -44,15 +44,7 @@ impl<A: Allocator> Node<A> {
             | Node::Near(number) => Some(*number),
             Node::Move(place) | Node::At(place) => Some(u64::from(place.number())),
             Node::Signal(signal) => Some(u64::from(signal.number())),
-            Node::Seq(_)
-            | Node::Fallback(_)
-            | Node::SeqStar(_)
-            | Node::FallbackStar(_)
-            | Node::Not(_)
-            | Node::Take
-            | Node::Drop
-            | Node::Carrying
-            | Node::Item => None,
+            _ => None,
         }
     }
 
@@ -65,18 +57,7 @@ impl<A: Allocator> Node<A> {
             | Node::Par(_, children)
             | Node::SeqStar(children)
             | Node::FallbackStar(children) => children,
-            Node::Not(_)
-            | Node::Tries(_, _)
-            | Node::Ticks(_, _)
-            | Node::Wait(_)
-            | Node::Move(_)
-            | Node::Take
-            | Node::Drop
-            | Node::At(_)
-            | Node::Carrying
-            | Node::Item
-            | Node::Signal(_)
-            | Node::Near(_) => &[],
+            _ => &[],
         }
     }
 
@@ -85,20 +66,7 @@ impl<A: Allocator> Node<A> {
     {
         match self {
             Node::Not(child) | Node::Tries(_, child) | Node::Ticks(_, child) => Some(child),
-            Node::Seq(_)
-            | Node::Fallback(_)
-            | Node::Par(_, _)
-            | Node::SeqStar(_)
-            | Node::FallbackStar(_)
-            | Node::Wait(_)
-            | Node::Move(_)
-            | Node::Take
-            | Node::Drop
-            | Node::At(_)
-            | Node::Carrying
-            | Node::Item
-            | Node::Signal(_)
-            | Node::Near(_) => None,
+            _ => None,
         }
     }
 

@@ -38,15 +38,7 @@ impl<A: Allocator> Node<A> {
                 write_size(table, at, next);
                 next
             }
-            Node::Wait(_)
-            | Node::Move(_)
-            | Node::Take
-            | Node::Drop
-            | Node::At(_)
-            | Node::Carrying
-            | Node::Item
-            | Node::Signal(_)
-            | Node::Near(_) => {
+            _ => {
                 write_size(table, at, at + 1);
                 at + 1
             }

@@ -50,8 +50,8 @@ write_sizes-returns-in-Seq-clause-next g t c =
     let d = ap (λ nodes. sizes (plains nodes)) c.deref-in-Seq.ensures.value in
     omega (arith, s, d, c.write_all_sizes-next.ensures.next)
 
-pub write_sizes-returns-in-Wait-clause-written : goal.write_sizes-returns-in-Wait-clause-written
-write_sizes-returns-in-Wait-clause-written g t c =
+pub write_sizes-returns-in_default-clause-written : goal.write_sizes-returns-in_default-clause-written
+write_sizes-returns-in_default-clause-written g t c =
     let one : size (plain c.args.self.now) ≡ 1 = first_of (search (rules, the_lemmas), grind (arith, the_lemmas)) in
     let now = c.args.table.now in
     ap (take (c.args.at + 1)) c.write_size.ensures
