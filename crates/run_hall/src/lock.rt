@@ -1,22 +1,63 @@
+use crate::line::Line;
 use std::hint;
 use std::sync::{Mutex, MutexGuard, Wait};
 
-// How often a lock is tried before a thread sleeps for it, and how long it looks away between two tries: some tens of microseconds in all.
-const TRIES: u32 = 300;
+// How often a thread looks whether a lock is free before it sleeps for it, and how long it looks away between two looks: some twenty
+// microseconds in all.
+const LOOKS: u32 = 600;
 
-const LOOKS_AWAY: u32 = 12;
+const LOOKS_AWAY: u32 = 6;
+
+// Of how many looks one is a try, whatever is said of the lock.
+const EVERY: u32 = 16;
+
+/// What is said of a lock by those who take it and give it up: whether it is held. A try for a held lock takes its memory, and what lies
+/// beside it, from the core of the holder, so the others look here. It is a hint: where it is wrong, the lock is tried a little later.
+#[derive(Drop)]
+pub(crate) struct Held {
+    held: Line,
+}
+
+impl Held {
+    pub(crate) fn new() -> Held {
+        Held { held: Line::new(0) }
+    }
+
+    pub(crate) fn is_held(&self) -> bool {
+        self.held.load() != 0
+    }
+
+    /// The lock was taken.
+    pub(crate) fn take(&self) {
+        self.held.store(1);
+    }
+
+    /// The lock is about to be free.
+    pub(crate) fn give(&self) {
+        self.held.store(0);
+    }
+}
 
 /// Takes a lock that is held for less than a microsecond at a time.
 ///
-/// A thread that sleeps for a lock makes each that gives it up wake one, which takes longer than many holds; so it is tried for a while first.
-pub fn lock_soon<'m, T, R: Wait>(rt: &R, lock: &'m Mutex<T>) -> MutexGuard<'m, T> {
-    for _ in 0..TRIES {
-        if let Some(guard) = lock.try_lock() {
-            return guard;
+/// A thread that sleeps for a lock makes each that gives it up wake one, which takes longer than many holds; so it looks for a while first.
+pub(crate) fn lock_soon<'m, T, R: Wait>(
+    rt: &R,
+    lock: &'m Mutex<T>,
+    held: &Held,
+) -> MutexGuard<'m, T> {
+    for number in 1..=LOOKS {
+        if !held.is_held() || number % EVERY == 0 {
+            if let Some(guard) = lock.try_lock() {
+                held.take();
+                return guard;
+            }
         }
         for _ in 0..LOOKS_AWAY {
             hint::spin_loop();
         }
     }
-    lock.lock(rt)
+    let guard = lock.lock(rt);
+    held.take();
+    guard
 }

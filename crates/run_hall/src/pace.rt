@@ -1,5 +1,5 @@
+use crate::line::Line;
 use std::rt::Clock;
-use std::sync::atomic::{AtomicU64, Ordering};
 use std::time::Instant;
 
 // Work that is shorter is over before a thread that is woken for it has come: nanoseconds.
@@ -23,20 +23,20 @@ fn lately(old: u64, new: u64) -> u64 {
 /// a run writes depends on no clock.
 #[derive(Drop)]
 pub struct Pace {
-    nanos: AtomicU64,
+    nanos: Line,
 }
 
 impl Pace {
     /// Work is taken for long until enough of it was short.
     pub fn new() -> Pace {
         Pace {
-            nanos: AtomicU64::new(4 * SHORT),
+            nanos: Line::new(4 * SHORT),
         }
     }
 
     /// Whether the work of a task is over so soon that whoever is at work had better do the next one too.
     pub fn is_short(&self) -> bool {
-        self.nanos.load(Ordering::SeqCst) < SHORT
+        self.nanos.load() < SHORT
     }
 
     /// How often an idle worker looks for a task before it sleeps.
@@ -64,8 +64,8 @@ impl Pace {
         let Ok(took) = began.elapsed(clock) else {
             return;
         };
-        let old = self.nanos.load(Ordering::SeqCst);
+        let old = self.nanos.load();
         let new = u64::try_from(took.as_nanos()).unwrap_or(u64::MAX);
-        self.nanos.store(lately(old, new), Ordering::SeqCst);
+        self.nanos.store(lately(old, new));
     }
 }

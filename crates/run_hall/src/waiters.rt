@@ -1,50 +1,51 @@
-use crate::lock::lock_soon;
+use crate::line::Line;
+use crate::lock::{Held, lock_soon};
 use std::hint;
 use std::rt::Clock;
-use std::sync::atomic::{AtomicU64, Ordering};
 use std::sync::{Condvar, Mutex, MutexGuard, Wait};
 use std::time::Duration;
 
 /// Threads that wait for something to do under a lock. Each spins a short while and then sleeps.
 ///
-/// Whoever makes something possible asks `want_one` under the lock, and calls `wake_one` behind it where that says so. A
-/// thread that spins looks again under the lock before it sleeps, so it need not be woken.
+/// Whoever makes something possible asks `want_one` under the lock, and calls `wake_one` behind it where that says so. Of those that spin one
+/// takes the news and goes for the lock. A thread that spins looks under the lock in any case before it sleeps, so it need not be woken.
 #[derive(Drop)]
 pub struct Waiters {
+    news: Line,
+    spinning: Line,
+    sleeping: Line,
     moved: Condvar,
-    news: AtomicU64,
-    spinning: AtomicU64,
-    sleeping: AtomicU64,
 }
 
 impl Waiters {
     pub fn new() -> Waiters {
         Waiters {
+            news: Line::new(0),
+            spinning: Line::new(0),
+            sleeping: Line::new(0),
             moved: Condvar::new(),
-            news: AtomicU64::new(0),
-            spinning: AtomicU64::new(0),
-            sleeping: AtomicU64::new(0),
         }
     }
 
     /// Looks for news, so often at most, and takes the lock. Whether there were any.
-    pub fn spin<'m, T, R: Wait>(
+    pub(crate) fn spin<'m, T, R: Wait>(
         &self,
         rt: &R,
         lock: &'m Mutex<T>,
+        held: &Held,
         looks: u32,
     ) -> (MutexGuard<'m, T>, bool) {
-        self.spinning.fetch_add(1, Ordering::SeqCst);
+        self.spinning.add_one();
         let is_news = self.look(looks);
-        let guard = lock_soon(rt, lock);
-        self.spinning.fetch_sub(1, Ordering::SeqCst);
+        let guard = lock_soon(rt, lock, held);
+        self.spinning.take_one();
         (guard, is_news)
     }
 
+    // Looks for news and takes them, so that nobody else goes for the lock for the same.
     fn look(&self, looks: u32) -> bool {
-        let seen = self.news.load(Ordering::SeqCst);
         for _ in 0..looks {
-            if self.news.load(Ordering::SeqCst) != seen {
+            if self.news.load() != 0 && self.news.swap(0) != 0 {
                 return true;
             }
             hint::spin_loop();
@@ -54,39 +55,51 @@ impl Waiters {
 
     /// Gives the lock up and sleeps until it is woken.
     pub fn sleep<'m, T, R: Wait>(&self, rt: &R, guard: MutexGuard<'m, T>) -> MutexGuard<'m, T> {
-        self.sleeping.fetch_add(1, Ordering::SeqCst);
+        self.sleeping.add_one();
         let guard = self.moved.wait(rt, guard);
-        self.sleeping.fetch_sub(1, Ordering::SeqCst);
+        self.sleeping.take_one();
         guard
     }
 
     /// The same, for a while at most. Whether the while is over.
-    pub fn doze<'m, T, R: Wait + Clock>(
+    pub(crate) fn doze<'m, T, R: Wait + Clock>(
         &self,
         rt: &R,
         guard: MutexGuard<'m, T>,
+        held: &Held,
         most: Duration,
     ) -> (MutexGuard<'m, T>, bool) {
-        self.sleeping.fetch_add(1, Ordering::SeqCst);
+        self.sleeping.add_one();
+        held.give();
         let (guard, ended) = self.moved.wait_timeout(rt, guard, most);
-        self.sleeping.fetch_sub(1, Ordering::SeqCst);
+        held.take();
+        self.sleeping.take_one();
         (guard, ended.timed_out())
     }
 
     /// How many sleep. Under the lock it is exact.
     pub fn sleepers(&self) -> u64 {
-        self.sleeping.load(Ordering::SeqCst)
+        self.sleeping.load()
     }
 
-    /// Tells those that spin of something to do. Whether one that sleeps is to be woken. Called under the lock.
+    /// Tells one of those that spin of something to do. Whether one that sleeps is to be woken. Called under the lock.
     pub fn want_one(&self) -> bool {
-        self.news.fetch_add(1, Ordering::SeqCst);
-        self.spinning.load(Ordering::SeqCst) == 0 && self.sleeping.load(Ordering::SeqCst) != 0
+        if self.news.load() == 0 {
+            self.news.store(1);
+        }
+        self.spinning.load() == 0 && self.any_asleep()
+    }
+
+    /// There is nothing to do. Called under the lock.
+    pub fn want_none(&self) {
+        if self.news.load() != 0 {
+            self.news.store(0);
+        }
     }
 
     /// Whether some sleep. Under the lock it is exact.
     pub fn any_asleep(&self) -> bool {
-        self.sleeping.load(Ordering::SeqCst) != 0
+        self.sleeping.load() != 0
     }
 
     pub fn wake_one(&self) {
@@ -94,7 +107,7 @@ impl Waiters {
     }
 
     pub fn wake_all(&self) {
-        self.news.fetch_add(1, Ordering::SeqCst);
+        self.news.store(1);
         self.moved.notify_all();
     }
 }

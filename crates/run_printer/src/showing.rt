@@ -29,15 +29,15 @@ fn wait_for_frame<'m, 't, L: RunLedger, M: Ledger, R: Wait + Clock>(
     ensures { inbox.new.taker.mail ≡ hall.now.mail }
 {
     if !inbox.take_one(rt, hall) {
-        let (board, is_over) = hall.printer.doze(rt, board, rest.length());
+        let (board, is_over) = hall.doze(rt, &hall.printer, board, rest.length());
         if is_over {
             rest.lengthen();
         }
         return board;
     }
-    drop(board);
+    hall.unlock(board);
     inbox.take_all(rt, hall);
-    let (board, _) = hall.printer.spin(rt, &hall.board, LOOKS);
+    let (board, _) = hall.spin(rt, &hall.printer, LOOKS);
     if hall.room.any_asleep() {
         hall.room.wake_all();
     }
@@ -64,13 +64,13 @@ fn emit<'t, L: RunLedger, M: Ledger, R: Wait + Clock>(
     ensures inbox { inbox.new.taker.mail ≡ hall.now.mail }
 {
     let mut rest = Rest::new();
-    let (mut board, _) = hall.printer.spin(rt, &hall.board, LOOKS);
+    let (mut board, _) = hall.spin(rt, &hall.printer, LOOKS);
     for _ in rt.forever() {
         match board.emit(session, settings, emits) {
             Ok(shown) => {
                 let is_done = board.is_done();
                 let another = board.may_take() && hall.wants_worker();
-                drop(board);
+                hall.unlock(board);
                 if is_done {
                     hall.workers.wake_all();
                 }

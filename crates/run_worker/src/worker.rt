@@ -14,7 +14,7 @@ use frame_print::RunBand;
 use job_board::BoardFault;
 use level_text::Session;
 use run_fault::Cause;
-use run_hall::{Hall, Rest, lock_soon};
+use run_hall::{Hall, Rest};
 use run_ledger::RunLedger;
 use shared_board::SharedBoard;
 use std::alloc::Global;
@@ -56,8 +56,12 @@ fn let_go<'h, 't, L: RunLedger, M: Ledger>(
     hall: &'h Hall<'t, L, M>,
     board: MutexGuard<'h, SharedBoard<'t, L, M>>,
 ) {
-    let another = board.may_take() && hall.wants_worker();
-    drop(board);
+    let more = board.may_take();
+    if !more {
+        hall.workers.want_none();
+    }
+    let another = more && hall.wants_worker();
+    hall.unlock(board);
     if another {
         hall.workers.wake_one();
     }
@@ -72,10 +76,10 @@ fn await_news<'h, 't, L: RunLedger, M: Ledger, R: Wait + Clock>(
     had_news: bool,
 ) -> (MutexGuard<'h, SharedBoard<'t, L, M>>, bool) {
     if had_news {
-        drop(board);
-        return hall.workers.spin(rt, &hall.board, hall.pace.looks());
+        hall.unlock(board);
+        return hall.spin(rt, &hall.workers, hall.pace.looks());
     }
-    let (board, is_over) = hall.workers.doze(rt, board, rest.length());
+    let (board, is_over) = hall.doze(rt, &hall.workers, board, rest.length());
     if is_over {
         rest.lengthen();
     }
@@ -96,7 +100,7 @@ fn wait_for_task<'t, L: RunLedger, M: Ledger, R: Wait + Clock>(
     ensures part { share.new.parts ≡ 1 }
     ensures game { IsTurnIn session.now result }
 {
-    let (mut board, mut is_news) = hall.workers.spin(rt, &hall.board, hall.pace.looks());
+    let (mut board, mut is_news) = hall.spin(rt, &hall.workers, hall.pace.looks());
     for _ in rt.forever() {
         match board.take(worker, session, share) {
             Ok(Some(task)) => {
@@ -130,7 +134,7 @@ fn tell<'t, L: RunLedger, M: Ledger, R: Wait + Clock>(
     ensures part { share.new.parts ≡ 1 }
     ensures game { IfOk result (λ task. IfSome task (λ t. game_of t ≡ session.now)) }
 {
-    let mut board = lock_soon(rt, &hall.board);
+    let mut board = hall.lock(rt);
     let taken = board.next(worker, session, told, share);
     let is_idle = matches!(&taken, Ok(None));
     let shows = board.may_show() && hall.wants_printer(is_idle);

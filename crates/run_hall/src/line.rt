@@ -1,0 +1,41 @@
+use std::sync::atomic::{AtomicU64, Ordering};
+
+/// A number that many threads read and write, with room on both sides: no other one lies on the same line of a cache, so who uses its
+/// neighbours is not disturbed.
+#[derive(Drop)]
+pub(crate) struct Line {
+    before: [u64; 8],
+    number: AtomicU64,
+    behind: [u64; 8],
+}
+
+impl Line {
+    pub(crate) fn new(number: u64) -> Line {
+        Line {
+            before: [0; 8],
+            number: AtomicU64::new(number),
+            behind: [0; 8],
+        }
+    }
+
+    pub(crate) fn load(&self) -> u64 {
+        self.number.load(Ordering::SeqCst)
+    }
+
+    pub(crate) fn store(&self, number: u64) {
+        self.number.store(number, Ordering::SeqCst);
+    }
+
+    /// Puts a number there, and gives the one that was.
+    pub(crate) fn swap(&self, number: u64) -> u64 {
+        self.number.swap(number, Ordering::SeqCst)
+    }
+
+    pub(crate) fn add_one(&self) {
+        self.number.fetch_add(1, Ordering::SeqCst);
+    }
+
+    pub(crate) fn take_one(&self) {
+        self.number.fetch_sub(1, Ordering::SeqCst);
+    }
+}
