@@ -50,33 +50,29 @@ impl Model for Ground {
 }
 
 impl Ground {
-    /// The ground of these cells, row after row, with what `floor_in`, `doors_in` and `text_in` make of them. Takes no
-    /// memory.
+    /// The ground of these cells, row after row. Takes time linear in their number.
     pub fn new(
+        alloc: Global,
         columns: u32,
         rows: u32,
         kinds: Vec<Cell>,
-        floor: Vec<bool>,
-        doors: Vec<u32>,
-        text: Vec<u8>,
-    ) -> Ground
+    ) -> Result<Ground, AllocError>
         requires sized { IsSized (bare columns rows kinds.items) }
         requires placed { All IsPlaced kinds.items }
-        requires floor { floor.items ≡ map (is_passable no_signals) kinds.items }
-        requires doors { ListsDoors doors.items kinds.items }
-        requires text { text.items ≡ lines (bare columns rows kinds.items) no_signals 0 rows }
-        ensures { result ≡ bare columns rows kinds.items }
+        ensures { IfOk result (λ ground. ground ≡ bare columns rows kinds.items) }
     {
-        let spots = spots_in(&kinds);
-        Ground {
+        let floor = floor_in(alloc, &kinds)?;
+        let doors = doors_in(alloc, &kinds)?;
+        let text = text_in(alloc, columns, rows, &kinds)?;
+        Ok(Ground {
             columns,
             rows,
-            kinds,
             floor,
             doors,
-            spots,
+            spots: spots_in(&kinds),
             text,
-        }
+            kinds,
+        })
     }
 
     /// The cells, row after row.
@@ -201,8 +197,8 @@ fn is_door(cell: &Cell) -> bool
     }
 }
 
-/// For each cell whether it can be stepped on while all signals are off.
-pub fn floor_in(alloc: Global, kinds: &[Cell]) -> Result<Vec<bool>, AllocError>
+// For each cell whether it can be stepped on while all signals are off.
+fn floor_in(alloc: Global, kinds: &[Cell]) -> Result<Vec<bool>, AllocError>
     ensures { IfOk result (λ floor. floor.items ≡ map (is_passable no_signals) kinds.now) }
 {
     let off = Signals::off();
@@ -212,8 +208,8 @@ pub fn floor_in(alloc: Global, kinds: &[Cell]) -> Result<Vec<bool>, AllocError>
         .collect(alloc)
 }
 
-/// The numbers of the cells with a door, in rising order.
-pub fn doors_in(alloc: Global, kinds: &[Cell]) -> Result<Vec<u32>, AllocError>
+// The numbers of the cells with a door, in rising order.
+fn doors_in(alloc: Global, kinds: &[Cell]) -> Result<Vec<u32>, AllocError>
     requires { length kinds.now ≤ 16384 }
     ensures { IfOk result (λ doors. ListsDoors doors.items kinds.now) }
 {
@@ -226,13 +222,8 @@ pub fn doors_in(alloc: Global, kinds: &[Cell]) -> Result<Vec<u32>, AllocError>
     Ok(doors)
 }
 
-/// The text of all rows while all signals are off: for each the glyphs of its cells, from the left, and a line feed.
-pub fn text_in(
-    alloc: Global,
-    columns: u32,
-    rows: u32,
-    kinds: &[Cell],
-) -> Result<Vec<u8>, AllocError>
+// The text of all rows while all signals are off: for each the glyphs of its cells, from the left, and a line feed.
+fn text_in(alloc: Global, columns: u32, rows: u32, kinds: &[Cell]) -> Result<Vec<u8>, AllocError>
     requires { IsSized (bare columns rows kinds.now) }
     ensures { IfOk result (λ text. text.items ≡ lines (bare columns rows kinds.now) no_signals 0 rows) }
 {

@@ -8,7 +8,7 @@ ghost use Rattle.grid_world.specs.Ground.{ListsDoors, no_signals};
 use crate::cell::{Agent, Cell};
 use crate::fault::MapFault;
 use crate::glyph::glyph_of;
-use crate::ground::{Ground, doors_in, floor_in, text_in};
+use crate::ground::Ground;
 use crate::map::{
     agents_in, cells_in, first_width, has_letters, has_size, items_in, marks_in, strange_mark,
 };
@@ -98,10 +98,7 @@ impl World {
         let kinds = cells_in(alloc, &marks)?;
         let has_item = items_in(alloc, &marks)?;
         let crew = agents_in(alloc, columns, &marks)?;
-        let floor = floor_in(alloc, &kinds)?;
-        let doors = doors_in(alloc, &kinds)?;
-        let text = text_in(alloc, columns, rows.len() as u32, &kinds)?;
-        let ground = Ground::new(columns, rows.len() as u32, kinds, floor, doors, text);
+        let ground = Ground::new(alloc, columns, rows.len() as u32, kinds)?;
         match Arc::new(alloc, ground) {
             Ok(ground) => Ok(World {
                 ground,

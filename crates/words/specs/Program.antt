@@ -4,6 +4,7 @@ use Rattle.std.specs.Str.Parse.{digits_value, without_leading_plus}
 use Rattle.clap.specs.Words.{App, IsAmong, Row, Rule, Text, fault_of, first_of, new_app, new_rule, subcommand_of, with_rule, with_subcommand}
 use Rattle.clap.specs.declared.error.kind.ErrorKind.TheVariants as kinds
 use Rattle.clap.specs.Simple.{on_top}
+use Rattle.clap.specs.declared.builder.value_parser.ValueParser.{ValueParser}
 use Rattle.clap.specs.declared.builder.value_parser.ValueParser.TheVariants as parsers
 use Rattle.job_machine.specs.Numbers.{Numbers}
 use Rattle.words.specs.declared.fault.WordsFault.{WordsFault}
@@ -11,13 +12,21 @@ use Rattle.words.specs.declared.fault.WordsFault.TheVariants.{Help}
 use Rattle.words.specs.declared.request.Words.{Words}
 use Rattle.words.specs.declared.request.Words.TheVariants.{Piped, Play, Replay, Check}
 
--- a required option with a number in a range
-abbrev pub number_rule : Text → ℕ → ℕ → Rule
-number_rule name least most = record (new_rule name) { long = Some name; required = true; parser = Some (parsers.Signed (pos least) (pos most)) }
+-- takes a number in a range
+abbrev pub in_range : ℕ → ℕ → ValueParser
+in_range least most = parsers.Signed (pos least) (pos most)
 
--- an option with a number in a range, and its default
+-- an option with a number in a range
+abbrev pub ranged_rule : Text → ℕ → ℕ → Rule
+ranged_rule name least most = record (new_rule name) { long = Some name; parser = Some (in_range least most) }
+
+-- a required one
+abbrev pub number_rule : Text → ℕ → ℕ → Rule
+number_rule name least most = record (ranged_rule name least most) { required = true }
+
+-- one with a default
 abbrev pub default_rule : Text → ℕ → ℕ → Text → Rule
-default_rule name least most value = record (new_rule name) { long = Some name; defaults = value ∷ []; parser = Some (parsers.Signed (pos least) (pos most)) }
+default_rule name least most value = record (ranged_rule name least most) { defaults = value ∷ [] }
 
 -- an option with a path
 abbrev pub path_rule : Text → Rule
@@ -27,11 +36,21 @@ path_rule name = record (new_rule name) { long = Some name }
 abbrev pub word_rule : Text → Rule
 word_rule name = record (new_rule name) { required = true }
 
+-- `--frames N --workers K`
+abbrev pub with_run : App → App
+with_run a = with_rule (with_rule a (number_rule (codes "frames") 0 9999)) (number_rule (codes "workers") 1 16)
+
+-- `[--fibers F] [--slots P]`
+abbrev pub with_room : App → App
+with_room a = with_rule (with_rule a (default_rule (codes "fibers") 3 64 (codes "16"))) (default_rule (codes "slots") 1 16 (codes "3"))
+
+-- `[--script FILE] [--log FILE]`
+abbrev pub with_files : App → App
+with_files a = with_rule (with_rule a (path_rule (codes "script"))) (path_rule (codes "log"))
+
 -- `play LEVEL --frames N --workers K [--fibers F] [--slots P] [--script FILE] [--log FILE]`
 abbrev pub play : App
-play = with_rule (with_rule (with_rule (with_rule (with_rule (with_rule (with_rule (new_app (codes "play")) (word_rule (codes "level")))
-    (number_rule (codes "frames") 0 9999)) (number_rule (codes "workers") 1 16)) (default_rule (codes "fibers") 3 64 (codes "16")))
-    (default_rule (codes "slots") 1 16 (codes "3"))) (path_rule (codes "script"))) (path_rule (codes "log"))
+play = with_files (with_room (with_run (with_rule (new_app (codes "play")) (word_rule (codes "level")))))
 
 -- `replay LEVEL LOG [--script FILE]`
 abbrev pub replay : App
@@ -41,9 +60,15 @@ replay = with_rule (with_rule (with_rule (new_app (codes "replay")) (word_rule (
 abbrev pub check : App
 check = with_rule (new_app (codes "check")) (word_rule (codes "level"))
 
+-- the program with its first command, with two, and with all
+abbrev pub with_play : App
+with_play = with_subcommand (on_top (λ s. record s { no_binary_name = true }) (new_app (codes "btworld"))) play.top
+
+abbrev pub with_replay : App
+with_replay = with_subcommand with_play replay.top
+
 abbrev pub program : App
-program = with_subcommand (with_subcommand (with_subcommand
-    (on_top (λ s. record s { no_binary_name = true }) (new_app (codes "btworld"))) play.top) replay.top) check.top
+program = with_subcommand with_replay check.top
 
 -- the decimal value of an entry
 abbrev pub IsNumber : Option Text → ℕ → Type 0

@@ -1,10 +1,11 @@
 // The commands and their arguments, as clap is told of them.
 ghost use Rattle.std.specs.Prelude.{◌≡◌, true, false, codes, IfOk};
-ghost use Rattle.words.specs.Program.{word_rule, path_rule, default_rule, number_rule, play, replay, check, program};
+ghost use Rattle.words.specs.Program.{in_range, word_rule, path_rule, ranged_rule, default_rule, number_rule, with_run, with_room, with_files, play, replay, check, with_play, with_replay, program};
 ghost use Rattle.clap.specs.declared.builder.command.Command.TheViews.{out-Command};
 ghost use Rattle.clap.specs.Simple.{on_top};
 ghost use Rattle.clap.specs.Words.{app_of, new_app, with_rule, with_subcommand, rule_of};
 
+use clap::builder::ValueParser;
 use clap::{Arg, Command};
 use std::alloc::{AllocError, Global};
 
@@ -33,6 +34,30 @@ fn path_argument<'a>(alloc: Global, name: &'a str, help: &'a str) -> Arg<'a>
     Arg::new(alloc, name).long(name).help(help)
 }
 
+/// What takes a number in a range.
+fn range_parser<'a>(least: u32, most: u32) -> ValueParser<'a>
+    ensures { result ≡ in_range least most }
+{
+    clap::value_parser!(u32).range(i64::from(least)..=i64::from(most))
+}
+
+/// An option with a number in a range.
+fn ranged_argument<'a>(
+    alloc: Global,
+    name: &'a str,
+    least: u32,
+    most: u32,
+    help: &'a str,
+) -> Arg<'a>
+    ensures rule { rule_of result ≡ ranged_rule name.entry.now least most }
+    ensures local { result.global ≡ false }
+{
+    Arg::new(alloc, name)
+        .long(name)
+        .value_parser(range_parser(least, most))
+        .help(help)
+}
+
 fn number_argument<'a>(
     alloc: Global,
     name: &'a str,
@@ -43,12 +68,7 @@ fn number_argument<'a>(
     ensures rule { rule_of result ≡ number_rule name.entry.now least most }
     ensures local { result.global ≡ false }
 {
-    let range = i64::from(least)..=i64::from(most);
-    Arg::new(alloc, name)
-        .long(name)
-        .required(true)
-        .value_parser(clap::value_parser!(u32).range(range))
-        .help(help)
+    ranged_argument(alloc, name, least, most, help).required(true)
 }
 
 fn default_argument<'a>(
@@ -62,12 +82,7 @@ fn default_argument<'a>(
     ensures rule { rule_of result ≡ default_rule name.entry.now least most value.entry.now }
     ensures local { result.global ≡ false }
 {
-    let range = i64::from(least)..=i64::from(most);
-    Arg::new(alloc, name)
-        .long(name)
-        .default_value(value)
-        .value_parser(clap::value_parser!(u32).range(range))
-        .help(help)
+    ranged_argument(alloc, name, least, most, help).default_value(value)
 }
 
 /// A command with one more argument.
@@ -107,10 +122,29 @@ fn play_command<'a>(alloc: Global) -> Result<Command<'a>, AllocError>
         "btworld play LEVEL --frames N --workers K [--fibers F] [--slots P] [--script FILE] [--log FILE]",
     );
     let command = with_argument(command, word_argument(alloc, "level", LEVEL))?;
+    let command = with_run(alloc, command)?;
+    let command = with_room(alloc, command)?;
+    with_files(alloc, command)
+}
+
+/// A command with the options for how long a run is and how many threads it has.
+fn with_run<'a>(alloc: Global, command: Command<'a>) -> Result<Command<'a>, AllocError>
+    requires command { (out-Command command).has_globals ≡ false }
+    ensures app { IfOk result (λ c. app_of c ≡ with_run (app_of command.entry)) }
+    ensures local { IfOk result (λ c. (out-Command c).has_globals ≡ false) }
+{
     let frames = number_argument(alloc, "frames", 0, 9999, "How many frames, 0 to 9999");
     let command = with_argument(command, frames)?;
     let workers = number_argument(alloc, "workers", 1, 16, "How many worker threads, 1 to 16");
-    let command = with_argument(command, workers)?;
+    with_argument(command, workers)
+}
+
+/// A command with the options for how much may be under way at once.
+fn with_room<'a>(alloc: Global, command: Command<'a>) -> Result<Command<'a>, AllocError>
+    requires command { (out-Command command).has_globals ≡ false }
+    ensures app { IfOk result (λ c. app_of c ≡ with_room (app_of command.entry)) }
+    ensures local { IfOk result (λ c. (out-Command c).has_globals ≡ false) }
+{
     let fibers = default_argument(
         alloc,
         "fibers",
@@ -128,7 +162,15 @@ fn play_command<'a>(alloc: Global) -> Result<Command<'a>, AllocError>
         "3",
         "How many frames may be under way at once, 1 to 16",
     );
-    let command = with_argument(command, slots)?;
+    with_argument(command, slots)
+}
+
+/// A command with the options for the files of a run.
+fn with_files<'a>(alloc: Global, command: Command<'a>) -> Result<Command<'a>, AllocError>
+    requires command { (out-Command command).has_globals ≡ false }
+    ensures app { IfOk result (λ c. app_of c ≡ with_files (app_of command.entry)) }
+    ensures local { IfOk result (λ c. (out-Command c).has_globals ≡ false) }
+{
     let command = with_argument(command, path_argument(alloc, "script", SCRIPT))?;
     let log = path_argument(
         alloc,
@@ -175,11 +217,26 @@ fn top_command<'a>(alloc: Global) -> Command<'a>
         .after_help(STATUSES)
 }
 
+/// The program with its first command.
+fn with_play<'a>(alloc: Global) -> Result<Command<'a>, AllocError>
+    ensures { IfOk result (λ c. app_of c ≡ with_play) }
+{
+    let play = play_command(alloc)?;
+    with_command(top_command(alloc), play)
+}
+
+/// The program with its first two commands.
+fn with_replay<'a>(alloc: Global) -> Result<Command<'a>, AllocError>
+    ensures { IfOk result (λ c. app_of c ≡ with_replay) }
+{
+    let command = with_play(alloc)?;
+    with_command(command, replay_command(alloc)?)
+}
+
 /// The program with all its commands.
 pub fn program_command<'a>(alloc: Global) -> Result<Command<'a>, AllocError>
     ensures { IfOk result (λ c. app_of c ≡ program) }
 {
-    let command = with_command(top_command(alloc), play_command(alloc)?)?;
-    let command = with_command(command, replay_command(alloc)?)?;
+    let command = with_replay(alloc)?;
     with_command(command, check_command(alloc)?)
 }

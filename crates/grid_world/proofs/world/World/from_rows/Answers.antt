@@ -24,14 +24,8 @@ agents_in-requires-clause-few c =
     (sym c.has_size.ensures ∙ c.if-not-has_size.false) in
     rw (c.deref-5.ensures.value, c.in_ok-marks.ensures) (few_marks _ size)
 
-pub doors_in-requires : goal.doors_in-requires
-doors_in-requires c =
-    let size = IsRectangle-from_size (rows_of c.args.rows.now)
-    (sym c.has_size.ensures ∙ c.if-not-has_size.false) in
-    rw (c.deref-7.ensures.value, c.in_ok-kinds.ensures, c.deref-3.ensures.value, c.in_ok-marks.ensures, length-map) (few_marks _ size)
-
-pub new-ground-requires-clause-sized : goal.new-ground-requires-clause-sized
-new-ground-requires-clause-sized c =
+pub new-requires-clause-sized : goal.new-requires-clause-sized
+new-requires-clause-sized c =
     let rows = rows_of c.args.rows.now in
     let size = IsRectangle-from_size rows (sym c.has_size.ensures ∙ c.if-not-has_size.false) in
     IsSized-parts rows size _ _ _ (record {
@@ -50,22 +44,12 @@ invariant_of-result c =
       high = sym (length-map c.args.rows.now (λ text. chars (string_bytes text)));
       ground = c.in_ok-kinds.ensures ∙ ap (map cell_of) (c.deref-3.ensures.value ∙ c.in_ok-marks.ensures);
     } in
-    rw (c.in-Ok.ensures.ok, c.new-ground.ensures)
+    rw (c.in-Ok.ensures.ok, c.in_ok-ground.ensures)
     (IsWorld-parts rows size _ _ _ _ _ parts
     (c.in_ok-has_item.ensures ∙ ap (map (λ c. c == 42)) (c.deref-4.ensures.value ∙ c.in_ok-marks.ensures))
     (c.in_ok-crew.ensures
     ∙ rw (c.first_width-columns.ensures, c.deref-5.ensures.value, c.in_ok-marks.ensures) refl))
 
-pub text_in-requires : goal.text_in-requires
-text_in-requires c =
-    let rows = rows_of c.args.rows.now in
-    let size = IsRectangle-from_size rows (sym c.has_size.ensures ∙ c.if-not-has_size.false) in
-    IsSized-parts rows size _ _ _ (record {
-      wide = c.first_width-columns.ensures;
-      high = sym (length-map c.args.rows.now (λ text. chars (string_bytes text)));
-      ground = c.deref-8.ensures.value ∙ c.in_ok-kinds.ensures ∙ ap (map cell_of) (c.deref-3.ensures.value ∙ c.in_ok-marks.ensures);
-    })
-
-pub new-ground-requires-clause-placed : goal.new-ground-requires-clause-placed
-new-ground-requires-clause-placed c =
+pub new-requires-clause-placed : goal.new-requires-clause-placed
+new-requires-clause-placed c =
     subst (All IsPlaced) (sym (c.in_ok-kinds.ensures)) (cells-placed c.deref-3.result.now)
