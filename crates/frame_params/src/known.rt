@@ -45,6 +45,20 @@ fn to_place<'a, 't>(all: &'a [KeptDistances<'t>], place: Place) -> Option<&'a Ke
     all.iter().find(|d| d.place() == place)
 }
 
+// The same ones once more, with room for another.
+fn shared<'t>(
+    alloc: Global,
+    all: &[KeptDistances<'t>],
+) -> Result<Vec<KeptDistances<'t>>, AllocError>
+    ensures { IfOk result (λ them. them.items ≡ all.now) }
+{
+    let mut them = Vec::with_capacity(alloc, all.len() + 1)?;
+    'known: for known in all {
+        them.push(known.share()?)?;
+    }
+    Ok(them)
+}
+
 impl<'t> Known<'t> {
     ghost use Rattle.frame_params.specs.Distances.{known_of, distances_of, IsGivenIf};
 
@@ -114,10 +128,7 @@ impl<'t> Known<'t> {
         if self.to(found.place()).is_some() {
             return Ok(self.share()?);
         }
-        let mut all = Vec::with_capacity(alloc, self.all.len() + 1)?;
-        'known: for known in self.all.iter() {
-            all.push(known.share()?)?;
-        }
+        let mut all = shared(alloc, &self.all)?;
         all.push(found.share()?)?;
         Ok(Known {
             session: self.session,
