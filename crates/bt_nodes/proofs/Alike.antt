@@ -84,6 +84,9 @@ element_smaller [] i d h = absurd (omega arith)
 element_smaller (x ∷ xs) zero d h = omega arith
 element_smaller (x ∷ xs) (suc i) d h = let s = element_smaller xs i d (omega arith) in omega (arith, s)
 
+pub item_smaller : {A : Type 0} → (nodes : List (Node A)) (i : ℕ) (node : Node A) → i < length nodes → node ≡ get_or nodes i node → size (plain node) ≤ sizes (plains nodes)
+item_smaller nodes i node h is = omega (arith, element_smaller nodes i node h, ap (λ n. size (plain n)) is)
+
 -- ---- lists of roots
 
 same_count : {A B : Type 0} → (xs : List (Node A)) (ys : List (Node B)) → plains xs ≡ plains ys → length xs ≡ length ys

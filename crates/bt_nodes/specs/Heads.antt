@@ -1,5 +1,5 @@
 -- The root of a tree: its kind, the number that stands in it, and what stands below it. They say which tree it is.
-use Rattle.std.specs.Prelude.{ℕ, Bool, true, Option, Some, None}
+use Rattle.std.specs.Prelude.{ℕ, Bool, true, false, Option, Some, None}
 use Rattle.bt_nodes.specs.Plain.{Sequence, Fallback, Leaf, TakeItem, DropItem, AtPlace, Carries, OnItem, SignalOn, NearOther, Plain, Composite, CompositeStar, Parallel, Invert, Tries, Ticks, Wait, MoveTo, Does, Forest, none}
 use Rattle.bt_nodes.specs.Sizes.{count}
 use Rattle.bt_nodes.specs.Limits.{has_tree, is_threshold, is_count, has_distance}
@@ -59,6 +59,18 @@ listed (Ticks n child) = none
 listed (Wait n) = none
 listed (MoveTo p) = none
 listed (Does leaf) = none
+
+-- whether its kind lists children, of which there may be none
+abbrev pub lists : Plain → Bool
+lists (Composite kind children) = true
+lists (CompositeStar kind children) = true
+lists (Parallel m children) = true
+lists (Invert child) = false
+lists (Tries n child) = false
+lists (Ticks n child) = false
+lists (Wait n) = false
+lists (MoveTo p) = false
+lists (Does leaf) = false
 
 -- the one child that it has by its kind
 abbrev pub decorated : Plain → Option Plain

@@ -1,7 +1,7 @@
 // The parts of a node: its kind, the number that stands in it, and what stands right below it.
 ghost use Rattle.std.specs.Prelude.{◌≡◌, option_map};
 ghost use Rattle.bt_nodes.specs.Plain.{plain, plains};
-ghost use Rattle.bt_nodes.specs.Heads.{kind_of, number_of, listed, decorated};
+ghost use Rattle.bt_nodes.specs.Heads.{kind_of, number_of, listed, lists, decorated};
 
 use crate::kind::NodeKind;
 use crate::node::Node;
@@ -60,6 +60,20 @@ impl<A: Allocator> Node<A> {
             | Node::FallbackStar(children) => children,
             _ => &[],
         }
+    }
+
+    // Whether its kind lists children, of which it may have none.
+    pub(crate) fn lists(&self) -> bool
+        ensures { result ≡ lists (plain self.now) }
+    {
+        matches!(
+            self,
+            Node::Seq(_)
+                | Node::Fallback(_)
+                | Node::Par(_, _)
+                | Node::SeqStar(_)
+                | Node::FallbackStar(_)
+        )
     }
 
     // The one child that it has by its kind.

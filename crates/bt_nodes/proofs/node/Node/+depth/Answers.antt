@@ -1,8 +1,8 @@
 use Rattle.std.proofs.Common.{ap, arith}
 use Rattle.bt_nodes.specs.Plain.{plain}
-use Rattle.bt_nodes.specs.Sizes.{size, sizes, depth, deepest}
+use Rattle.bt_nodes.specs.Sizes.{sizes, depth, deepest}
 use Rattle.bt_nodes.proofs.Forests.{plains-drop, plains-end}
-use Rattle.bt_nodes.proofs.Alike.{listed_smaller, decorated_smaller, element_smaller}
+use Rattle.bt_nodes.proofs.Alike.{listed_smaller, decorated_smaller, item_smaller}
 use Rattle.bt_nodes.proofs.Below.{depth-listed, depth-decorated}
 use Rattle.bt_nodes.proofs.node.Node.+depth.Goals as goal
 
@@ -18,8 +18,8 @@ depth-deepest-requires g t c κs within =
 
 pub deepest-depth-requires : goal.deepest-depth-requires
 deepest-depth-requires g t c κs within =
-    let small = element_smaller c.args.nodes.now c.nodes.node-index c.node-item.result c.nodes-test.true in
-    (omega (arith, small, ap (λ n. size (plain n)) c.node-item.is), within)
+    let small = item_smaller c.args.nodes.now c.nodes.node-index c.node-item.result c.nodes-test.true c.node-item.is in
+    (omega (arith, small), within)
 
 pub depth-returns-in-Some : goal.depth-returns-in-Some
 depth-returns-in-Some g t c = omega (arith, depth-decorated (plain c.args.self.now) (plain c.in-Some.child.now) c.in-Some.ensures)

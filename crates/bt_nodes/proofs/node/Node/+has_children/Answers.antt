@@ -1,9 +1,9 @@
 use Rattle.std.proofs.Common.{true, false, ap, arith, refl, sym, ◌∙◌}
 use Rattle.bt_nodes.specs.Plain.{plain}
-use Rattle.bt_nodes.specs.Sizes.{size, sizes}
+use Rattle.bt_nodes.specs.Sizes.{sizes}
 use Rattle.bt_nodes.specs.Limits.{has_children, all_have_children}
 use Rattle.bt_nodes.proofs.Forests.{plains-end, one_asked}
-use Rattle.bt_nodes.proofs.Alike.{listed_smaller, decorated_smaller, element_smaller}
+use Rattle.bt_nodes.proofs.Alike.{listed_smaller, decorated_smaller, item_smaller}
 use Rattle.bt_nodes.proofs.Below.{has_children-listed, has_children-decorated}
 use Rattle.bt_nodes.proofs.node.Node.+has_children.Goals as goal
 
@@ -19,8 +19,8 @@ has_children-all_have_children-requires g t c κs within =
 
 pub all_have_children-has_children-requires : goal.all_have_children-has_children-requires
 all_have_children-has_children-requires g t c κs within =
-    let small = element_smaller c.args.nodes.now c.nodes.node-index c.node-item.result c.nodes-test.true in
-    (omega (arith, small, ap (λ n. size (plain n)) c.node-item.is), within)
+    let small = item_smaller c.args.nodes.now c.nodes.node-index c.node-item.result c.nodes-test.true c.node-item.is in
+    (omega (arith, small), within)
 
 pub has_children-returns-in-Some : goal.has_children-returns-in-Some
 has_children-returns-in-Some g t c = c.has_children.ensures ∙ sym (has_children-decorated (plain c.args.self.now) (plain c.in-Some.child.now) c.in-Some.ensures)

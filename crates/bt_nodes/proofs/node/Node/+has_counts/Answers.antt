@@ -1,10 +1,10 @@
 use Rattle.std.proofs.Common.{◌&&◌, true, false, ap, arith, refl, sym, ◌∙◌}
 use Rattle.bt_nodes.specs.Plain.{plain}
-use Rattle.bt_nodes.specs.Sizes.{size, sizes}
+use Rattle.bt_nodes.specs.Sizes.{sizes}
 use Rattle.bt_nodes.specs.Heads.{listed}
 use Rattle.bt_nodes.specs.Limits.{has_counts, all_have_counts}
 use Rattle.bt_nodes.proofs.Forests.{plains-end, one_asked}
-use Rattle.bt_nodes.proofs.Alike.{listed_smaller, decorated_smaller, element_smaller}
+use Rattle.bt_nodes.proofs.Alike.{listed_smaller, decorated_smaller, item_smaller}
 use Rattle.bt_nodes.proofs.Below.{has_counts-listed, has_counts-decorated}
 use Rattle.bt_nodes.proofs.node.Node.+has_counts.Goals as goal
 
@@ -20,8 +20,8 @@ has_counts-all_have_counts-requires g t c κs within =
 
 pub all_have_counts-has_counts-requires : goal.all_have_counts-has_counts-requires
 all_have_counts-has_counts-requires g t c κs within =
-    let small = element_smaller c.args.nodes.now c.nodes.node-index c.node-item.result c.nodes-test.true in
-    (omega (arith, small, ap (λ n. size (plain n)) c.node-item.is), within)
+    let small = item_smaller c.args.nodes.now c.nodes.node-index c.node-item.result c.nodes-test.true c.node-item.is in
+    (omega (arith, small), within)
 
 pub has_counts-returns-in-Some : goal.has_counts-returns-in-Some
 has_counts-returns-in-Some g t c =

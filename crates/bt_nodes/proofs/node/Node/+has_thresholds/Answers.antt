@@ -1,9 +1,9 @@
 use Rattle.std.proofs.Common.{true, false, ap, arith, refl, sym, ◌∙◌}
 use Rattle.bt_nodes.specs.Plain.{plain}
-use Rattle.bt_nodes.specs.Sizes.{size, sizes}
+use Rattle.bt_nodes.specs.Sizes.{sizes}
 use Rattle.bt_nodes.specs.Limits.{has_thresholds, all_have_thresholds}
 use Rattle.bt_nodes.proofs.Forests.{plains-end, one_asked}
-use Rattle.bt_nodes.proofs.Alike.{listed_smaller, decorated_smaller, element_smaller}
+use Rattle.bt_nodes.proofs.Alike.{listed_smaller, decorated_smaller, item_smaller}
 use Rattle.bt_nodes.proofs.Below.{has_thresholds-listed, has_thresholds-decorated}
 use Rattle.bt_nodes.proofs.node.Node.+has_thresholds.Goals as goal
 
@@ -19,8 +19,8 @@ has_thresholds-all_have_thresholds-requires g t c κs within =
 
 pub all_have_thresholds-has_thresholds-requires : goal.all_have_thresholds-has_thresholds-requires
 all_have_thresholds-has_thresholds-requires g t c κs within =
-    let small = element_smaller c.args.nodes.now c.nodes.node-index c.node-item.result c.nodes-test.true in
-    (omega (arith, small, ap (λ n. size (plain n)) c.node-item.is), within)
+    let small = item_smaller c.args.nodes.now c.nodes.node-index c.node-item.result c.nodes-test.true c.node-item.is in
+    (omega (arith, small), within)
 
 pub has_thresholds-returns-in-Some : goal.has_thresholds-returns-in-Some
 has_thresholds-returns-in-Some g t c = c.has_thresholds.ensures ∙ sym (has_thresholds-decorated (plain c.args.self.now) (plain c.in-Some.child.now) c.in-Some.ensures)

@@ -2,7 +2,7 @@ use Rattle.std.proofs.Common.{ap, arith}
 use Rattle.bt_nodes.specs.Plain.{plain}
 use Rattle.bt_nodes.specs.Sizes.{size, sizes}
 use Rattle.bt_nodes.proofs.Forests.{plains-drop, plains-end}
-use Rattle.bt_nodes.proofs.Alike.{listed_smaller, decorated_smaller, element_smaller}
+use Rattle.bt_nodes.proofs.Alike.{listed_smaller, decorated_smaller, item_smaller}
 use Rattle.bt_nodes.proofs.Below.{size-listed, size-decorated}
 use Rattle.bt_nodes.proofs.node.Node.+size.Goals as goal
 
@@ -25,8 +25,8 @@ size-sizes-requires g t c κs within =
 
 pub sizes-size-requires : goal.sizes-size-requires
 sizes-size-requires g t c κs within =
-    let small = element_smaller c.args.nodes.now c.nodes.node-index c.node-item.result c.nodes-test.true in
-    (omega (arith, small, ap (λ n. size (plain n)) c.node-item.is), within)
+    let small = item_smaller c.args.nodes.now c.nodes.node-index c.node-item.result c.nodes-test.true c.node-item.is in
+    (omega (arith, small), within)
 
 pub sizes-returns : goal.sizes-returns
 sizes-returns g t c =
