@@ -1,8 +1,8 @@
 -- What a walk over a tree answers, from what it answers below the root: at a decorator's one child, or at the children
 -- that a root lists, which are none at a leaf.
-use Rattle.std.proofs.Common.{◌≡◌, Bool, true, false, ◌&&◌, suc, None, Some, refl, sym, ap, ◌∙◌}
+use Rattle.std.proofs.Common.{◌≡◌, Bool, true, false, ◌&&◌, suc, ◌∷◌, None, Some, refl, ap}
 use Rattle.bt_nodes.specs.Plain.{Plain, Composite, CompositeStar, Parallel, Invert, Tries, Ticks, Wait, MoveTo, Does}
-use Rattle.bt_nodes.specs.Sizes.{size, sizes, depth, deepest}
+use Rattle.bt_nodes.specs.Sizes.{size, sizes, subtree_sizes, subtree_sizes_all, depth, deepest}
 use Rattle.bt_nodes.specs.Limits.{is_count, has_distance, has_children, all_have_children, has_thresholds, all_have_thresholds, has_counts, all_have_counts}
 use Rattle.bt_nodes.specs.Heads.{listed, decorated, keeps_child, keeps_threshold, keeps_count}
 
@@ -27,6 +27,28 @@ size-decorated (Ticks n d) c e = let s : d ≡ c = cc in ap (λ c. suc (size c))
 size-decorated (Wait n) c e = absurd (cc)
 size-decorated (MoveTo p) c e = absurd (cc)
 size-decorated (Does leaf) c e = absurd (cc)
+
+pub subtree_sizes-listed : (p : Plain) → None ≡ decorated p → subtree_sizes p ≡ size p ∷ subtree_sizes_all (listed p)
+subtree_sizes-listed (Composite kind cs) e = refl
+subtree_sizes-listed (CompositeStar kind cs) e = refl
+subtree_sizes-listed (Parallel m cs) e = refl
+subtree_sizes-listed (Invert d) e = absurd (cc)
+subtree_sizes-listed (Tries n d) e = absurd (cc)
+subtree_sizes-listed (Ticks n d) e = absurd (cc)
+subtree_sizes-listed (Wait n) e = refl
+subtree_sizes-listed (MoveTo p) e = refl
+subtree_sizes-listed (Does leaf) e = refl
+
+pub subtree_sizes-decorated : (p c : Plain) → Some c ≡ decorated p → subtree_sizes p ≡ size p ∷ subtree_sizes c
+subtree_sizes-decorated (Composite kind cs) c e = absurd (cc)
+subtree_sizes-decorated (CompositeStar kind cs) c e = absurd (cc)
+subtree_sizes-decorated (Parallel m cs) c e = absurd (cc)
+subtree_sizes-decorated (Invert d) c e = let s : d ≡ c = cc in ap (λ c. suc (size d) ∷ subtree_sizes c) s
+subtree_sizes-decorated (Tries n d) c e = let s : d ≡ c = cc in ap (λ c. suc (size d) ∷ subtree_sizes c) s
+subtree_sizes-decorated (Ticks n d) c e = let s : d ≡ c = cc in ap (λ c. suc (size d) ∷ subtree_sizes c) s
+subtree_sizes-decorated (Wait n) c e = absurd (cc)
+subtree_sizes-decorated (MoveTo p) c e = absurd (cc)
+subtree_sizes-decorated (Does leaf) c e = absurd (cc)
 
 pub depth-listed : (p : Plain) → None ≡ decorated p → depth p ≡ suc (deepest (listed p))
 depth-listed (Composite kind cs) e = refl

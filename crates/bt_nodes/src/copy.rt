@@ -1,5 +1,5 @@
 // Copies of nodes in another allocator.
-ghost use Rattle.std.specs.Prelude.{◌≡◌, true, false, Some, None, IfOk};
+ghost use Rattle.std.specs.Prelude.{◌≡◌, true, false, Some, None, IfOk, []};
 ghost use Rattle.bt_nodes.specs.Plain.{plain, plains};
 ghost use Rattle.bt_nodes.specs.Heads.{listed, lists, decorated};
 
@@ -18,8 +18,8 @@ impl<A: Allocator> Node<A> {
         }
         match self.decorated() {
             Some(child) => {
-                let copy = child.copy_in(alloc)?;
-                self.decorator_in(copy, alloc)
+                let copy = boxed(child.copy_in(alloc)?, alloc)?;
+                Ok(self.decorator_in(copy))
             }
             None => Ok(self.leaf_in()),
         }
@@ -32,7 +32,7 @@ impl<A: Allocator> Node<A> {
     ) -> Result<Vec<Node<B>, B>, AllocError>
         ensures { IfOk result (λ copies. plains copies.items ≡ plains nodes.now) }
     {
-        let mut copies = Vec::with_capacity(alloc.clone()?, nodes.len())?;
+        let mut copies = room_for(nodes.len(), alloc)?;
         'nodes: for node in nodes {
             copies.push(node.copy_in(alloc)?)?;
         }
@@ -56,19 +56,14 @@ impl<A: Allocator> Node<A> {
     }
 
     // A copy over that of the one child that it decorates.
-    fn decorator_in<B: Allocator + Clone>(
-        &self,
-        copy: Node<B>,
-        alloc: &B,
-    ) -> Result<Node<B>, AllocError>
-        requires { decorated (plain self.now) ≡ Some (plain copy) }
-        ensures { IfOk result (λ decorator. plain decorator ≡ plain self.now) }
+    fn decorator_in<B: Allocator>(&self, copy: Box<Node<B>, B>) -> Node<B>
+        requires { decorated (plain self.now) ≡ Some (plain copy.value) }
+        ensures { plain result ≡ plain self.now }
     {
-        let child = Box::new(alloc.clone()?, copy)?;
         match self {
-            Node::Not(_) => Ok(Node::Not(child)),
-            Node::Tries(ticks, _) => Ok(Node::Tries(*ticks, child)),
-            Node::Ticks(ticks, _) => Ok(Node::Ticks(*ticks, child)),
+            Node::Not(_) => Node::Not(copy),
+            Node::Tries(ticks, _) => Node::Tries(*ticks, copy),
+            Node::Ticks(ticks, _) => Node::Ticks(*ticks, copy),
             _ => unreachable!(),
         }
     }
@@ -92,4 +87,16 @@ impl<A: Allocator> Node<A> {
             _ => unreachable!(),
         }
     }
+}
+
+fn boxed<B: Allocator + Clone>(node: Node<B>, alloc: &B) -> Result<Box<Node<B>, B>, AllocError>
+    ensures { IfOk result (λ boxed. boxed.value ≡ node) }
+{
+    Ok(Box::new(alloc.clone()?, node)?)
+}
+
+fn room_for<B: Allocator + Clone>(count: usize, alloc: &B) -> Result<Vec<Node<B>, B>, AllocError>
+    ensures { IfOk result (λ nodes. nodes.items ≡ []) }
+{
+    Vec::with_capacity(alloc.clone()?, count)
 }

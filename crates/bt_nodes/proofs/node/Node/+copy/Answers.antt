@@ -39,7 +39,8 @@ pub copy_in-returns-then-lists : goal.copy_in-returns-then-lists
 copy_in-returns-then-lists g t c = c.list_in.ensures
 
 pub copy_in-decorator_in-requires : goal.copy_in-decorator_in-requires
-copy_in-decorator_in-requires g t c = sym c.in-Some.ensures ∙ ap Some (sym c.in_ok-copy-in-Some.ensures)
+copy_in-decorator_in-requires g t c =
+    sym c.in-Some.ensures ∙ ap Some (sym (ap plain c.in_ok-copy-in-Some.ensures ∙ c.in_ok-copy_in-in-Some.ensures))
 
 pub copy_in-returns-in_ok-copy-in-Some : goal.copy_in-returns-in_ok-copy-in-Some
 copy_in-returns-in_ok-copy-in-Some g t c = c.decorator_in.ensures

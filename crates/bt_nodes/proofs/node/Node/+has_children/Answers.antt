@@ -4,7 +4,7 @@ use Rattle.bt_nodes.specs.Sizes.{sizes}
 use Rattle.bt_nodes.specs.Limits.{has_children, all_have_children}
 use Rattle.bt_nodes.proofs.Forests.{plains-end, one_asked}
 use Rattle.bt_nodes.proofs.Alike.{listed_smaller, decorated_smaller, item_smaller}
-use Rattle.bt_nodes.proofs.Below.{has_children-listed, has_children-decorated}
+use Rattle.bt_nodes.proofs.Below.{has_children-decorated}
 use Rattle.bt_nodes.proofs.node.Node.+has_children.Goals as goal
 
 pub has_children-has_children-requires : goal.has_children-has_children-requires

@@ -4,7 +4,7 @@ use Rattle.bt_nodes.specs.Sizes.{sizes}
 use Rattle.bt_nodes.specs.Limits.{has_thresholds, all_have_thresholds}
 use Rattle.bt_nodes.proofs.Forests.{plains-end, one_asked}
 use Rattle.bt_nodes.proofs.Alike.{listed_smaller, decorated_smaller, item_smaller}
-use Rattle.bt_nodes.proofs.Below.{has_thresholds-listed, has_thresholds-decorated}
+use Rattle.bt_nodes.proofs.Below.{has_thresholds-decorated}
 use Rattle.bt_nodes.proofs.node.Node.+has_thresholds.Goals as goal
 
 pub has_thresholds-has_thresholds-requires : goal.has_thresholds-has_thresholds-requires
