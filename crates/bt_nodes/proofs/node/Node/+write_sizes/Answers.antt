@@ -1,9 +1,9 @@
-use Rattle.std.proofs.Common.{◌<◌, length, ap, arith}
+use Rattle.std.proofs.Common.{◌<◌, length, ap, arith, refl}
 use Rattle.bt_nodes.specs.Plain.{plain, plains}
 use Rattle.bt_nodes.specs.Sizes.{size, sizes}
 use Rattle.bt_nodes.proofs.AtLeastOne.{one-le-size}
-use Rattle.bt_nodes.proofs.Forests.{plains-drop}
-use Rattle.bt_nodes.proofs.SizeTables.{Below, below_listed, below_decorated, own_written, written_more}
+use Rattle.bt_nodes.proofs.Forests.{plains-drop, plains-end}
+use Rattle.bt_nodes.proofs.SizeTables.{Below, below_listed, below_decorated, own_written, written_more, written_all}
 use Rattle.bt_nodes.proofs.Alike.{item_smaller}
 use Rattle.bt_nodes.proofs.Below.{size-listed, size-decorated}
 use Rattle.bt_nodes.proofs.node.Node.+write_sizes.Goals.{write_sizes-in-Some, write_sizes-in-None}
@@ -30,6 +30,15 @@ write_all_sizes-nodes-preserved g t c = record {
   written =
       written_more c.args.nodes.now c.nodes.node-index _ _ _ _ _ c.node-item.result c.nodes-test.true c.node-item.is
       c.nodes.invariant.written c.write_sizes-next.ensures.written;
+}
+
+pub write_all_sizes-nodes-init : goal.write_all_sizes-nodes-init
+write_all_sizes-nodes-init g t c = record { left = refl; written = refl }
+
+pub write_all_sizes-returns : goal.write_all_sizes-returns
+write_all_sizes-returns g t c = record {
+  next = omega (arith, c.nodes.invariant.left, ap sizes (plains-end c.args.nodes.now c.nodes.node-index c.nodes-test.false));
+  written = written_all c.args.nodes.now c.nodes.node-index _ _ _ c.nodes-test.false c.nodes.invariant.written;
 }
 
 pub write_sizes-write_sizes-next-requires : goal.write_sizes-write_sizes-next-requires
