@@ -1,6 +1,6 @@
 -- A tree is settled by its root's kind, the number that stands in it, and what stands below it.
-use Rattle.std.proofs.Common.{◌≡◌, ◌≢◌, map, take, ℕ, zero, suc, ◌+◌, ◌<◌, ◌≤◌, List, [], ◌∷◌, length, get_or, Option, Some, refl, sym, ap, ◌∙◌, arith, unwrap_or}
-use Rattle.bt_nodes.specs.Plain.{Sequence, Fallback, TakeItem, DropItem, AtPlace, Carries, OnItem, SignalOn, NearOther, Plain, Composite, CompositeStar, Parallel, Invert, Tries, Ticks, Wait, MoveTo, Does, Forest, forest_of, plain, plains}
+use Rattle.std.proofs.Common.{◌≡◌, ◌≢◌, map, take, ℕ, zero, suc, ◌+◌, ◌<◌, ◌≤◌, List, [], ◌∷◌, length, get_or, Option, Some, None, refl, sym, ap, ◌∙◌, arith, unwrap_or}
+use Rattle.bt_nodes.specs.Plain.{Sequence, Fallback, TakeItem, DropItem, AtPlace, Carries, OnItem, SignalOn, NearOther, Plain, Composite, CompositeStar, Parallel, Invert, Tries, Ticks, Wait, MoveTo, Does, Forest, none, forest_of, plain, plains}
 use Rattle.std.proofs.lemmas.List.{take_more, take_all}
 use Rattle.bt_nodes.specs.Sizes.{size, sizes, count}
 use Rattle.bt_nodes.specs.Heads.{kind_of, number_of, listed, decorated}
@@ -56,6 +56,33 @@ same_tree p q k n l d =
     ∙ ap (built (kind_of q) (number_of q) (listed q)) d
     ∙ again q
 
+-- a decorator lists no children
+lists_none : (p c : Plain) → Some c ≡ decorated p → listed p ≡ none
+lists_none (Composite kind cs) c e = absurd (cc)
+lists_none (CompositeStar kind cs) c e = absurd (cc)
+lists_none (Parallel m cs) c e = absurd (cc)
+lists_none (Invert d) c e = refl
+lists_none (Tries n d) c e = refl
+lists_none (Ticks n d) c e = refl
+lists_none (Wait n) c e = absurd (cc)
+lists_none (MoveTo p) c e = absurd (cc)
+lists_none (Does leaf) c e = absurd (cc)
+
+module _ (p q c d : Plain) where
+  pub same_over_child : kind_of p ≡ kind_of q → number_of p ≡ number_of q → Some c ≡ decorated p → Some d ≡ decorated q → c ≡ d → p ≡ q
+  same_over_child k n below_p below_q same =
+      same_tree p q k n (lists_none p c below_p ∙ sym (lists_none q d below_q)) (sym below_p ∙ ap Some same ∙ below_q)
+
+  pub other_child : Some c ≡ decorated p → Some d ≡ decorated q → c ≢ d → p ≢ q
+  other_child below_p below_q other same =
+      let e : Some c ≡ Some d = below_p ∙ ap decorated same ∙ sym below_q in
+      other (cc)
+
+pub other_below : (p q c : Plain) → Some c ≡ decorated p → None ≡ decorated q → p ≢ q
+other_below p q c below_p below_q same =
+    let e : Some c ≡ None = below_p ∙ ap decorated same ∙ sym below_q in
+    absurd (cc)
+
 -- what stands below a root is smaller
 pub listed_smaller : (p : Plain) → sizes (listed p) < size p
 listed_smaller (Composite kind cs) = omega arith
@@ -83,6 +110,9 @@ pub element_smaller : {A : Type 0} → (nodes : List (Node A)) (i : ℕ) (d : No
 element_smaller [] i d h = absurd (omega arith)
 element_smaller (x ∷ xs) zero d h = omega arith
 element_smaller (x ∷ xs) (suc i) d h = let s = element_smaller xs i d (omega arith) in omega (arith, s)
+
+pub item_smaller : {A : Type 0} → (nodes : List (Node A)) (i : ℕ) (node : Node A) → i < length nodes → node ≡ get_or nodes i node → size (plain node) ≤ sizes (plains nodes)
+item_smaller nodes i node h is = omega (arith, element_smaller nodes i node h, ap (λ n. size (plain n)) is)
 
 -- ---- lists of roots
 

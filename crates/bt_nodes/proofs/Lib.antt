@@ -5,3 +5,4 @@ pub mod WithinLimits
 pub mod MemoryBounds
 pub mod Alike
 pub mod SizeTables
+pub mod Below

@@ -1,10 +1,13 @@
 -- A table in which the sizes of subtrees stand one behind another.
-use Rattle.std.proofs.Common.{◌≡◌, ℕ, ◌+◌, ◌<◌, ◌≤◌, List, [], ◌∷◌, ◌++◌, length, get_or, set, take, drop, sym, ap, ◌∙◌, refl, arith, append_assoc, append-nil, length-append}
+use Rattle.std.proofs.Common.{◌≡◌, ℕ, ◌+◌, ◌-◌, ◌<◌, ◌≤◌, List, [], ◌∷◌, ◌++◌, length, get_or, set, take, drop, Some, None, sym, ap, ◌∙◌, refl, arith, append_assoc, append-nil, length-append}
 use Rattle.std.proofs.lemmas.List.{take_more, length-take-le}
 use Rattle.std.proofs.Math.Seq.{take-set-lt, set-append_seam}
 use Rattle.bt_nodes.specs.Plain.{Plain, Composite, CompositeStar, Parallel, Invert, Tries, Ticks, Wait, MoveTo, Does, Forest, none, tree, plain, plains}
 use Rattle.bt_nodes.specs.Sizes.{size, sizes, subtree_sizes, subtree_sizes_all}
 use Rattle.bt_nodes.specs.declared.node.Node.{Node}
+use Rattle.bt_nodes.specs.Heads.{listed, decorated}
+use Rattle.bt_nodes.proofs.AtLeastOne.{one-le-size}
+use Rattle.bt_nodes.proofs.Below.{size-listed, size-decorated, subtree_sizes-listed, subtree_sizes-decorated}
 use Rattle.bt_nodes.proofs.Forests.{plains-drop, plains-end}
 
 mutual
@@ -24,29 +27,6 @@ mutual
   length-subtree_sizes_all (tree child children) =
       omega (arith, length-append (subtree_sizes child) (subtree_sizes_all children), length-subtree_sizes child, length-subtree_sizes_all children)
 
--- its own is the first
-pub own_size : (p : Plain) → (below : List ℕ) × (subtree_sizes p ≡ size p ∷ below)
-own_size (Composite kind children) = (subtree_sizes_all children, refl)
-own_size (CompositeStar kind children) = (subtree_sizes_all children, refl)
-own_size (Parallel m children) = (subtree_sizes_all children, refl)
-own_size (Invert child) = (subtree_sizes child, refl)
-own_size (Tries n child) = (subtree_sizes child, refl)
-own_size (Ticks n child) = (subtree_sizes child, refl)
-own_size (Wait n) = ([], refl)
-own_size (MoveTo p) = ([], refl)
-own_size (Does leaf) = ([], refl)
-
-no_more : (xs : List ℕ) → length xs ≡ 0 → xs ≡ []
-no_more [] h = refl
-no_more (x ∷ xs) h = absurd (omega (arith, h))
-
--- and the only one where it has one node
-pub only_size : (p : Plain) → size p ≡ 1 → subtree_sizes p ≡ 1 ∷ []
-only_size p one =
-    let (below, e) = own_size p in
-    let n : length below ≡ 0 = omega (arith, ap length e, length-subtree_sizes p, one) in
-    e ∙ ap (λ n. n ∷ below) one ∙ ap (λ l. 1 ∷ l) (no_more below n)
-
 -- a number is written in front of those that stand behind its place
 pub written_first : (old now : List ℕ) (at next v : ℕ) (part : List ℕ) → at < length old → at < next
     → take next now ≡ take (at + 1) old ++ part → take next (set now at v) ≡ take at old ++ v ∷ part
@@ -56,6 +36,42 @@ written_first old now at next v part room later e =
     ∙ ap (λ l. set l at v) (e ∙ ap (λ l. l ++ part) (take_more old at 0 room) ∙ append_assoc (take at old) (get_or old at 0 ∷ []) part)
     ∙ ap (λ k. set (take at old ++ get_or old at 0 ∷ part) k v) (sym n)
     ∙ set-append_seam (take at old) (get_or old at 0) part v
+
+-- the table where the sizes below a root are written, behind the place of its own
+pub record Below (p : Plain) (at next : ℕ) (old now : List ℕ) : Type 0 where
+  pub part : List ℕ
+  pub is : subtree_sizes p ≡ size p ∷ part
+  pub behind : next ≡ at + size p
+  pub written : take next now ≡ take (at + 1) old ++ part
+
+module _ (p : Plain) (at next next' : ℕ) (old now now' : List ℕ) (moved : next ≡ next') (kept : now ≡ now') where
+  pub below_listed : (cs : Forest) → None ≡ decorated p → cs ≡ listed p → next' ≡ at + 1 + sizes cs → take next' now' ≡ take (at + 1) old ++ subtree_sizes_all cs
+      → Below p at next old now
+  below_listed cs decorates_none is behind written = record {
+    part = subtree_sizes_all cs;
+    is = subtree_sizes-listed p decorates_none ∙ ap (λ cs. size p ∷ subtree_sizes_all cs) (sym is);
+    behind = omega (arith, size-listed p decorates_none, ap sizes is);
+    written = ap (λ n. take n now) moved ∙ ap (take next') kept ∙ written;
+  }
+
+  pub below_decorated : (c : Plain) → Some c ≡ decorated p → next' ≡ at + 1 + size c → take next' now' ≡ take (at + 1) old ++ subtree_sizes c
+      → Below p at next old now
+  below_decorated c is behind written = record {
+    part = subtree_sizes c;
+    is = subtree_sizes-decorated p c is;
+    behind = omega (arith, size-decorated p c is);
+    written = ap (λ n. take n now) moved ∙ ap (take next') kept ∙ written;
+  }
+
+-- then its own is
+pub own_written : (p : Plain) (at next : ℕ) (old now after : List ℕ) → Below p at next old now → after ≡ set now at (next - at) → at < length old
+    → take next after ≡ take at old ++ subtree_sizes p
+own_written p at next old now after below is room =
+    let own : next - at ≡ size p = omega (arith, below.behind) in
+    ap (take next) is
+    ∙ written_first old now at next (next - at) below.part room (omega (arith, below.behind, one-le-size p)) below.written
+    ∙ ap (λ n. take at old ++ n ∷ below.part) own
+    ∙ ap (λ l. take at old ++ l) (sym below.is)
 
 module _ {A : Type 0} (nodes : List (Node A)) (i : ℕ) where
   -- one more tree is written

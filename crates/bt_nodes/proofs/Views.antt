@@ -20,19 +20,6 @@ pub plain-FallbackStar : {A : Type 0} → (v : Vec (Node A) A)
     → plain (FallbackStar v) ≡ CompositeStar Fallback (plains v.items)
 plain-FallbackStar v = search (rules, the_lemmas)
 
-pub composite : {A B : Type 0} → (f : Plain → B) (node : Node A) (v : Vec (Node A) A) (b : B)
-    → f (Composite Sequence (plains v.items)) ≡ b → f (Composite Fallback (plains v.items)) ≡ b
-    → f (CompositeStar Sequence (plains v.items)) ≡ b → f (CompositeStar Fallback (plains v.items)) ≡ b
-    → (node ≡ Seq v) ⊎ ((node ≡ FallbackNode v) ⊎ ((node ≡ SeqStar v) ⊎ (node ≡ FallbackStar v)))
-    → f (plain node) ≡ b
-composite f node v b seq fallback seq_star fallback_star (inl e) = ap (λ n. f (plain n)) e ∙ ap f (plain-Seq v) ∙ seq
-composite f node v b seq fallback seq_star fallback_star (inr (inl e)) =
-    ap (λ n. f (plain n)) e ∙ ap f (plain-Fallback v) ∙ fallback
-composite f node v b seq fallback seq_star fallback_star (inr (inr (inl e))) =
-    ap (λ n. f (plain n)) e ∙ ap f (plain-SeqStar v) ∙ seq_star
-composite f node v b seq fallback seq_star fallback_star (inr (inr (inr e))) =
-    ap (λ n. f (plain n)) e ∙ ap f (plain-FallbackStar v) ∙ fallback_star
-
 pub listing : {A B : Type 0} → (f : Plain → B) (node : Node A) (v : Vec (Node A) A) (b : B)
     → f (Composite Sequence (plains v.items)) ≡ b → f (Composite Fallback (plains v.items)) ≡ b
     → ((m : ℕ) → f (Parallel m (plains v.items)) ≡ b)
@@ -59,11 +46,3 @@ plain-Tries n b = search (rules, the_lemmas)
 
 pub plain-Ticks : {A : Type 0} → (n : ℕ) (b : Box (Node A) A) → plain (TicksNode n b) ≡ Ticks n (plain b.value)
 plain-Ticks n b = search (rules, the_lemmas)
-
-pub decorating : {A B : Type 0} → (f : Plain → B) (node : Node A) (b : Box (Node A) A) (r : B)
-    → f (Invert (plain b.value)) ≡ r → ((n : ℕ) → f (Tries n (plain b.value)) ≡ r) → ((n : ℕ) → f (Ticks n (plain b.value)) ≡ r)
-    → (node ≡ Not b) ⊎ (((n : ℕ) × (node ≡ TriesNode n b)) ⊎ ((n : ℕ) × (node ≡ TicksNode n b)))
-    → f (plain node) ≡ r
-decorating f node b r invert tries ticks (inl e) = ap (λ n. f (plain n)) e ∙ ap f (plain-Not b) ∙ invert
-decorating f node b r invert tries ticks (inr (inl (n, e))) = ap (λ n. f (plain n)) e ∙ ap f (plain-Tries n b) ∙ tries n
-decorating f node b r invert tries ticks (inr (inr (n, e))) = ap (λ n. f (plain n)) e ∙ ap f (plain-Ticks n b) ∙ ticks n

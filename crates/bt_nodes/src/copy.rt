@@ -1,6 +1,7 @@
 // Copies of nodes in another allocator.
-ghost use Rattle.std.specs.Prelude.{◌≡◌, IfOk};
+ghost use Rattle.std.specs.Prelude.{◌≡◌, true, false, Some, None, IfOk, []};
 ghost use Rattle.bt_nodes.specs.Plain.{plain, plains};
+ghost use Rattle.bt_nodes.specs.Heads.{listed, lists, decorated};
 
 use crate::node::Node;
 use std::alloc::{AllocError, Allocator};
@@ -11,37 +12,16 @@ impl<A: Allocator> Node<A> {
     pub fn copy_in<B: Allocator + Clone>(&self, alloc: &B) -> Result<Node<B>, AllocError>
         ensures { IfOk result (λ copy. plain copy ≡ plain self.now) }
     {
-        match self {
-            Node::Seq(children) => Ok(Node::Seq(Node::copies_in(children, alloc)?)),
-            Node::Fallback(children) => Ok(Node::Fallback(Node::copies_in(children, alloc)?)),
-            Node::Par(threshold, children) => {
-                Ok(Node::Par(*threshold, Node::copies_in(children, alloc)?))
+        if self.lists() {
+            let copies = Node::copies_in(self.listed(), alloc)?;
+            return Ok(self.list_in(copies));
+        }
+        match self.decorated() {
+            Some(child) => {
+                let copy = boxed(child.copy_in(alloc)?, alloc)?;
+                Ok(self.decorator_in(copy))
             }
-            Node::SeqStar(children) => Ok(Node::SeqStar(Node::copies_in(children, alloc)?)),
-            Node::FallbackStar(children) => Ok(Node::FallbackStar(Node::copies_in(
-                children, alloc,
-            )?)),
-            Node::Not(child) => {
-                let copy = child.copy_in(alloc)?;
-                Ok(Node::Not(Box::new(alloc.clone()?, copy)?))
-            }
-            Node::Tries(ticks, child) => {
-                let copy = child.copy_in(alloc)?;
-                Ok(Node::Tries(*ticks, Box::new(alloc.clone()?, copy)?))
-            }
-            Node::Ticks(ticks, child) => {
-                let copy = child.copy_in(alloc)?;
-                Ok(Node::Ticks(*ticks, Box::new(alloc.clone()?, copy)?))
-            }
-            Node::Wait(ticks) => Ok(Node::Wait(*ticks)),
-            Node::Move(place) => Ok(Node::Move(*place)),
-            Node::Take => Ok(Node::Take),
-            Node::Drop => Ok(Node::Drop),
-            Node::At(place) => Ok(Node::At(*place)),
-            Node::Carrying => Ok(Node::Carrying),
-            Node::Item => Ok(Node::Item),
-            Node::Signal(signal) => Ok(Node::Signal(*signal)),
-            Node::Near(distance) => Ok(Node::Near(*distance)),
+            None => Ok(self.leaf_in()),
         }
     }
 
@@ -52,10 +32,71 @@ impl<A: Allocator> Node<A> {
     ) -> Result<Vec<Node<B>, B>, AllocError>
         ensures { IfOk result (λ copies. plains copies.items ≡ plains nodes.now) }
     {
-        let mut copies = Vec::with_capacity(alloc.clone()?, nodes.len())?;
+        let mut copies = room_for(nodes.len(), alloc)?;
         'nodes: for node in nodes {
             copies.push(node.copy_in(alloc)?)?;
         }
         Ok(copies)
     }
+
+    // A copy over those of the children that it lists.
+    fn list_in<B: Allocator>(&self, copies: Vec<Node<B>, B>) -> Node<B>
+        requires lists { lists (plain self.now) ≡ true }
+        requires copied { plains copies.items ≡ listed (plain self.now) }
+        ensures { plain result ≡ plain self.now }
+    {
+        match self {
+            Node::Seq(_) => Node::Seq(copies),
+            Node::Fallback(_) => Node::Fallback(copies),
+            Node::Par(threshold, _) => Node::Par(*threshold, copies),
+            Node::SeqStar(_) => Node::SeqStar(copies),
+            Node::FallbackStar(_) => Node::FallbackStar(copies),
+            _ => unreachable!(),
+        }
+    }
+
+    // A copy over that of the one child that it decorates.
+    fn decorator_in<B: Allocator>(&self, copy: Box<Node<B>, B>) -> Node<B>
+        requires { decorated (plain self.now) ≡ Some (plain copy.value) }
+        ensures { plain result ≡ plain self.now }
+    {
+        match self {
+            Node::Not(_) => Node::Not(copy),
+            Node::Tries(ticks, _) => Node::Tries(*ticks, copy),
+            Node::Ticks(ticks, _) => Node::Ticks(*ticks, copy),
+            _ => unreachable!(),
+        }
+    }
+
+    // A copy of a node with nothing below it.
+    fn leaf_in<B: Allocator>(&self) -> Node<B>
+        requires lists_none { lists (plain self.now) ≡ false }
+        requires decorates_none { decorated (plain self.now) ≡ None }
+        ensures { plain result ≡ plain self.now }
+    {
+        match self {
+            Node::Wait(ticks) => Node::Wait(*ticks),
+            Node::Move(place) => Node::Move(*place),
+            Node::Take => Node::Take,
+            Node::Drop => Node::Drop,
+            Node::At(place) => Node::At(*place),
+            Node::Carrying => Node::Carrying,
+            Node::Item => Node::Item,
+            Node::Signal(signal) => Node::Signal(*signal),
+            Node::Near(distance) => Node::Near(*distance),
+            _ => unreachable!(),
+        }
+    }
+}
+
+fn boxed<B: Allocator + Clone>(node: Node<B>, alloc: &B) -> Result<Box<Node<B>, B>, AllocError>
+    ensures { IfOk result (λ boxed. boxed.value ≡ node) }
+{
+    Ok(Box::new(alloc.clone()?, node)?)
+}
+
+fn room_for<B: Allocator + Clone>(count: usize, alloc: &B) -> Result<Vec<Node<B>, B>, AllocError>
+    ensures { IfOk result (λ nodes. nodes.items ≡ []) }
+{
+    Vec::with_capacity(alloc.clone()?, count)
 }

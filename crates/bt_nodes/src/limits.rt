@@ -1,6 +1,7 @@
 // Whether a node and all below it keep each limit.
 ghost use Rattle.std.specs.Prelude.{◌≡◌};
 ghost use Rattle.bt_nodes.specs.Plain.{plain, plains};
+ghost use Rattle.bt_nodes.specs.Heads.{keeps_child, keeps_threshold, keeps_count};
 ghost use Rattle.bt_nodes.specs.Limits.{has_children, all_have_children};
 ghost use Rattle.bt_nodes.specs.Limits.{is_threshold, has_thresholds, all_have_thresholds};
 ghost use Rattle.bt_nodes.specs.Limits.{is_count, has_counts, all_have_counts};
@@ -9,23 +10,49 @@ use crate::node::Node;
 use std::alloc::Allocator;
 
 impl<A: Allocator> Node<A> {
-    /// Whether each node that lists children has one.
-    #[cycle(has_children)]
-    pub(crate) fn has_children(&self) -> bool
-        ensures { result ≡ has_children (plain self.now) }
+    // Whether it has a child if its kind lists children.
+    fn keeps_child(&self) -> bool
+        ensures { result ≡ keeps_child (plain self.now) }
     {
         match self {
             Node::Seq(children)
             | Node::Fallback(children)
             | Node::Par(_, children)
             | Node::SeqStar(children)
-            | Node::FallbackStar(children) => {
-                !children.is_empty() && Node::all_have_children(children)
-            }
-            Node::Not(child) | Node::Tries(_, child) | Node::Ticks(_, child) => {
-                child.has_children()
-            }
+            | Node::FallbackStar(children) => !children.is_empty(),
             _ => true,
+        }
+    }
+
+    // Whether its threshold, if it has one, is from 1 to its number of children.
+    fn keeps_threshold(&self) -> bool
+        ensures { result ≡ keeps_threshold (plain self.now) }
+    {
+        match self {
+            Node::Par(threshold, children) => is_threshold(*threshold, children.len()),
+            _ => true,
+        }
+    }
+
+    // Whether its number of ticks or its distance, if it has one, is within its bounds.
+    fn keeps_count(&self) -> bool
+        ensures { result ≡ keeps_count (plain self.now) }
+    {
+        match self {
+            Node::Tries(ticks, _) | Node::Ticks(ticks, _) | Node::Wait(ticks) => is_count(*ticks),
+            Node::Near(distance) => *distance >= 1 && *distance <= 16,
+            _ => true,
+        }
+    }
+
+    /// Whether each node that lists children has one.
+    #[cycle(has_children)]
+    pub(crate) fn has_children(&self) -> bool
+        ensures { result ≡ has_children (plain self.now) }
+    {
+        match self.decorated() {
+            Some(child) => child.has_children(),
+            None => self.keeps_child() && Node::all_have_children(self.listed()),
         }
     }
 
@@ -46,18 +73,9 @@ impl<A: Allocator> Node<A> {
     pub(crate) fn has_thresholds(&self) -> bool
         ensures { result ≡ has_thresholds (plain self.now) }
     {
-        match self {
-            Node::Seq(children)
-            | Node::Fallback(children)
-            | Node::SeqStar(children)
-            | Node::FallbackStar(children) => Node::all_have_thresholds(children),
-            Node::Par(threshold, children) => {
-                is_threshold(*threshold, children.len()) && Node::all_have_thresholds(children)
-            }
-            Node::Not(child) | Node::Tries(_, child) | Node::Ticks(_, child) => {
-                child.has_thresholds()
-            }
-            _ => true,
+        match self.decorated() {
+            Some(child) => child.has_thresholds(),
+            None => self.keeps_threshold() && Node::all_have_thresholds(self.listed()),
         }
     }
 
@@ -78,19 +96,12 @@ impl<A: Allocator> Node<A> {
     pub(crate) fn has_counts(&self) -> bool
         ensures { result ≡ has_counts (plain self.now) }
     {
-        match self {
-            Node::Seq(children)
-            | Node::Fallback(children)
-            | Node::Par(_, children)
-            | Node::SeqStar(children)
-            | Node::FallbackStar(children) => Node::all_have_counts(children),
-            Node::Not(child) => child.has_counts(),
-            Node::Tries(ticks, child) | Node::Ticks(ticks, child) => {
-                is_count(*ticks) && child.has_counts()
-            }
-            Node::Wait(ticks) => is_count(*ticks),
-            Node::Near(distance) => *distance >= 1 && *distance <= 16,
-            _ => true,
+        if !self.keeps_count() {
+            return false;
+        }
+        match self.decorated() {
+            Some(child) => child.has_counts(),
+            None => Node::all_have_counts(self.listed()),
         }
     }
 

@@ -12,16 +12,9 @@ impl<A: Allocator> Node<A> {
     pub fn size(&self) -> u64
         ensures { result ≡ min (size (plain self.now)) u64.MAX }
     {
-        match self {
-            Node::Seq(children)
-            | Node::Fallback(children)
-            | Node::Par(_, children)
-            | Node::SeqStar(children)
-            | Node::FallbackStar(children) => Node::sizes(children).saturating_add(1),
-            Node::Not(child) | Node::Tries(_, child) | Node::Ticks(_, child) => {
-                child.size().saturating_add(1)
-            }
-            _ => 1,
+        match self.decorated() {
+            Some(child) => child.size().saturating_add(1),
+            None => Node::sizes(self.listed()).saturating_add(1),
         }
     }
 
@@ -42,16 +35,9 @@ impl<A: Allocator> Node<A> {
     pub fn depth(&self) -> u64
         ensures { result ≡ min (depth (plain self.now)) u64.MAX }
     {
-        match self {
-            Node::Seq(children)
-            | Node::Fallback(children)
-            | Node::Par(_, children)
-            | Node::SeqStar(children)
-            | Node::FallbackStar(children) => Node::deepest(children).saturating_add(1),
-            Node::Not(child) | Node::Tries(_, child) | Node::Ticks(_, child) => {
-                child.depth().saturating_add(1)
-            }
-            _ => 1,
+        match self.decorated() {
+            Some(child) => child.depth().saturating_add(1),
+            None => Node::deepest(self.listed()).saturating_add(1),
         }
     }
 

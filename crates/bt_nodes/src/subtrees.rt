@@ -23,26 +23,12 @@ impl<A: Allocator> Node<A> {
         ensures next { result ≡ at + size (plain self.now) }
         ensures written { take result table.new ≡ take at table.old ++ subtree_sizes (plain self.now) }
     {
-        match self {
-            Node::Seq(children)
-            | Node::Fallback(children)
-            | Node::Par(_, children)
-            | Node::SeqStar(children)
-            | Node::FallbackStar(children) => {
-                let next = Node::write_all_sizes(children, table, at + 1);
-                write_size(table, at, next);
-                next
-            }
-            Node::Not(child) | Node::Tries(_, child) | Node::Ticks(_, child) => {
-                let next = child.write_sizes(table, at + 1);
-                write_size(table, at, next);
-                next
-            }
-            _ => {
-                write_size(table, at, at + 1);
-                at + 1
-            }
-        }
+        let next = match self.decorated() {
+            Some(child) => child.write_sizes(table, at + 1),
+            None => Node::write_all_sizes(self.listed(), table, at + 1),
+        };
+        write_size(table, at, next);
+        next
     }
 
     // The same for the trees with these roots, one behind another.

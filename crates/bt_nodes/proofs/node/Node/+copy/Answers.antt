@@ -1,7 +1,8 @@
-use Rattle.std.proofs.Common.{ap, sym, ◌∙◌, map}
-use Rattle.bt_nodes.specs.Plain.{plain, plains, Composite, CompositeStar, Parallel, Sequence, Fallback}
-use Rattle.bt_nodes.proofs.Forests.{copied_more}
-use Rattle.bt_nodes.proofs.Views.{plain-Seq, plain-Fallback, plain-Par, plain-SeqStar, plain-FallbackStar}
+use Rattle.std.proofs.Common.{Some, ap, arith, sym, ◌∙◌, map}
+use Rattle.bt_nodes.specs.Plain.{plain}
+use Rattle.bt_nodes.specs.Sizes.{sizes}
+use Rattle.bt_nodes.proofs.Forests.{copied_more, copied_all}
+use Rattle.bt_nodes.proofs.Alike.{listed_smaller, decorated_smaller, item_smaller}
 use Rattle.bt_nodes.proofs.node.Node.+copy.Goals as goal
 
 pub copies_in-nodes-preserved : goal.copies_in-nodes-preserved
@@ -10,33 +11,45 @@ copies_in-nodes-preserved g t c =
     ∙ copied_more c.nodes.copies.items c.in_ok-copy_in.field-0 c.args.nodes.now c.nodes.node-index c.node-item.result
     c.nodes.invariant c.nodes-test.true (c.in_ok-copy_in.ensures ∙ ap plain c.node-item.is)
 
-pub copy_in-returns-in_ok-copies_in-in-Seq : goal.copy_in-returns-in_ok-copies_in-in-Seq
-copy_in-returns-in_ok-copies_in-in-Seq g t c =
-    plain-Seq c.in_ok-copies_in-in-Seq.field-0
-    ∙ ap (Composite Sequence) (c.in_ok-copies_in-in-Seq.ensures ∙ ap plains c.deref.ensures.value)
-    ∙ sym (ap plain c.in-Seq.is ∙ plain-Seq c.in-Seq.children)
+pub copies_in-copy_in-requires : goal.copies_in-copy_in-requires
+copies_in-copy_in-requires g t c κs within =
+    let small = item_smaller c.args.nodes.now c.nodes.node-index c.node-item.result c.nodes-test.true c.node-item.is in
+    (omega (arith, small), within)
 
-pub copy_in-returns-in_ok-copies_in-in-Fallback : goal.copy_in-returns-in_ok-copies_in-in-Fallback
-copy_in-returns-in_ok-copies_in-in-Fallback g t c =
-    plain-Fallback c.in_ok-copies_in-in-Fallback.field-0
-    ∙ ap (Composite Fallback) (c.in_ok-copies_in-in-Fallback.ensures ∙ ap plains c.deref-in-Fallback.ensures.value)
-    ∙ sym (ap plain c.in-Fallback.is ∙ plain-Fallback c.in-Fallback.children)
+pub copies_in-returns : goal.copies_in-returns
+copies_in-returns g t c = copied_all c.nodes.copies.items c.args.nodes.now c.nodes.node-index c.nodes.invariant c.nodes-test.false
 
-pub copy_in-returns-in_ok-copies_in-in-Par : goal.copy_in-returns-in_ok-copies_in-in-Par
-copy_in-returns-in_ok-copies_in-in-Par g t c =
-    plain-Par c.in-Par.threshold c.in_ok-copies_in-in-Par.field-0
-    ∙ ap (Parallel c.in-Par.threshold) (c.in_ok-copies_in-in-Par.ensures ∙ ap plains c.deref-in-Par.ensures.value)
-    ∙ sym (ap plain c.in-Par.is ∙ plain-Par c.in-Par.threshold c.in-Par.children)
+pub copy_in-copies_in-requires : goal.copy_in-copies_in-requires
+copy_in-copies_in-requires g t c κs within =
+    let small = listed_smaller (plain c.args.self.now) in
+    (omega (arith, small, ap sizes c.listed.ensures), within)
 
-pub copy_in-returns-in_ok-copies_in-in-SeqStar : goal.copy_in-returns-in_ok-copies_in-in-SeqStar
-copy_in-returns-in_ok-copies_in-in-SeqStar g t c =
-    plain-SeqStar c.in_ok-copies_in-in-SeqStar.field-0
-    ∙ ap (CompositeStar Sequence) (c.in_ok-copies_in-in-SeqStar.ensures ∙ ap plains c.deref-in-SeqStar.ensures.value)
-    ∙ sym (ap plain c.in-SeqStar.is ∙ plain-SeqStar c.in-SeqStar.children)
+pub copy_in-copy_in-requires : goal.copy_in-copy_in-requires
+copy_in-copy_in-requires g t c κs within =
+    let small = decorated_smaller (plain c.args.self.now) (plain c.in-Some.child.now) c.in-Some.ensures in
+    (omega (arith, small), within)
 
-pub copy_in-returns-in_ok-copies_in-in-FallbackStar :
-    goal.copy_in-returns-in_ok-copies_in-in-FallbackStar
-copy_in-returns-in_ok-copies_in-in-FallbackStar g t c =
-    plain-FallbackStar c.in_ok-copies_in-in-FallbackStar.field-0
-    ∙ ap (CompositeStar Fallback) (c.in_ok-copies_in-in-FallbackStar.ensures ∙ ap plains c.deref-in-FallbackStar.ensures.value)
-    ∙ sym (ap plain c.in-FallbackStar.is ∙ plain-FallbackStar c.in-FallbackStar.children)
+pub copy_in-list_in-requires-clause-lists : goal.copy_in-list_in-requires-clause-lists
+copy_in-list_in-requires-clause-lists g t c = sym c.lists.ensures ∙ c.if-lists.true
+
+pub copy_in-list_in-requires-clause-copied : goal.copy_in-list_in-requires-clause-copied
+copy_in-list_in-requires-clause-copied g t c = c.in_ok-copies.ensures ∙ c.listed.ensures
+
+pub copy_in-returns-then-lists : goal.copy_in-returns-then-lists
+copy_in-returns-then-lists g t c = c.list_in.ensures
+
+pub copy_in-decorator_in-requires : goal.copy_in-decorator_in-requires
+copy_in-decorator_in-requires g t c =
+    sym c.in-Some.ensures ∙ ap Some (sym (ap plain c.in_ok-copy-in-Some.ensures ∙ c.in_ok-copy_in-in-Some.ensures))
+
+pub copy_in-returns-in_ok-copy-in-Some : goal.copy_in-returns-in_ok-copy-in-Some
+copy_in-returns-in_ok-copy-in-Some g t c = c.decorator_in.ensures
+
+pub copy_in-leaf_in-requires-clause-lists_none : goal.copy_in-leaf_in-requires-clause-lists_none
+copy_in-leaf_in-requires-clause-lists_none g t c = sym c.lists.ensures ∙ c.if-lists.false
+
+pub copy_in-leaf_in-requires-clause-decorates_none : goal.copy_in-leaf_in-requires-clause-decorates_none
+copy_in-leaf_in-requires-clause-decorates_none g t c = sym c.in-None.ensures
+
+pub copy_in-returns-in-None : goal.copy_in-returns-in-None
+copy_in-returns-in-None g t c = c.leaf_in.ensures

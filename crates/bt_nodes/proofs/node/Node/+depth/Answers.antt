@@ -1,17 +1,32 @@
-use Rattle.std.proofs.Common.{ap, arith, refl}
-use Rattle.bt_nodes.specs.Plain.{plain, plains}
-use Rattle.bt_nodes.specs.Sizes.{depth, deepest}
+use Rattle.std.proofs.Common.{ap, arith}
+use Rattle.bt_nodes.specs.Plain.{plain}
+use Rattle.bt_nodes.specs.Sizes.{sizes, depth, deepest}
 use Rattle.bt_nodes.proofs.Forests.{plains-drop, plains-end}
-use Rattle.bt_nodes.proofs.Views.{listing}
+use Rattle.bt_nodes.proofs.Alike.{listed_smaller, decorated_smaller, item_smaller}
+use Rattle.bt_nodes.proofs.Below.{depth-listed, depth-decorated}
 use Rattle.bt_nodes.proofs.node.Node.+depth.Goals as goal
 
-pub depth-returns-in-Seq : goal.depth-returns-in-Seq
-depth-returns-in-Seq g t c =
-    omega (
-      arith,
-      listing depth c.args.self.now c.in-Seq.children _ refl refl (λ m. refl) refl refl c.in-Seq.is,
-      ap (λ nodes. deepest (plains nodes)) c.deref-in-Seq.ensures.value,
-    )
+pub depth-depth-requires : goal.depth-depth-requires
+depth-depth-requires g t c κs within =
+    let small = decorated_smaller (plain c.args.self.now) (plain c.in-Some.child.now) c.in-Some.ensures in
+    (omega (arith, small), within)
+
+pub depth-deepest-requires : goal.depth-deepest-requires
+depth-deepest-requires g t c κs within =
+    let small = listed_smaller (plain c.args.self.now) in
+    (omega (arith, small, ap sizes c.listed.ensures), within)
+
+pub deepest-depth-requires : goal.deepest-depth-requires
+deepest-depth-requires g t c κs within =
+    let small = item_smaller c.args.nodes.now c.nodes.node-index c.node-item.result c.nodes-test.true c.node-item.is in
+    (omega (arith, small), within)
+
+pub depth-returns-in-Some : goal.depth-returns-in-Some
+depth-returns-in-Some g t c = omega (arith, depth-decorated (plain c.args.self.now) (plain c.in-Some.child.now) c.in-Some.ensures)
+
+pub depth-returns-in-None : goal.depth-returns-in-None
+depth-returns-in-None g t c =
+    omega (arith, depth-listed (plain c.args.self.now) c.in-None.ensures, ap deepest c.listed.ensures)
 
 pub deepest-returns : goal.deepest-returns
 deepest-returns g t c =

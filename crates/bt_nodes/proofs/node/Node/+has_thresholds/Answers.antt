@@ -1,35 +1,39 @@
-use Rattle.std.proofs.Common.{◌≡◌, ◌&&◌, true, ap, arith, refl, sym, ◌∙◌}
-use Rattle.bt_nodes.specs.Plain.{plain, plains}
-use Rattle.bt_nodes.specs.Sizes.{count}
-use Rattle.bt_nodes.specs.Limits.{is_threshold, has_thresholds, all_have_thresholds}
-use Rattle.bt_nodes.proofs.Forests.{count-plains}
-use Rattle.bt_nodes.proofs.Views.{composite, plain-Par}
+use Rattle.std.proofs.Common.{true, false, ap, arith, refl, sym, ◌∙◌}
+use Rattle.bt_nodes.specs.Plain.{plain}
+use Rattle.bt_nodes.specs.Sizes.{sizes}
+use Rattle.bt_nodes.specs.Limits.{has_thresholds, all_have_thresholds}
+use Rattle.bt_nodes.proofs.Forests.{plains-end, one_asked}
+use Rattle.bt_nodes.proofs.Alike.{listed_smaller, decorated_smaller, item_smaller}
+use Rattle.bt_nodes.proofs.Below.{has_thresholds-decorated}
 use Rattle.bt_nodes.proofs.node.Node.+has_thresholds.Goals as goal
 
-pub has_thresholds-returns-in-Seq : goal.has_thresholds-returns-in-Seq
-has_thresholds-returns-in-Seq g t c =
-    c.all_have_thresholds-in-Seq.ensures
-    ∙ ap (λ nodes. all_have_thresholds (plains nodes)) c.deref-in-Seq.ensures.value
-    ∙ sym (composite has_thresholds c.args.self.now c.in-Seq.children _ refl refl refl refl c.in-Seq.is)
+pub has_thresholds-has_thresholds-requires : goal.has_thresholds-has_thresholds-requires
+has_thresholds-has_thresholds-requires g t c κs within =
+    let small = decorated_smaller (plain c.args.self.now) (plain c.in-Some.child.now) c.in-Some.ensures in
+    (omega (arith, small), within)
 
-pub has_thresholds-returns-then-is_threshold : goal.has_thresholds-returns-then-is_threshold
-has_thresholds-returns-then-is_threshold g t c =
-    let nodes = c.in-Par.children.items in
-    let m = c.in-Par.threshold in
-    let len : count (plains nodes) ≡ c.len.result = omega (arith, count-plains nodes, c.in-Par.children.ok.0) in
-    let fits : is_threshold m (count (plains nodes)) ≡ true =
-    ap (is_threshold m) len ∙ sym c.is_threshold.ensures ∙ c.if-is_threshold.true in
-    c.all_have_thresholds.ensures
-    ∙ ap (λ nodes. all_have_thresholds (plains nodes)) c.deref.ensures.value
-    ∙ sym (ap (λ b. b && all_have_thresholds (plains nodes)) fits)
-    ∙ sym (ap has_thresholds (ap plain c.in-Par.is ∙ plain-Par m c.in-Par.children))
+pub has_thresholds-all_have_thresholds-requires : goal.has_thresholds-all_have_thresholds-requires
+has_thresholds-all_have_thresholds-requires g t c κs within =
+    let small = listed_smaller (plain c.args.self.now) in
+    (omega (arith, small, ap sizes c.listed.ensures), within)
 
-pub has_thresholds-returns-else-is_threshold : goal.has_thresholds-returns-else-is_threshold
-has_thresholds-returns-else-is_threshold g t c =
-    let nodes = c.in-Par.children.items in
-    let m = c.in-Par.threshold in
-    let len : count (plains nodes) ≡ c.len.result = omega (arith, count-plains nodes, c.in-Par.children.ok.0) in
-    let fails = ap (is_threshold m) len ∙ sym c.is_threshold.ensures ∙ c.if-is_threshold.false in
-    c.if-is_threshold.false
-    ∙ sym (ap (λ b. b && all_have_thresholds (plains nodes)) fails)
-    ∙ sym (ap has_thresholds (ap plain c.in-Par.is ∙ plain-Par m c.in-Par.children))
+pub all_have_thresholds-has_thresholds-requires : goal.all_have_thresholds-has_thresholds-requires
+all_have_thresholds-has_thresholds-requires g t c κs within =
+    let small = item_smaller c.args.nodes.now c.nodes.node-index c.node-item.result c.nodes-test.true c.node-item.is in
+    (omega (arith, small), within)
+
+pub has_thresholds-returns-in-Some : goal.has_thresholds-returns-in-Some
+has_thresholds-returns-in-Some g t c = c.has_thresholds.ensures ∙ sym (has_thresholds-decorated (plain c.args.self.now) (plain c.in-Some.child.now) c.in-Some.ensures)
+
+pub all_have_thresholds-returns-then-not-has_thresholds : goal.all_have_thresholds-returns-then-not-has_thresholds
+all_have_thresholds-returns-then-not-has_thresholds g t c =
+    one_asked has_thresholds all_have_thresholds (λ p cs. refl) c.args.nodes.now c.nodes.node-index c.node-item.result false c.nodes-test.true
+    c.node-item.is c.if-not-has_thresholds.ensures c.nodes.invariant
+
+pub all_have_thresholds-nodes-preserved : goal.all_have_thresholds-nodes-preserved
+all_have_thresholds-nodes-preserved g t c =
+    one_asked has_thresholds all_have_thresholds (λ p cs. refl) c.args.nodes.now c.nodes.node-index c.node-item.result true c.nodes-test.true
+    c.node-item.is c.if-not-has_thresholds.ensures c.nodes.invariant
+
+pub all_have_thresholds-returns : goal.all_have_thresholds-returns
+all_have_thresholds-returns g t c = sym (ap all_have_thresholds (plains-end c.args.nodes.now c.nodes.node-index c.nodes-test.false)) ∙ c.nodes.invariant

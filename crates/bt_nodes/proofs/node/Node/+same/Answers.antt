@@ -2,7 +2,7 @@ use Rattle.std.proofs.Common.{ap, arith, refl, sym, ◌∙◌}
 use Rattle.bt_nodes.specs.Plain.{plain}
 use Rattle.bt_nodes.specs.Sizes.{size, sizes}
 use Rattle.bt_nodes.specs.Heads.{listed}
-use Rattle.bt_nodes.proofs.Alike.{same_tree, listed_smaller, element_smaller, other_count, other_element, same_more, same_all}
+use Rattle.bt_nodes.proofs.Alike.{same_tree, same_over_child, other_child, other_below, listed_smaller, decorated_smaller, element_smaller, other_count, other_element, same_more, same_all}
 use Rattle.bt_nodes.proofs.node.Node.+same.Goals as goal
 
 pub are_same-returns-then-nodes-others-clause-differs :
@@ -45,3 +45,30 @@ is_same-returns-in-None-None-clause-same g t c r =
 
 pub is_same-returns-in-None-None-clause-differs : goal.is_same-returns-in-None-None-clause-differs
 is_same-returns-in-None-None-clause-differs g t c r e = c.are_same.ensures.differs r (c.listed.ensures ∙ ap listed e ∙ sym c.listed-in-None-None.ensures)
+
+pub is_same-returns-then-not-has_same_head-clause-differs : goal.is_same-returns-then-not-has_same_head-clause-differs
+is_same-returns-then-not-has_same_head-clause-differs g t c r = c.if-not-has_same_head.ensures.differs refl
+
+pub is_same-is_same-requires : goal.is_same-is_same-requires
+is_same-is_same-requires g t c κs within =
+    let small = decorated_smaller (plain c.args.self.now) (plain c.in-Some-Some.child.now) c.in-Some-Some.ensures in
+    (omega (arith, small), within)
+
+pub is_same-returns-in-Some-Some-clause-same : goal.is_same-returns-in-Some-Some-clause-same
+is_same-returns-in-Some-Some-clause-same g t c r =
+    same_over_child (plain c.args.self.now) (plain c.args.other.now) (plain c.in-Some-Some.child.now) (plain c.in-Some-Some.twin.now)
+    (c.if-not-has_same_head.ensures.kinds refl) (c.if-not-has_same_head.ensures.numbers refl)
+    c.in-Some-Some.ensures c.in-Some-Some.ensures' (c.is_same.ensures.same r)
+
+pub is_same-returns-in-Some-Some-clause-differs : goal.is_same-returns-in-Some-Some-clause-differs
+is_same-returns-in-Some-Some-clause-differs g t c r =
+    other_child (plain c.args.self.now) (plain c.args.other.now) (plain c.in-Some-Some.child.now) (plain c.in-Some-Some.twin.now)
+    c.in-Some-Some.ensures c.in-Some-Some.ensures' (c.is_same.ensures.differs r)
+
+pub is_same-returns-in_default-clause-differs : goal.is_same-returns-in_default-clause-differs
+is_same-returns-in_default-clause-differs g t c r =
+    other_below (plain c.args.self.now) (plain c.args.other.now) (plain c.in_default.field-0-0.now) c.in_default.ensures c.in_default.ensures'
+
+pub is_same-returns-in_default-2-clause-differs : goal.is_same-returns-in_default-2-clause-differs
+is_same-returns-in_default-2-clause-differs g t c r e =
+    other_below (plain c.args.other.now) (plain c.args.self.now) (plain c.in_default.field-0-1.now) c.in_default.ensures' c.in_default.ensures (sym e)
