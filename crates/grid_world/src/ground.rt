@@ -59,7 +59,7 @@ impl Ground {
     ) -> Result<Ground, AllocError>
         requires sized { IsSized (bare columns rows kinds.items) }
         requires placed { All IsPlaced kinds.items }
-        ensures { IfOk result (λ ground. ground ≡ bare columns rows kinds.items) }
+        ensures { IfOk result (λ g. g ≡ bare columns rows kinds.items) }
     {
         let floor = floor_in(alloc, &kinds)?;
         let doors = doors_in(alloc, &kinds)?;
