@@ -4,6 +4,7 @@ pub mod Asked
 pub mod Forests
 pub mod Nests
 pub mod Leaving
+pub mod Handing
 pub mod Numbers
 pub mod Opening
 pub mod Outcomes
