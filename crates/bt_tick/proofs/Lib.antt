@@ -7,6 +7,7 @@ pub mod Leaving
 pub mod Handing
 pub mod Numbers
 pub mod Opening
+pub mod Beginning
 pub mod Outcomes
 pub mod Zero
 pub mod Fitting

@@ -14,7 +14,7 @@ use Rattle.bt_tick.proofs.Trees.{bound_at}
 use Rattle.bt_tick.proofs.Steps.{go_on_star}
 
 -- a memory that fits still does where a number below its bound is written
-fits_set : (p : Plain) (m : List ℕ) (n v : ℕ) → Fits p m → v < get_or (bounds p) n 0 → Fits p (set m n v)
+pub fits_set : (p : Plain) (m : List ℕ) (n v : ℕ) → Fits p m → v < get_or (bounds p) n 0 → Fits p (set m n v)
 fits_set p m n v h l = record {
   same_length = length-set m n v ∙ h.same_length;
   below = λ k w. elim (cases_eq k n) [
