@@ -9,15 +9,13 @@ use Rattle.bt_nodes.specs.declared.node.Status.{Status}
 use Rattle.bt_nodes.specs.declared.node.Status.TheVariants.{Success, Failure, Running}
 use Rattle.bt_nodes.specs.Plain.{Plain, Kind, Composite, Parallel, Invert, Tries, Ticks, Wait, Does, Forest, TakeItem, DropItem, AtPlace, Carries, OnItem, SignalOn, NearOther, plain}
 use Rattle.bt_nodes.specs.Sizes.{size, count}
-use Rattle.bt_nodes.specs.Bounds.{bounds, Fits}
 use Rattle.game_rules.specs.View.{View, carries, is_on_item}
 use Rattle.game_rules.specs.Tick.{State, gives, put, want, number_of, on, test, does, tick}
 use Rattle.bt_tick.specs.Suspended.{Open, go_on, close_at, unwind}
 use Rattle.bt_tick.specs.Places.{Sits, Nested}
 use Rattle.bt_tick.specs.Machine.{opens, with_parts}
 use Rattle.bt_tick.specs.declared.machine.Machine.{Machine}
-use Rattle.bt_tick.proofs.Trees.{size-children, sits_below, bound_at}
-use Rattle.bt_tick.proofs.Numbers.{fits_set}
+use Rattle.bt_tick.proofs.Trees.{size-children, sits_below}
 
 -- ---- the plain trees of nodes with no child
 
@@ -140,12 +138,6 @@ answered_falls p w = omega (arith, size-children p)
 
 pub number_below : (whole p : Plain) (n : ℕ) → Sits whole n p → n < size whole
 number_below whole p n sits = omega (arith, sits_below whole p n sits, size-children p)
-
--- a memory still fits where a number is written that is below the node's own bound
-pub sat_wrote : (whole p : Plain) (m m' : List ℕ) (n k b : ℕ) (part : List ℕ) → Fits whole m → Sits whole n p → bounds p ≡ b ∷ part → k < b → m' ≡ set m n k → Fits whole m'
-sat_wrote whole p m m' n k b part fits sits own l is =
-    let at = bound_at whole p n b part own sits in
-    subst (Fits whole) (sym is) (fits_set whole m n k fits (omega (arith, at, l)))
 
 module _ {T A : Type 0} (old new : Machine T A) (i : Intent) (same : new.stack ≡ old.stack) where
   pub wanted_keeps : new.memory ≡ old.memory → new.wants.items ≡ old.wants.items ++ i ∷ [] → (v : View) (s : State)

@@ -4,8 +4,6 @@ use Rattle.bt_nodes.specs.declared.node.Status.{Status}
 use Rattle.bt_nodes.specs.declared.node.Status.TheVariants.{Success, Failure, Running}
 use Rattle.bt_nodes.specs.Plain.{Plain, Kind, Sequence, Fallback, Composite, CompositeStar, Parallel, Invert, Tries, Ticks, Forest, none, tree}
 use Rattle.bt_nodes.specs.Sizes.{size, count}
-use Rattle.bt_nodes.specs.Bounds.{Fits}
-use Rattle.bt_nodes.proofs.MemoryBounds.{length-bounds}
 use Rattle.game_rules.specs.View.{View}
 use Rattle.game_rules.specs.Tick.{State, Result, gives, goes, stops, put, on}
 use Rattle.bt_tick.specs.Children.{children_of}
@@ -16,7 +14,6 @@ use Rattle.bt_tick.specs.Machine.{opens, rest_of, with_parts, Keeps, whole_of, P
 use Rattle.bt_tick.specs.declared.machine.Mode.{Mode}
 use Rattle.bt_tick.specs.declared.machine.Mode.TheVariants.{Up}
 use Rattle.bt_tick.specs.declared.machine.Machine.{Machine}
-use Rattle.bt_tick.proofs.Trees.{size-children, sits_below}
 use Rattle.bt_tick.proofs.Nests.{closed_at}
 use Rattle.bt_tick.proofs.Leaving.{left_keeps, stopped_placed, left_falls}
 
@@ -88,7 +85,6 @@ module _ (v : View) (f : Open) (s : State) where
 
 -- ---- where it stands
 
-
 list_more : (p : Plain) (k n m : ℕ) → HasList p → n < limit_of p k → m ≤ n + 1 → m < limit_of p (suc k)
 list_more (Composite kind cs) k n m list l h = omega arith
 list_more (CompositeStar kind cs) k n m list l h = omega arith
@@ -113,10 +109,6 @@ rested whole e f fs won lost list more r n = (
 -- the only child of a node ends where the node ends
 pub only_closed : (whole : Plain) (e around : ℕ) (f : Open) (c : Plain) → children_of f.node ≡ tree c none → Standing whole f.next e around f → e ≡ f.number + size f.node
 only_closed whole e around f c only r = closed_at whole f.next e around f r (let n = ap count only in omega (arith, n, r.some))
-
--- a node's number is in a memory that fits
-pub number_within : (whole p : Plain) (m : List ℕ) (n : ℕ) → Fits whole m → Sits whole n p → n < length m
-number_within whole p m n fits sits = omega (arith, sits_below whole p n sits, size-children p, length-bounds whole, fits.same_length)
 
 -- ---- a node that is left
 

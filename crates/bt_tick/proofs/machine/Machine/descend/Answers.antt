@@ -15,9 +15,9 @@ use Rattle.bt_tick.specs.Views.{view_of}
 use Rattle.bt_tick.specs.Machine.{opened, opens, whole_of, with_parts}
 use Rattle.bt_tick.proofs.Trees.{size-children}
 use Rattle.bt_tick.proofs.Nests.{room}
-use Rattle.bt_tick.proofs.Handing.{number_within}
+use Rattle.bt_tick.proofs.Numbers.{number_within, sat_wrote, zero_wrote}
 use Rattle.bt_tick.proofs.Opening.{if_ok, first_rests, only_stands, placed_by}
-use Rattle.bt_tick.proofs.Beginning.{plain-Wait, plain-Take, plain-Drop, plain-At, plain-Carrying, plain-Item, plain-Signal, plain-Near, line_begins, all_begins, not_begins, tries_begins, tries_over, ticks_begins, ticks_over, waits, waited, takes, takes_none, drops, drops_none, holds, answered_nested, answered_falls, number_below, sat_wrote, wanted_keeps}
+use Rattle.bt_tick.proofs.Beginning.{plain-Wait, plain-Take, plain-Drop, plain-At, plain-Carrying, plain-Item, plain-Signal, plain-Near, line_begins, all_begins, not_begins, tries_begins, tries_over, ticks_begins, ticks_over, waits, waited, takes, takes_none, drops, drops_none, holds, answered_nested, answered_falls, number_below, wanted_keeps}
 use Rattle.bt_tick.proofs.machine.Machine.descend.Goals as goal
 
 pub overflow_add-after : goal.overflow_add-after
@@ -168,7 +168,7 @@ set-requires g c =
 
 pub invariant_of-self : goal.invariant_of-self
 invariant_of-self g c =
-    record { fits = sat_wrote (whole_of c.args.self.now) (plain c.args.node.now) c.args.self.now.memory _ c.args.number 0 _ _ c.args.self.now.fits c.requires.sits (ap bounds (ap plain c.in-Ticks.is ∙ plain-Ticks c.in-Ticks.most c.in-Ticks.child)) (omega arith) c.set.ensures }
+    record { fits = zero_wrote (whole_of c.args.self.now) (plain c.args.node.now) c.args.self.now.memory _ c.args.number c.args.self.now.fits c.requires.sits c.set.ensures }
 
 pub number_after-requires-then-past-most : goal.number_after-requires-then-past-most
 number_after-requires-then-past-most g c =
@@ -221,7 +221,7 @@ invariant_of-self-then-past-most-2 g c =
 
 pub invariant_of-self-in-Wait : goal.invariant_of-self-in-Wait
 invariant_of-self-in-Wait g c =
-    record { fits = sat_wrote (whole_of c.args.self.now) (plain c.args.node.now) c.args.self.now.memory _ c.args.number 0 _ _ c.args.self.now.fits c.requires.sits (ap bounds (ap plain c.in-Wait.is ∙ plain-Wait _ c.in-Wait.most)) (omega arith) c.set-in-Wait.ensures }
+    record { fits = zero_wrote (whole_of c.args.self.now) (plain c.args.node.now) c.args.self.now.memory _ c.args.number c.args.self.now.fits c.requires.sits c.set-in-Wait.ensures }
 
 pub returns-then-past-most-2 : goal.returns-then-past-most-2
 returns-then-past-most-2 g c =
