@@ -1,16 +1,16 @@
 -- What the machine does with a node that is ticked is what the node's tick does.
-use Rattle.std.proofs.Common.{◌≡◌, ℕ, ◌+◌, ◌*◌, ◌<◌, ◌≤◌, List, [], ◌∷◌, ◌++◌, set, Bool, true, false, nat_lt, refl, sym, ap, ◌∙◌, subst, rules, arith}
+use Rattle.std.proofs.Common.{◌≡◌, ℕ, ◌+◌, ◌*◌, ◌<◌, ◌≤◌, List, [], ◌∷◌, ◌++◌, Bool, true, false, nat_lt, refl, sym, ap, ◌∙◌, subst, rules, arith}
 use Rattle.std.specs.Prelude.{if◌then◌else◌}
 use Rattle.std.proofs.lemmas.Bool.Decides.{nat_tests}
 use Rattle.grid_world.specs.declared.cell.Intent.{Intent}
 use Rattle.grid_world.specs.declared.cell.Intent.TheVariants.{Take, Drop}
-use Rattle.bt_nodes.specs.declared.node.Node.{Node, Wait as WaitNode, Take as TakeNode, Drop as DropNode, At, Carrying, Item, Signal, Near, the_lemmas}
+use Rattle.bt_nodes.specs.declared.node.Node.{Wait as WaitNode, Take as TakeNode, Drop as DropNode, At, Carrying, Item, Signal, Near, the_lemmas}
 use Rattle.bt_nodes.specs.declared.node.Status.{Status}
 use Rattle.bt_nodes.specs.declared.node.Status.TheVariants.{Success, Failure, Running}
 use Rattle.bt_nodes.specs.Plain.{Plain, Kind, Composite, Parallel, Invert, Tries, Ticks, Wait, Does, Forest, TakeItem, DropItem, AtPlace, Carries, OnItem, SignalOn, NearOther, plain}
-use Rattle.bt_nodes.specs.Sizes.{size, count}
+use Rattle.bt_nodes.specs.Sizes.{size}
 use Rattle.game_rules.specs.View.{View, carries, is_on_item}
-use Rattle.game_rules.specs.Tick.{State, gives, put, want, number_of, on, test, does, tick}
+use Rattle.game_rules.specs.Tick.{State, gives, put, want, number_of, test, tick}
 use Rattle.bt_tick.specs.Suspended.{Open, go_on, close_at, unwind}
 use Rattle.bt_tick.specs.Places.{Sits, Nested}
 use Rattle.bt_tick.specs.Machine.{opens, with_parts}

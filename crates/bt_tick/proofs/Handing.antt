@@ -1,15 +1,15 @@
 -- What the machine does with the status of a child is what the open node does with it.
-use Rattle.std.proofs.Common.{◌≡◌, ℕ, suc, ◌+◌, ◌<◌, ◌≤◌, ◌⊎◌, inl, inr, List, length, drop, set, refl, sym, ap, ◌∙◌, subst, arith}
+use Rattle.std.proofs.Common.{◌≡◌, ℕ, suc, ◌+◌, ◌<◌, ◌≤◌, ◌⊎◌, inl, inr, List, length, drop, refl, sym, ap, ◌∙◌, subst, arith}
 use Rattle.bt_nodes.specs.declared.node.Status.{Status}
 use Rattle.bt_nodes.specs.declared.node.Status.TheVariants.{Success, Failure, Running}
-use Rattle.bt_nodes.specs.Plain.{Plain, Kind, Sequence, Fallback, Composite, CompositeStar, Parallel, Invert, Tries, Ticks, Forest, none, tree}
+use Rattle.bt_nodes.specs.Plain.{Plain, Kind, Sequence, Fallback, Composite, CompositeStar, Parallel, Tries, Ticks, Forest, none, tree}
 use Rattle.bt_nodes.specs.Sizes.{size, count}
 use Rattle.game_rules.specs.View.{View}
-use Rattle.game_rules.specs.Tick.{State, Result, gives, goes, stops, put, on}
+use Rattle.game_rules.specs.Tick.{State, Result, gives, goes, stops, put}
 use Rattle.bt_tick.specs.Children.{children_of}
 use Rattle.bt_tick.specs.Kinds.{HasList}
 use Rattle.bt_tick.specs.Suspended.{Open, go_on, close, close_at}
-use Rattle.bt_tick.specs.Places.{Sits, Standing, Nested, Resting, limit_of, weight_of, weight_all}
+use Rattle.bt_tick.specs.Places.{Standing, Nested, Resting, limit_of, weight_of, weight_all}
 use Rattle.bt_tick.specs.Machine.{opens, rest_of, with_parts, Keeps, whole_of, Placed, weight}
 use Rattle.bt_tick.specs.declared.machine.Mode.{Mode}
 use Rattle.bt_tick.specs.declared.machine.Mode.TheVariants.{Up}

@@ -1,5 +1,5 @@
 -- What leaving a node keeps, by the status that it gives.
-use Rattle.std.proofs.Common.{◌≡◌, ℕ, suc, ◌+◌, ◌*◌, ◌≤◌, List, length, drop, sym, ap, ◌∙◌, subst, arith}
+use Rattle.std.proofs.Common.{◌≡◌, ℕ, suc, ◌+◌, ◌≤◌, List, length, drop, sym, ap, ◌∙◌, subst, arith}
 use Rattle.bt_nodes.specs.declared.node.Status.{Status}
 use Rattle.bt_nodes.specs.Plain.{Plain, Kind, Composite, CompositeStar, Parallel, Forest, plains}
 use Rattle.bt_nodes.specs.Sizes.{size, count}

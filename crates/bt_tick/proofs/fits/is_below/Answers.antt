@@ -1,4 +1,4 @@
-use Rattle.std.proofs.Common.{◌≡◌, ◌⊎◌, inl, inr, Vec, ap, sym, ◌∙◌, length, arith, nat_lt}
+use Rattle.std.proofs.Common.{◌≡◌, ◌⊎◌, inl, inr, Vec, ap, ◌∙◌, length, arith, nat_lt}
 use Rattle.bt_nodes.specs.Plain.{plain}
 use Rattle.bt_nodes.specs.declared.node.Node.{Node, SeqStar, FallbackStar}
 use Rattle.bt_nodes.proofs.Views.{plain-SeqStar, plain-FallbackStar}

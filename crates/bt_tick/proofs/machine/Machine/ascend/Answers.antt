@@ -2,7 +2,6 @@ use Rattle.std.proofs.Common.{◌+◌, ap, sym, ◌∙◌, subst, refl, drop, ar
 use Rattle.std.specs.Prelude.{slice_set}
 use Rattle.bt_nodes.specs.declared.node.Status.TheVariants.{Success, Failure, Running}
 use Rattle.bt_nodes.specs.Plain.{plain, plains, Sequence, Fallback, Parallel, Invert, Tries, Ticks}
-use Rattle.bt_nodes.specs.Sizes.{count}
 use Rattle.bt_nodes.proofs.Views.{plain-Seq, plain-Fallback, plain-Par, plain-SeqStar, plain-FallbackStar, plain-Not, plain-Tries, plain-Ticks}
 use Rattle.bt_nodes.proofs.Forests.{count-plains}
 use Rattle.game_rules.specs.Tick.{gives}

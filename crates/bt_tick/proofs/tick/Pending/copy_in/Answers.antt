@@ -2,7 +2,6 @@ use Rattle.std.proofs.Common.{◌≡◌, ap, rules, ◌∙◌, sym, subst, refl}
 use Rattle.bt_nodes.specs.Bounds.{Fits}
 use Rattle.bt_nodes.specs.Trees.{plain_of}
 use Rattle.bt_tick.specs.Suspended.{left_of_tick}
-use Rattle.bt_tick.specs.Places.{Nested}
 use Rattle.bt_tick.specs.Machine.{opens}
 use Rattle.bt_tick.proofs.tick.Pending.copy_in.Goals as goal
 
