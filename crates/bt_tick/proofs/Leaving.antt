@@ -10,8 +10,8 @@ use Rattle.game_rules.specs.View.{View}
 use Rattle.game_rules.specs.Tick.{State, Result, gives, goes, put, verdict}
 use Rattle.bt_tick.specs.Children.{children_of}
 use Rattle.bt_tick.specs.Suspended.{Open, go_on, unwind}
-use Rattle.bt_tick.specs.Places.{Nested, Resting}
-use Rattle.bt_tick.specs.Machine.{opens, left_of, rest_of, with_parts, Keeps, whole_of, Placed}
+use Rattle.bt_tick.specs.Places.{Nested, Resting, weight_of, weight_all}
+use Rattle.bt_tick.specs.Machine.{opens, left_of, rest_of, with_parts, Keeps, whole_of, Placed, weight}
 use Rattle.bt_tick.specs.declared.machine.Mode.{Mode}
 use Rattle.bt_tick.specs.declared.machine.Mode.TheVariants.{Up}
 use Rattle.bt_tick.specs.declared.machine.Machine.{Machine}
@@ -42,6 +42,12 @@ module _ {T A : Type 0} (old new : Machine T A) (mode : Mode T) (st : Status) (e
   -- left where none of its children is left
   pub ended_placed : (f : Open) → Resting (whole_of old) e f (opens (drop 1 old.stack)) → count (children_of f.node) ≤ f.next → new.tree ≡ old.tree → Placed new mode
   ended_placed f (r, n) h t = stopped_placed f (closed_at (whole_of old) (suc f.next) e (length (opens (drop 1 old.stack))) f r h) n t
+
+  pub left_falls : (f : Open) → weight new mode ≤ weight_of f + weight_all (opens (drop 1 old.stack))
+  left_falls f =
+      let l : 1 + weight_all (opens (drop 1 old.stack)) ≤ weight_of f + weight_all (opens (drop 1 old.stack)) = omega arith in
+      subst (λ md. weight new md ≤ weight_of f + weight_all (opens (drop 1 old.stack))) (sym is)
+      (subst (λ fs. 1 + weight_all (opens fs) ≤ weight_of f + weight_all (opens (drop 1 old.stack))) (sym left) l)
 
 -- no child is left
 pub none_left : {T : Type 0} (f : Open) (nodes : List (Node T)) → children_of f.node ≡ plains nodes → length nodes ≤ f.next → count (children_of f.node) ≤ f.next

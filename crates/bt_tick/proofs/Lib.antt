@@ -4,8 +4,10 @@ pub mod Asked
 pub mod Forests
 pub mod Nests
 pub mod Leaving
+pub mod Handing
 pub mod Numbers
 pub mod Opening
+pub mod Beginning
 pub mod Outcomes
 pub mod Zero
 pub mod Fitting

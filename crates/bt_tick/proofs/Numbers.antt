@@ -1,16 +1,17 @@
 -- The numbers that nodes write into a memory that fits.
-use Rattle.std.proofs.Common.{◌≡◌, ℕ, ◌+◌, ◌<◌, ◌≤◌, List, ◌∷◌, get_or, set, inl, inr, sym, ap, ◌∙◌, subst, arith, refl}
+use Rattle.std.proofs.Common.{◌≡◌, ℕ, ◌+◌, ◌<◌, ◌≤◌, List, ◌∷◌, get_or, length, set, inl, inr, sym, ap, ◌∙◌, subst, arith, refl}
 use Rattle.std.proofs.lemmas.Bool.{cases_eq}
 use Rattle.std.proofs.lemmas.List.{get_or-set_same, get_or-set_other, length-set, set-set}
 use Rattle.bt_nodes.specs.Plain.{Plain, Kind, Sequence, Fallback, CompositeStar, Tries, Ticks, Forest}
 use Rattle.bt_nodes.specs.Sizes.{count}
 use Rattle.bt_nodes.specs.Bounds.{bounds, Fits}
+use Rattle.bt_nodes.proofs.MemoryBounds.{length-bounds}
 use Rattle.game_rules.specs.View.{View}
 use Rattle.game_rules.specs.Tick.{State, gives, goes, put}
 use Rattle.bt_tick.specs.Children.{children_of}
 use Rattle.bt_tick.specs.Suspended.{Open, close, close_at, go_on}
-use Rattle.bt_tick.specs.Places.{Standing, limit_of}
-use Rattle.bt_tick.proofs.Trees.{bound_at}
+use Rattle.bt_tick.specs.Places.{Sits, Standing, limit_of}
+use Rattle.bt_tick.proofs.Trees.{bound_at, size-children, sits_below}
 use Rattle.bt_tick.proofs.Steps.{go_on_star}
 
 -- a memory that fits still does where a number below its bound is written
@@ -22,6 +23,22 @@ fits_set p m n v h l = record {
     | inr ne ↦ subst (λ x. x < get_or (bounds p) k 0) (sym (get_or-set_other m n k v 0 ne)) (h.below k (omega (arith, w, length-set m n v)))
   ];
 }
+
+-- a node's number is in a memory that fits
+pub number_within : (whole p : Plain) (m : List ℕ) (n : ℕ) → Fits whole m → Sits whole n p → n < length m
+number_within whole p m n fits sits = omega (arith, sits_below whole p n sits, size-children p, length-bounds whole, fits.same_length)
+
+-- a memory still fits where a number is written that is below the node's own bound
+pub sat_wrote : (whole p : Plain) (m m' : List ℕ) (n k b : ℕ) (part : List ℕ) → Fits whole m → Sits whole n p → bounds p ≡ b ∷ part → k < b → m' ≡ set m n k → Fits whole m'
+sat_wrote whole p m m' n k b part fits sits own l is =
+    let at = bound_at whole p n b part own sits in
+    subst (Fits whole) (sym is) (fits_set whole m n k fits (omega (arith, at, l)))
+
+-- so does one where 0 is written
+pub zero_wrote : (whole p : Plain) (m m' : List ℕ) (n : ℕ) → Fits whole m → Sits whole n p → m' ≡ set m n 0 → Fits whole m'
+zero_wrote whole p m m' n fits sits is =
+    let l : get_or m n 0 < get_or (bounds whole) n 0 = fits.below n (number_within whole p m n fits sits) in
+    subst (Fits whole) (sym is) (fits_set whole m n 0 fits (omega (arith, l)))
 
 module _ (p : Plain) (m m' : List ℕ) (v : ℕ) (counting e around : ℕ) (f : Open) (fits : Fits p m) (stands : Standing p counting e around f) (is : m' ≡ set m f.number v) where
   -- by a node whose own bound is this

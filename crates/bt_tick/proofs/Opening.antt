@@ -1,5 +1,5 @@
 -- What opening a node keeps.
-use Rattle.std.proofs.Common.{◌≡◌, ℕ, suc, ◌+◌, ◌*◌, ◌<◌, ◌≤◌, List, ◌∷◌, length, get_or, refl, sym, ap, ◌∙◌, subst, arith}
+use Rattle.std.proofs.Common.{◌≡◌, ℕ, suc, ◌+◌, ◌*◌, ◌<◌, ◌≤◌, List, [], ◌∷◌, length, get_or, refl, sym, ap, ◌∙◌, subst, arith}
 use Rattle.std.specs.Prelude.{IfOk, Ok, Err, Result as Res}
 use Rattle.std.proofs.Common.{Bor}
 use Rattle.bt_nodes.specs.Plain.{Plain, Kind, Composite, CompositeStar, Parallel, Forest, none, tree, plain, plains}
@@ -19,7 +19,7 @@ use Rattle.bt_tick.specs.Machine.{opens, end_of, StandsAt, whole_of, Placed, res
 use Rattle.bt_tick.specs.declared.machine.Mode.{Mode}
 use Rattle.bt_tick.specs.declared.machine.Mode.TheVariants.{Down}
 use Rattle.bt_tick.specs.declared.machine.Machine.{Machine}
-use Rattle.bt_tick.proofs.Trees.{size-children, child_there, child_next, sits_child, sits_below, bound_at, sizes_from}
+use Rattle.bt_tick.proofs.Trees.{size-children, child_there, child_next, sits_child, sits_below, sits_whole, bound_at, sizes_from}
 use Rattle.bt_tick.proofs.Steps.{begin_star}
 use Rattle.bt_tick.proofs.Nests.{room}
 
@@ -126,3 +126,10 @@ only_stands whole f c around only sits one counts deep = record {
 
 pub down_within : {T A : Type 0} (m : Machine T A) (mode : Mode T) (node : Bor (Node T)) (n : ℕ) → mode ≡ Down node n → Placed m mode → n + size (plain node.now) ≤ 255
 down_within m mode node n is p = let s = subst (Placed m) is p in room m.tree.now (plain node.now) n s.stands.0
+
+-- a machine with no open node begins the root
+pub root_placed : {T A : Type 0} (m : Machine T A) (root : Bor (Node T)) → m.stack ≡ [] → plain root.now ≡ whole_of m → Placed m (Down root 0)
+root_placed m root empty is = record {
+  nested = subst (λ fs. Nested (whole_of m) (0 + size (plain root.now)) (opens fs)) (sym empty) tt;
+  stands = (subst (Sits (whole_of m) 0) (sym is) (sits_whole (whole_of m)), (let e = ap length empty in omega (arith, e)));
+}

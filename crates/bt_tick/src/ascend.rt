@@ -4,7 +4,7 @@ ghost use Rattle.std.specs.Prelude.{◌≡◌, ◌<◌, ◌≤◌, ◌+◌, ◌-
 ghost use Rattle.bt_nodes.specs.Plain.{plain};
 ghost use Rattle.bt_nodes.specs.Sizes.{size};
 ghost use Rattle.game_rules.specs.View.{View};
-ghost use Rattle.game_rules.specs.Tick.{gives};
+ghost use Rattle.game_rules.specs.Tick.{State, gives, on};
 ghost use Rattle.bt_tick.specs.Suspended.{close};
 ghost use Rattle.bt_tick.specs.Places.{Sits, Standing, Nested, weight_of, weight_all};
 ghost use Rattle.bt_tick.specs.Machine.{opened, opens, Keeps, whole_of, Placed, weight};
@@ -13,6 +13,18 @@ use crate::machine::{Machine, Mode};
 use bt_nodes::{Node, Status};
 use fiber_stack::Frame;
 use std::alloc::Allocator;
+
+// What `Not` makes of the status of its child.
+fn opposite(status: Status) -> Status
+    ensures { (s : State) →
+        gives result s ≡ on (gives status s) (gives Status.Failure) (gives Status.Success) (gives Status.Running) }
+{
+    match status {
+        Status::Success => Status::Failure,
+        Status::Failure => Status::Success,
+        Status::Running => Status::Running,
+    }
+}
 
 impl<'t, T: Allocator, A: Allocator> Machine<'t, T, A> {
     // Leaves the innermost open node with children that are not ticked. None of them is walked over for the number that
@@ -49,13 +61,11 @@ impl<'t, T: Allocator, A: Allocator> Machine<'t, T, A> {
         match frame.node {
             Node::Seq(_) => match status {
                 Status::Success => self.advance(frame, at),
-                Status::Failure => self.stop(frame, Status::Failure),
-                Status::Running => self.stop(frame, Status::Running),
+                Status::Failure | Status::Running => self.stop(frame, status),
             },
             Node::Fallback(_) => match status {
                 Status::Failure => self.advance(frame, at),
-                Status::Success => self.stop(frame, Status::Success),
-                Status::Running => self.stop(frame, Status::Running),
+                Status::Success | Status::Running => self.stop(frame, status),
             },
             Node::Par(_, _) => match status {
                 Status::Success => self.advance(
@@ -104,11 +114,7 @@ impl<'t, T: Allocator, A: Allocator> Machine<'t, T, A> {
                 }
                 Status::Running => self.stop(frame, Status::Running),
             },
-            Node::Not(_) => match status {
-                Status::Success => self.leave(Status::Failure, at),
-                Status::Failure => self.leave(Status::Success, at),
-                Status::Running => self.leave(Status::Running, at),
-            },
+            Node::Not(_) => self.leave(opposite(status), at),
             Node::Tries(most, _) => match status {
                 Status::Failure => {
                     let _most = *most;

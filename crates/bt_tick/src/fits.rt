@@ -1,8 +1,9 @@
 // Whether a memory fits a tree.
 
-ghost use Rattle.std.specs.Prelude.{◌≡◌, ◌↔◌, nat_lt, None, Some, MatchOption, IsTrue};
+ghost use Rattle.std.specs.Prelude.{◌≡◌, ◌↔◌, nat_lt, option_map, None, Some, MatchOption, IsTrue};
 ghost use Rattle.bt_nodes.specs.Plain.{plain, plains};
 ghost use Rattle.bt_nodes.specs.Bounds.{bounds, bounds_all, Fits};
+ghost use Rattle.bt_nodes.specs.Heads.{listed, decorated};
 ghost use Rattle.bt_nodes.specs.Trees.{plain_of};
 ghost use Rattle.bt_tick.specs.Fitting.{behind, root_bound};
 
@@ -15,23 +16,33 @@ fn is_below<T: Allocator>(node: &Node<T>, number: u64) -> bool
     ensures { result ≡ nat_lt number (root_bound (plain node.now)) }
 {
     match node {
-        Node::SeqStar(children) => number < children.len() as u64,
-        Node::FallbackStar(children) => number < children.len() as u64,
-        Node::Tries(most, _) => number <= *most,
-        Node::Ticks(most, _) => number <= *most,
-        Node::Wait(most) => number <= *most,
-        Node::Seq(_) => number < 1,
-        Node::Fallback(_) => number < 1,
-        Node::Par(_, _) => number < 1,
-        Node::Not(_) => number < 1,
-        Node::Move(_) => number < 1,
-        Node::Take => number < 1,
-        Node::Drop => number < 1,
-        Node::At(_) => number < 1,
-        Node::Carrying => number < 1,
-        Node::Item => number < 1,
-        Node::Signal(_) => number < 1,
-        Node::Near(_) => number < 1,
+        Node::SeqStar(children) | Node::FallbackStar(children) => number < children.len() as u64,
+        Node::Tries(most, _) | Node::Ticks(most, _) | Node::Wait(most) => number <= *most,
+        _ => number < 1,
+    }
+}
+
+// The children that a node lists.
+fn listed<T: Allocator>(node: &Node<T>) -> &[Node<T>]
+    ensures { plains result.now ≡ listed (plain node.now) }
+{
+    match node {
+        Node::Seq(children)
+        | Node::Fallback(children)
+        | Node::Par(_, children)
+        | Node::SeqStar(children)
+        | Node::FallbackStar(children) => children,
+        _ => &[],
+    }
+}
+
+// The one child that a node has by its kind.
+fn decorated<T: Allocator>(node: &Node<T>) -> Option<&Node<T>>
+    ensures { option_map (λ child. plain child.now) result ≡ decorated (plain node.now) }
+{
+    match node {
+        Node::Not(child) | Node::Tries(_, child) | Node::Ticks(_, child) => Some(child),
+        _ => None,
     }
 }
 
@@ -47,24 +58,9 @@ fn behind<'m, T: Allocator>(node: &Node<T>, numbers: &'m [u64]) -> Option<&'m [u
     if !is_below(node, *own) {
         return None;
     }
-    match node {
-        Node::Seq(children) => behind_all(children, rest),
-        Node::Fallback(children) => behind_all(children, rest),
-        Node::Par(_, children) => behind_all(children, rest),
-        Node::SeqStar(children) => behind_all(children, rest),
-        Node::FallbackStar(children) => behind_all(children, rest),
-        Node::Not(child) => behind(child, rest),
-        Node::Tries(_, child) => behind(child, rest),
-        Node::Ticks(_, child) => behind(child, rest),
-        Node::Wait(_) => Some(rest),
-        Node::Move(_) => Some(rest),
-        Node::Take => Some(rest),
-        Node::Drop => Some(rest),
-        Node::At(_) => Some(rest),
-        Node::Carrying => Some(rest),
-        Node::Item => Some(rest),
-        Node::Signal(_) => Some(rest),
-        Node::Near(_) => Some(rest),
+    match decorated(node) {
+        Some(child) => behind(child, rest),
+        None => behind_all(listed(node), rest),
     }
 }
 

@@ -1,10 +1,18 @@
-use Rattle.std.proofs.Common.{◌+◌, ap, sym, ◌∙◌, drop}
+use Rattle.std.proofs.Common.{◌+◌, ap, sym, ◌∙◌, drop, arith}
 use Rattle.bt_nodes.specs.Plain.{plain, plains, tree}
+use Rattle.bt_nodes.specs.Sizes.{size}
 use Rattle.bt_nodes.specs.Bounds.{bounds, bounds_all}
+use Rattle.bt_nodes.proofs.Alike.{element_smaller}
 use Rattle.bt_nodes.proofs.Forests.{plains-drop}
 use Rattle.bt_tick.specs.Fitting.{behind}
 use Rattle.bt_tick.proofs.Fitting.{some_behind, none_behind}
 use Rattle.bt_tick.proofs.fits.+behind.Goals as goal
+
+pub behind_all-behind-requires : goal.behind_all-behind-requires
+behind_all-behind-requires g t c κs within =
+    let small = element_smaller c.args.nodes.now c.nodes.node-index c.node-item.result c.nodes-test.true in
+    let is = ap (λ n. size (plain n)) c.node-item.is in
+    (omega (arith, small, is), within)
 
 pub behind_all-returns-in-None : goal.behind_all-returns-in-None
 behind_all-returns-in-None g t c =

@@ -4,6 +4,7 @@ use Rattle.bt_tick.specs.Suspended.{unwind, after}
 use Rattle.bt_tick.specs.Views.{view_of}
 use Rattle.bt_tick.specs.Machine.{opens}
 use Rattle.bt_tick.specs.Outcome.{fresh, means}
+use Rattle.bt_tick.proofs.Opening.{placed_by}
 use Rattle.bt_tick.proofs.Outcomes.{outcome_of, resumed, comes_after}
 use Rattle.bt_tick.proofs.run.resume.Goals as goal
 
@@ -27,3 +28,8 @@ returns-clause-outcome g c =
     resumed v p c.args.answer more
     ∙ ap (λ r. after (p.place ∷ []) (unwind v (opens p.machine.stack) r)) (sym (c.in_ok-status.ensures.follows (fresh [] [] more)))
     ∙ ap (λ fs. after (p.place ∷ []) (unwind v (opens fs) (gives c.in_ok-status.status (fresh now.memory now.wants.items more)))) (sym c.in_ok-status.ensures.stack)))
+
+pub run-requires : goal.run-requires
+run-requires g c =
+    let m = c.args.pending.machine in
+    record { view = c.requires.agent; placed = placed_by m c.follow.new.self _ m.stack c.in_ok-status.ensures.tree c.in_ok-status.ensures.stack c.args.pending.nested tt }

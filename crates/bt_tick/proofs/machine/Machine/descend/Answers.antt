@@ -1,55 +1,343 @@
-use Rattle.std.proofs.Common.{◌+◌, ◌<◌, ap, sym, ◌∙◌, subst, arith, refl}
+use Rattle.std.proofs.Common.{◌+◌, ◌*◌, ◌<◌, ap, sym, ◌∙◌, subst, arith, refl, true, false}
 use Rattle.std.proofs.lemmas.List.{length-map}
-use Rattle.bt_nodes.specs.Plain.{Fallback, CompositeStar, none, tree, plain, plains}
-use Rattle.bt_nodes.proofs.Views.{plain-Seq, plain-Fallback, plain-Par, plain-FallbackStar, plain-Not, plain-Tries, plain-Ticks}
+use Rattle.grid_world.specs.declared.cell.Intent.TheVariants.{Take, Drop}
+use Rattle.bt_nodes.specs.declared.node.Status.TheVariants.{Success, Failure, Running}
+use Rattle.bt_nodes.specs.Plain.{Sequence, Fallback, CompositeStar, Does, AtPlace, Carries, OnItem, SignalOn, NearOther, none, tree, plain, plains}
+use Rattle.bt_nodes.specs.Sizes.{size}
+use Rattle.bt_nodes.specs.Bounds.{bounds}
+use Rattle.bt_nodes.proofs.Views.{plain-Seq, plain-Fallback, plain-Par, plain-SeqStar, plain-FallbackStar, plain-Not, plain-Tries, plain-Ticks}
+use Rattle.game_rules.specs.Tick.{gives}
 use Rattle.bt_tick.specs.Children.{children_of}
 use Rattle.bt_tick.specs.Kinds.{HasList}
-use Rattle.bt_tick.specs.Places.{limit_of}
+use Rattle.bt_tick.specs.Suspended.{unwind}
+use Rattle.bt_tick.specs.Places.{limit_of, weight_all}
 use Rattle.bt_tick.specs.Views.{view_of}
-use Rattle.bt_tick.specs.Machine.{opened, opens, whole_of}
+use Rattle.bt_tick.specs.Machine.{opened, opens, whole_of, with_parts}
+use Rattle.bt_tick.proofs.Trees.{size-children}
 use Rattle.bt_tick.proofs.Nests.{room}
-use Rattle.bt_tick.proofs.Opening.{if_ok, first_rests, only_stands}
+use Rattle.bt_tick.proofs.Numbers.{number_within, sat_wrote, zero_wrote}
+use Rattle.bt_tick.proofs.Opening.{if_ok, first_rests, only_stands, placed_by}
+use Rattle.bt_tick.proofs.Beginning.{plain-Wait, plain-Take, plain-Drop, plain-At, plain-Carrying, plain-Item, plain-Signal, plain-Near, line_begins, all_begins, not_begins, tries_begins, tries_over, ticks_begins, ticks_over, waits, waited, takes, takes_none, drops, drops_none, holds, answered_nested, answered_falls, number_below, wanted_keeps}
 use Rattle.bt_tick.proofs.machine.Machine.descend.Goals as goal
 
 pub overflow_add-after : goal.overflow_add-after
 overflow_add-after g c = omega (arith, room c.args.self.now.tree.now (plain c.args.node.now) c.args.number c.requires.sits)
 
-pub open_list-requires-clause-rests : goal.open_list-requires-clause-rests
-open_list-requires-clause-rests g c =
-    first_rests (whole_of c.args.self.now) (plain c.args.node.now) c.args.number (opens c.args.self.now.stack) (subst HasList (sym (ap plain c.in-Seq.is ∙ plain-Seq c.in-Seq.field-0)) tt) c.requires.sits
-    (omega (arith, c.requires.deep, length-map c.args.self.now.stack opened)) c.requires.nested
+pub open_list-requires : goal.open_list-requires
+open_list-requires g c =
+    let list : HasList (plain c.args.node.now) = subst HasList (sym (ap plain c.in-Seq.is ∙ plain-Seq c.in-Seq.field-0)) tt in
+    record { rests = first_rests (whole_of c.args.self.now) (plain c.args.node.now) c.args.number (opens c.args.self.now.stack) list c.requires.sits (omega (arith, c.requires.deep, length-map c.args.self.now.stack opened)) c.requires.nested; list = list }
 
-pub open_list-requires-in-Fallback-clause-rests : goal.open_list-requires-in-Fallback-clause-rests
-open_list-requires-in-Fallback-clause-rests g c =
-    first_rests (whole_of c.args.self.now) (plain c.args.node.now) c.args.number (opens c.args.self.now.stack) (subst HasList (sym (ap plain c.in-Fallback.is ∙ plain-Fallback c.in-Fallback.field-0)) tt) c.requires.sits
-    (omega (arith, c.requires.deep, length-map c.args.self.now.stack opened)) c.requires.nested
+pub returns-in-Seq : goal.returns-in-Seq
+returns-in-Seq g c =
+    record {
+      keeps = if_ok c.open_list.result (λ m h s. h (view_of c.args.view.now) s ∙ ap (unwind (view_of c.args.view.now) (opens c.args.self.now.stack)) (line_begins (view_of c.args.view.now) (plain c.args.node.now) c.args.number (with_parts c.args.self.now.memory c.args.self.now.wants.items s) Sequence (plains c.in-Seq.field-0.items) (ap plain c.in-Seq.is ∙ plain-Seq c.in-Seq.field-0))) c.open_list.ensures.keeps;
+      placed = c.open_list.ensures.placed;
+      falls = if_ok c.open_list.result (λ m h. omega (arith, h, size-children (plain c.args.node.now))) c.open_list.ensures.falls;
+      tree = c.open_list.ensures.tree;
+    }
 
-pub open_list-requires-in-Par-clause-rests : goal.open_list-requires-in-Par-clause-rests
-open_list-requires-in-Par-clause-rests g c =
-    first_rests (whole_of c.args.self.now) (plain c.args.node.now) c.args.number (opens c.args.self.now.stack) (subst HasList (sym (ap plain c.in-Par.is ∙ plain-Par c.in-Par.field-0 c.in-Par.field-1)) tt) c.requires.sits
-    (omega (arith, c.requires.deep, length-map c.args.self.now.stack opened)) c.requires.nested
+pub open_list-requires-in-Fallback : goal.open_list-requires-in-Fallback
+open_list-requires-in-Fallback g c =
+    let list : HasList (plain c.args.node.now) = subst HasList (sym (ap plain c.in-Fallback.is ∙ plain-Fallback c.in-Fallback.field-0)) tt in
+    record { rests = first_rests (whole_of c.args.self.now) (plain c.args.node.now) c.args.number (opens c.args.self.now.stack) list c.requires.sits (omega (arith, c.requires.deep, length-map c.args.self.now.stack opened)) c.requires.nested; list = list }
 
-pub open_star-requires-in-FallbackStar-clause-star : goal.open_star-requires-in-FallbackStar-clause-star
-open_star-requires-in-FallbackStar-clause-star g c =
-    (Fallback, ap plain c.in-FallbackStar.is ∙ plain-FallbackStar c.in-FallbackStar.children ∙ ap (λ xs. CompositeStar Fallback (plains xs)) (sym c.deref-in-FallbackStar.ensures.value))
+pub returns-in-Fallback : goal.returns-in-Fallback
+returns-in-Fallback g c =
+    record {
+      keeps = if_ok c.open_list-in-Fallback.result (λ m h s. h (view_of c.args.view.now) s ∙ ap (unwind (view_of c.args.view.now) (opens c.args.self.now.stack)) (line_begins (view_of c.args.view.now) (plain c.args.node.now) c.args.number (with_parts c.args.self.now.memory c.args.self.now.wants.items s) Fallback (plains c.in-Fallback.field-0.items) (ap plain c.in-Fallback.is ∙ plain-Fallback c.in-Fallback.field-0))) c.open_list-in-Fallback.ensures.keeps;
+      placed = c.open_list-in-Fallback.ensures.placed;
+      falls = if_ok c.open_list-in-Fallback.result (λ m h. omega (arith, h, size-children (plain c.args.node.now))) c.open_list-in-Fallback.ensures.falls;
+      tree = c.open_list-in-Fallback.ensures.tree;
+    }
 
-pub returns-in-SeqStar-clause-keeps : goal.returns-in-SeqStar-clause-keeps
-returns-in-SeqStar-clause-keeps g c = if_ok c.open_star.result (λ m h. h (view_of c.args.view.now)) c.open_star.ensures.keeps
+pub open_list-requires-in-Par : goal.open_list-requires-in-Par
+open_list-requires-in-Par g c =
+    let list : HasList (plain c.args.node.now) = subst HasList (sym (ap plain c.in-Par.is ∙ plain-Par c.in-Par.field-0 c.in-Par.field-1)) tt in
+    record { rests = first_rests (whole_of c.args.self.now) (plain c.args.node.now) c.args.number (opens c.args.self.now.stack) list c.requires.sits (omega (arith, c.requires.deep, length-map c.args.self.now.stack opened)) c.requires.nested; list = list }
 
-pub returns-in-FallbackStar-clause-keeps : goal.returns-in-FallbackStar-clause-keeps
-returns-in-FallbackStar-clause-keeps g c = if_ok c.open_star-in-FallbackStar.result (λ m h. h (view_of c.args.view.now)) c.open_star-in-FallbackStar.ensures.keeps
+pub returns-in-Par : goal.returns-in-Par
+returns-in-Par g c =
+    record {
+      keeps = if_ok c.open_list-in-Par.result (λ m h s. h (view_of c.args.view.now) s ∙ ap (unwind (view_of c.args.view.now) (opens c.args.self.now.stack)) (all_begins (view_of c.args.view.now) (plain c.args.node.now) c.args.number (with_parts c.args.self.now.memory c.args.self.now.wants.items s) c.in-Par.field-0 (plains c.in-Par.field-1.items) (ap plain c.in-Par.is ∙ plain-Par c.in-Par.field-0 c.in-Par.field-1))) c.open_list-in-Par.ensures.keeps;
+      placed = c.open_list-in-Par.ensures.placed;
+      falls = if_ok c.open_list-in-Par.result (λ m h. omega (arith, h, size-children (plain c.args.node.now))) c.open_list-in-Par.ensures.falls;
+      tree = c.open_list-in-Par.ensures.tree;
+    }
 
-pub open_only-requires-clause-stands : goal.open_only-requires-clause-stands
-open_only-requires-clause-stands g c =
-    only_stands (whole_of c.args.self.now) (record { node = plain c.args.node.now; number = c.args.number; next = 1; won = 0; lost = 0 }) (plain c.deref-in-Not.result.now) _ (ap children_of (ap plain c.in-Not.is ∙ plain-Not c.in-Not.child) ∙ ap (λ n. tree (plain n) none) (sym c.deref-in-Not.ensures)) c.requires.sits refl
-    (subst (λ p. 0 + 0 < limit_of p 1) (sym (ap plain c.in-Not.is ∙ plain-Not c.in-Not.child)) (omega arith)) (omega (arith, c.requires.deep, length-map c.args.self.now.stack opened))
+pub open_star-requires : goal.open_star-requires
+open_star-requires g c =
+    record {
+      star = (Sequence, ap plain c.in-SeqStar.is ∙ plain-SeqStar c.in-SeqStar.children ∙ ap (λ xs. CompositeStar Sequence (plains xs)) (sym c.deref.ensures.value));
+      sits = c.requires.sits;
+      deep = c.requires.deep;
+      nested = c.requires.nested;
+    }
 
-pub open_only-requires-in-Tries-clause-stands : goal.open_only-requires-in-Tries-clause-stands
-open_only-requires-in-Tries-clause-stands g c =
-    only_stands (whole_of c.args.self.now) (record { node = plain c.args.node.now; number = c.args.number; next = 1; won = 0; lost = c.number-failures.result }) (plain c.deref-in-Tries.result.now) _ (ap children_of (ap plain c.in-Tries.is ∙ plain-Tries c.in-Tries.most c.in-Tries.child) ∙ ap (λ n. tree (plain n) none) (sym c.deref-in-Tries.ensures)) c.requires.sits refl
-    (subst (λ p. 0 + c.number-failures.result < limit_of p 1) (sym (ap plain c.in-Tries.is ∙ plain-Tries c.in-Tries.most c.in-Tries.child)) (omega (arith, c.if-failures-most.false))) (omega (arith, c.requires.deep, length-map c.args.self.now.stack opened))
+pub returns-in-SeqStar : goal.returns-in-SeqStar
+returns-in-SeqStar g c =
+    record {
+      keeps = if_ok c.open_star.result (λ m h. h (view_of c.args.view.now)) c.open_star.ensures.keeps;
+      placed = c.open_star.ensures.placed;
+      falls = c.open_star.ensures.falls;
+      tree = c.open_star.ensures.tree;
+    }
 
-pub open_only-requires-in-Ticks-clause-stands : goal.open_only-requires-in-Ticks-clause-stands
-open_only-requires-in-Ticks-clause-stands g c =
-    only_stands (whole_of c.args.self.now) (record { node = plain c.args.node.now; number = c.args.number; next = 1; won = 0; lost = c.number-past.result }) (plain c.deref-in-Ticks.result.now) _ (ap children_of (ap plain c.in-Ticks.is ∙ plain-Ticks c.in-Ticks.most c.in-Ticks.child) ∙ ap (λ n. tree (plain n) none) (sym c.deref-in-Ticks.ensures)) c.requires.sits refl
-    (subst (λ p. 0 + c.number-past.result < limit_of p 1) (sym (ap plain c.in-Ticks.is ∙ plain-Ticks c.in-Ticks.most c.in-Ticks.child)) (omega (arith, c.if-past-most.false))) (omega (arith, c.requires.deep, length-map c.args.self.now.stack opened))
+pub open_star-requires-in-FallbackStar : goal.open_star-requires-in-FallbackStar
+open_star-requires-in-FallbackStar g c =
+    record {
+      star = (Fallback, ap plain c.in-FallbackStar.is ∙ plain-FallbackStar c.in-FallbackStar.children ∙ ap (λ xs. CompositeStar Fallback (plains xs)) (sym c.deref-in-FallbackStar.ensures.value));
+      sits = c.requires.sits;
+      deep = c.requires.deep;
+      nested = c.requires.nested;
+    }
+
+pub returns-in-FallbackStar : goal.returns-in-FallbackStar
+returns-in-FallbackStar g c =
+    record {
+      keeps = if_ok c.open_star-in-FallbackStar.result (λ m h. h (view_of c.args.view.now)) c.open_star-in-FallbackStar.ensures.keeps;
+      placed = c.open_star-in-FallbackStar.ensures.placed;
+      falls = c.open_star-in-FallbackStar.ensures.falls;
+      tree = c.open_star-in-FallbackStar.ensures.tree;
+    }
+
+pub open_only-requires : goal.open_only-requires
+open_only-requires g c =
+    let only = ap children_of (ap plain c.in-Not.is ∙ plain-Not c.in-Not.child) ∙ ap (λ n. tree (plain n) none) (sym c.deref-in-Not.ensures) in
+    record {
+      only = only;
+      stands = only_stands (whole_of c.args.self.now) (record { node = plain c.args.node.now; number = c.args.number; next = 1; won = 0; lost = 0 }) (plain c.deref-in-Not.result.now) _ only c.requires.sits refl
+          (subst (λ p. 0 + 0 < limit_of p 1) (sym (ap plain c.in-Not.is ∙ plain-Not c.in-Not.child)) (omega arith)) (omega (arith, c.requires.deep, length-map c.args.self.now.stack opened));
+      begun = refl;
+      nested = c.requires.nested;
+    }
+
+pub returns-in-Not : goal.returns-in-Not
+returns-in-Not g c =
+    record {
+      keeps = if_ok c.open_only.result (λ m h s. h (view_of c.args.view.now) s ∙ ap (unwind (view_of c.args.view.now) (opens c.args.self.now.stack)) (not_begins (view_of c.args.view.now) (plain c.args.node.now) c.args.number (with_parts c.args.self.now.memory c.args.self.now.wants.items s) (plain c.in-Not.child.value) (plain c.deref-in-Not.result.now) (ap plain c.in-Not.is ∙ plain-Not c.in-Not.child) (ap plain c.deref-in-Not.ensures))) c.open_only.ensures.keeps;
+      placed = c.open_only.ensures.placed;
+      falls = c.open_only.ensures.falls;
+      tree = c.open_only.ensures.tree;
+    }
+
+pub number-failures-requires : goal.number-failures-requires
+number-failures-requires g c =
+    number_within (whole_of c.args.self.now) (plain c.args.node.now) c.args.self.now.memory c.args.number c.args.self.now.fits c.requires.sits
+
+pub number_after-requires : goal.number_after-requires
+number_after-requires g c =
+    number_below (whole_of c.args.self.now) (plain c.args.node.now) c.args.number c.requires.sits
+
+pub returns-then-failures-most : goal.returns-then-failures-most
+returns-then-failures-most g c =
+    record {
+      keeps = λ s. ap (unwind (view_of c.args.view.now) (opens c.args.self.now.stack)) (tries_over (view_of c.args.view.now) (plain c.args.node.now) c.args.number (with_parts c.args.self.now.memory c.args.self.now.wants.items s) c.in-Tries.most c.number-failures.result c.number-failures.ensures (plain c.in-Tries.child.value) (ap plain c.in-Tries.is ∙ plain-Tries c.in-Tries.most c.in-Tries.child) c.if-failures-most.true);
+      placed = placed_by c.args.self.now _ _ c.args.self.now.stack refl refl (answered_nested (whole_of c.args.self.now) _ c.args.number (plain c.args.node.now) (opens c.args.self.now.stack) (c.number_after.ensures (plain c.args.node.now) c.requires.sits) c.requires.nested) tt;
+      falls = answered_falls (plain c.args.node.now) (weight_all (opens c.args.self.now.stack));
+      tree = refl;
+    }
+
+pub open_only-requires-in-Tries : goal.open_only-requires-in-Tries
+open_only-requires-in-Tries g c =
+    let only = ap children_of (ap plain c.in-Tries.is ∙ plain-Tries c.in-Tries.most c.in-Tries.child) ∙ ap (λ n. tree (plain n) none) (sym c.deref-in-Tries.ensures) in
+    record {
+      only = only;
+      stands = only_stands (whole_of c.args.self.now) (record { node = plain c.args.node.now; number = c.args.number; next = 1; won = 0; lost = c.number-failures.result }) (plain c.deref-in-Tries.result.now) _ only c.requires.sits refl
+          (subst (λ p. 0 + c.number-failures.result < limit_of p 1) (sym (ap plain c.in-Tries.is ∙ plain-Tries c.in-Tries.most c.in-Tries.child)) (omega (arith, c.if-failures-most.false))) (omega (arith, c.requires.deep, length-map c.args.self.now.stack opened));
+      begun = refl;
+      nested = c.requires.nested;
+    }
+
+pub returns-else-failures-most : goal.returns-else-failures-most
+returns-else-failures-most g c =
+    record {
+      keeps = if_ok c.open_only-in-Tries.result (λ m h s. h (view_of c.args.view.now) s ∙ ap (unwind (view_of c.args.view.now) (opens c.args.self.now.stack)) (tries_begins (view_of c.args.view.now) (plain c.args.node.now) c.args.number (with_parts c.args.self.now.memory c.args.self.now.wants.items s) c.in-Tries.most c.number-failures.result c.number-failures.ensures (plain c.in-Tries.child.value) (plain c.deref-in-Tries.result.now) (ap plain c.in-Tries.is ∙ plain-Tries c.in-Tries.most c.in-Tries.child) (ap plain c.deref-in-Tries.ensures) (omega (arith, c.if-failures-most.false)))) c.open_only-in-Tries.ensures.keeps;
+      placed = c.open_only-in-Tries.ensures.placed;
+      falls = c.open_only-in-Tries.ensures.falls;
+      tree = c.open_only-in-Tries.ensures.tree;
+    }
+
+pub number-past-requires : goal.number-past-requires
+number-past-requires g c =
+    number_within (whole_of c.args.self.now) (plain c.args.node.now) c.args.self.now.memory c.args.number c.args.self.now.fits c.requires.sits
+
+pub set-requires : goal.set-requires
+set-requires g c =
+    number_within (whole_of c.args.self.now) (plain c.args.node.now) c.args.self.now.memory c.args.number c.args.self.now.fits c.requires.sits
+
+pub invariant_of-self : goal.invariant_of-self
+invariant_of-self g c =
+    record { fits = zero_wrote (whole_of c.args.self.now) (plain c.args.node.now) c.args.self.now.memory _ c.args.number c.args.self.now.fits c.requires.sits c.set.ensures }
+
+pub number_after-requires-then-past-most : goal.number_after-requires-then-past-most
+number_after-requires-then-past-most g c =
+    number_below (whole_of c.args.self.now) (plain c.args.node.now) c.args.number c.requires.sits
+
+pub returns-then-past-most : goal.returns-then-past-most
+returns-then-past-most g c =
+    record {
+      keeps = λ s. ap (λ m. unwind (view_of c.args.view.now) (opens c.args.self.now.stack) (gives Failure (with_parts m c.args.self.now.wants.items s))) c.set.ensures ∙ ap (unwind (view_of c.args.view.now) (opens c.args.self.now.stack)) (ticks_over (view_of c.args.view.now) (plain c.args.node.now) c.args.number (with_parts c.args.self.now.memory c.args.self.now.wants.items s) c.in-Ticks.most c.number-past.result c.number-past.ensures (plain c.in-Ticks.child.value) (ap plain c.in-Ticks.is ∙ plain-Ticks c.in-Ticks.most c.in-Ticks.child) c.if-past-most.true);
+      placed = placed_by c.args.self.now _ _ c.args.self.now.stack refl refl (answered_nested (whole_of c.args.self.now) _ c.args.number (plain c.args.node.now) (opens c.args.self.now.stack) (c.number_after-then-past-most.ensures (plain c.args.node.now) c.requires.sits) c.requires.nested) tt;
+      falls = answered_falls (plain c.args.node.now) (weight_all (opens c.args.self.now.stack));
+      tree = refl;
+    }
+
+pub open_only-requires-in-Ticks : goal.open_only-requires-in-Ticks
+open_only-requires-in-Ticks g c =
+    let only = ap children_of (ap plain c.in-Ticks.is ∙ plain-Ticks c.in-Ticks.most c.in-Ticks.child) ∙ ap (λ n. tree (plain n) none) (sym c.deref-in-Ticks.ensures) in
+    record {
+      only = only;
+      stands = only_stands (whole_of c.args.self.now) (record { node = plain c.args.node.now; number = c.args.number; next = 1; won = 0; lost = c.number-past.result }) (plain c.deref-in-Ticks.result.now) _ only c.requires.sits refl
+          (subst (λ p. 0 + c.number-past.result < limit_of p 1) (sym (ap plain c.in-Ticks.is ∙ plain-Ticks c.in-Ticks.most c.in-Ticks.child)) (omega (arith, c.if-past-most.false))) (omega (arith, c.requires.deep, length-map c.args.self.now.stack opened));
+      begun = refl;
+      nested = c.requires.nested;
+    }
+
+pub returns-else-past-most : goal.returns-else-past-most
+returns-else-past-most g c =
+    record {
+      keeps = if_ok c.open_only-in-Ticks.result (λ m h s. h (view_of c.args.view.now) s ∙ ap (unwind (view_of c.args.view.now) (opens c.args.self.now.stack)) (ticks_begins (view_of c.args.view.now) (plain c.args.node.now) c.args.number (with_parts c.args.self.now.memory c.args.self.now.wants.items s) c.in-Ticks.most c.number-past.result c.number-past.ensures (plain c.in-Ticks.child.value) (plain c.deref-in-Ticks.result.now) (ap plain c.in-Ticks.is ∙ plain-Ticks c.in-Ticks.most c.in-Ticks.child) (ap plain c.deref-in-Ticks.ensures) (omega (arith, c.if-past-most.false)))) c.open_only-in-Ticks.ensures.keeps;
+      placed = c.open_only-in-Ticks.ensures.placed;
+      falls = c.open_only-in-Ticks.ensures.falls;
+      tree = c.open_only-in-Ticks.ensures.tree;
+    }
+
+pub number-past-requires-in-Wait : goal.number-past-requires-in-Wait
+number-past-requires-in-Wait g c =
+    number_within (whole_of c.args.self.now) (plain c.args.node.now) c.args.self.now.memory c.args.number c.args.self.now.fits c.requires.sits
+
+pub set-requires-then-past-most-2 : goal.set-requires-then-past-most-2
+set-requires-then-past-most-2 g c =
+    number_within (whole_of c.args.self.now) (plain c.args.node.now) c.args.self.now.memory c.args.number c.args.self.now.fits c.requires.sits
+
+pub set-requires-in-Wait : goal.set-requires-in-Wait
+set-requires-in-Wait g c =
+    number_within (whole_of c.args.self.now) (plain c.args.node.now) c.args.self.now.memory c.args.number c.args.self.now.fits c.requires.sits
+
+pub invariant_of-self-then-past-most-2 : goal.invariant_of-self-then-past-most-2
+invariant_of-self-then-past-most-2 g c =
+    record { fits = sat_wrote (whole_of c.args.self.now) (plain c.args.node.now) c.args.self.now.memory _ c.args.number (c.number-past-in-Wait.result + 1) _ _ c.args.self.now.fits c.requires.sits (ap bounds (ap plain c.in-Wait.is ∙ plain-Wait _ c.in-Wait.most)) (omega (arith, c.if-past-most-2.true)) c.set-then-past-most-2.ensures }
+
+pub invariant_of-self-in-Wait : goal.invariant_of-self-in-Wait
+invariant_of-self-in-Wait g c =
+    record { fits = zero_wrote (whole_of c.args.self.now) (plain c.args.node.now) c.args.self.now.memory _ c.args.number c.args.self.now.fits c.requires.sits c.set-in-Wait.ensures }
+
+pub returns-then-past-most-2 : goal.returns-then-past-most-2
+returns-then-past-most-2 g c =
+    record {
+      keeps = λ s. ap (λ m. unwind (view_of c.args.view.now) (opens c.args.self.now.stack) (gives Running (with_parts m c.args.self.now.wants.items s))) c.set-then-past-most-2.ensures ∙ ap (unwind (view_of c.args.view.now) (opens c.args.self.now.stack)) (waits (view_of c.args.view.now) (plain c.args.node.now) c.args.number (with_parts c.args.self.now.memory c.args.self.now.wants.items s) c.in-Wait.most c.number-past-in-Wait.result c.number-past-in-Wait.ensures (ap plain c.in-Wait.is ∙ plain-Wait _ c.in-Wait.most) c.if-past-most-2.true);
+      placed = placed_by c.args.self.now _ _ c.args.self.now.stack refl refl (answered_nested (whole_of c.args.self.now) _ c.args.number (plain c.args.node.now) (opens c.args.self.now.stack) (omega (arith, ap size (ap plain c.in-Wait.is ∙ plain-Wait _ c.in-Wait.most))) c.requires.nested) tt;
+      falls = answered_falls (plain c.args.node.now) (weight_all (opens c.args.self.now.stack));
+      tree = refl;
+    }
+
+pub returns-else-past-most-2 : goal.returns-else-past-most-2
+returns-else-past-most-2 g c =
+    record {
+      keeps = λ s. ap (λ m. unwind (view_of c.args.view.now) (opens c.args.self.now.stack) (gives Success (with_parts m c.args.self.now.wants.items s))) c.set-in-Wait.ensures ∙ ap (unwind (view_of c.args.view.now) (opens c.args.self.now.stack)) (waited (view_of c.args.view.now) (plain c.args.node.now) c.args.number (with_parts c.args.self.now.memory c.args.self.now.wants.items s) c.in-Wait.most c.number-past-in-Wait.result c.number-past-in-Wait.ensures (ap plain c.in-Wait.is ∙ plain-Wait _ c.in-Wait.most) c.if-past-most-2.false);
+      placed = placed_by c.args.self.now _ _ c.args.self.now.stack refl refl (answered_nested (whole_of c.args.self.now) _ c.args.number (plain c.args.node.now) (opens c.args.self.now.stack) (omega (arith, ap size (ap plain c.in-Wait.is ∙ plain-Wait _ c.in-Wait.most))) c.requires.nested) tt;
+      falls = answered_falls (plain c.args.node.now) (weight_all (opens c.args.self.now.stack));
+      tree = refl;
+    }
+
+pub returns-then-carries : goal.returns-then-carries
+returns-then-carries g c =
+    record {
+      keeps = λ s. ap (unwind (view_of c.args.view.now) (opens c.args.self.now.stack)) (takes_none (view_of c.args.view.now) (plain c.args.node.now) c.args.number (with_parts c.args.self.now.memory c.args.self.now.wants.items s) (ap plain c.in-Take.is ∙ plain-Take _) c.if-carries.ensures);
+      placed = placed_by c.args.self.now _ _ c.args.self.now.stack refl refl (answered_nested (whole_of c.args.self.now) _ c.args.number (plain c.args.node.now) (opens c.args.self.now.stack) (omega (arith, ap size (ap plain c.in-Take.is ∙ plain-Take _))) c.requires.nested) tt;
+      falls = answered_falls (plain c.args.node.now) (weight_all (opens c.args.self.now.stack));
+      tree = refl;
+    }
+
+pub returns-then-not-is_on_item : goal.returns-then-not-is_on_item
+returns-then-not-is_on_item g c =
+    record {
+      keeps = λ s. ap (unwind (view_of c.args.view.now) (opens c.args.self.now.stack)) (takes (view_of c.args.view.now) (plain c.args.node.now) c.args.number (with_parts c.args.self.now.memory c.args.self.now.wants.items s) false false (ap plain c.in-Take.is ∙ plain-Take _) c.if-carries.ensures c.if-not-is_on_item.ensures);
+      placed = placed_by c.args.self.now _ _ c.args.self.now.stack refl refl (answered_nested (whole_of c.args.self.now) _ c.args.number (plain c.args.node.now) (opens c.args.self.now.stack) (omega (arith, ap size (ap plain c.in-Take.is ∙ plain-Take _))) c.requires.nested) tt;
+      falls = answered_falls (plain c.args.node.now) (weight_all (opens c.args.self.now.stack));
+      tree = refl;
+    }
+
+pub returns-then-not-carries : goal.returns-then-not-carries
+returns-then-not-carries g c =
+    record {
+      keeps = λ s. ap (unwind (view_of c.args.view.now) (opens c.args.self.now.stack)) (drops_none (view_of c.args.view.now) (plain c.args.node.now) c.args.number (with_parts c.args.self.now.memory c.args.self.now.wants.items s) (ap plain c.in-Drop.is ∙ plain-Drop _) c.if-not-carries.ensures);
+      placed = placed_by c.args.self.now _ _ c.args.self.now.stack refl refl (answered_nested (whole_of c.args.self.now) _ c.args.number (plain c.args.node.now) (opens c.args.self.now.stack) (omega (arith, ap size (ap plain c.in-Drop.is ∙ plain-Drop _))) c.requires.nested) tt;
+      falls = answered_falls (plain c.args.node.now) (weight_all (opens c.args.self.now.stack));
+      tree = refl;
+    }
+
+pub returns-then-is_on_item : goal.returns-then-is_on_item
+returns-then-is_on_item g c =
+    record {
+      keeps = λ s. ap (unwind (view_of c.args.view.now) (opens c.args.self.now.stack)) (drops (view_of c.args.view.now) (plain c.args.node.now) c.args.number (with_parts c.args.self.now.memory c.args.self.now.wants.items s) true true (ap plain c.in-Drop.is ∙ plain-Drop _) c.if-not-carries.ensures c.if-is_on_item.ensures);
+      placed = placed_by c.args.self.now _ _ c.args.self.now.stack refl refl (answered_nested (whole_of c.args.self.now) _ c.args.number (plain c.args.node.now) (opens c.args.self.now.stack) (omega (arith, ap size (ap plain c.in-Drop.is ∙ plain-Drop _))) c.requires.nested) tt;
+      falls = answered_falls (plain c.args.node.now) (weight_all (opens c.args.self.now.stack));
+      tree = refl;
+    }
+
+pub returns-in_ok-want-in-Take : goal.returns-in_ok-want-in-Take
+returns-in_ok-want-in-Take g c =
+    let new = c.want.new.self in
+    record {
+      keeps = λ s. wanted_keeps c.args.self.now new Take c.in_ok-want-in-Take.ensures.stack c.in_ok-want-in-Take.ensures.memory c.in_ok-want-in-Take.ensures.wants (view_of c.args.view.now) s ∙ ap (unwind (view_of c.args.view.now) (opens c.args.self.now.stack)) (takes (view_of c.args.view.now) (plain c.args.node.now) c.args.number (with_parts c.args.self.now.memory c.args.self.now.wants.items s) false true (ap plain c.in-Take.is ∙ plain-Take _) c.if-carries.ensures c.if-not-is_on_item.ensures);
+      placed = placed_by c.args.self.now new _ c.args.self.now.stack c.in_ok-want-in-Take.ensures.tree c.in_ok-want-in-Take.ensures.stack (answered_nested (whole_of c.args.self.now) _ c.args.number (plain c.args.node.now) (opens c.args.self.now.stack) (omega (arith, ap size (ap plain c.in-Take.is ∙ plain-Take _))) c.requires.nested) tt;
+      falls = subst (λ fs. 1 + weight_all (opens fs) < 2 * size (plain c.args.node.now) + weight_all (opens c.args.self.now.stack)) (sym c.in_ok-want-in-Take.ensures.stack) (answered_falls (plain c.args.node.now) (weight_all (opens c.args.self.now.stack)));
+      tree = c.in_ok-want-in-Take.ensures.tree;
+    }
+
+pub returns-in_ok-want-in-Drop : goal.returns-in_ok-want-in-Drop
+returns-in_ok-want-in-Drop g c =
+    let new = c.want-in-Drop.new.self in
+    record {
+      keeps = λ s. wanted_keeps c.args.self.now new Drop c.in_ok-want-in-Drop.ensures.stack c.in_ok-want-in-Drop.ensures.memory c.in_ok-want-in-Drop.ensures.wants (view_of c.args.view.now) s ∙ ap (unwind (view_of c.args.view.now) (opens c.args.self.now.stack)) (drops (view_of c.args.view.now) (plain c.args.node.now) c.args.number (with_parts c.args.self.now.memory c.args.self.now.wants.items s) true false (ap plain c.in-Drop.is ∙ plain-Drop _) c.if-not-carries.ensures c.if-is_on_item.ensures);
+      placed = placed_by c.args.self.now new _ c.args.self.now.stack c.in_ok-want-in-Drop.ensures.tree c.in_ok-want-in-Drop.ensures.stack (answered_nested (whole_of c.args.self.now) _ c.args.number (plain c.args.node.now) (opens c.args.self.now.stack) (omega (arith, ap size (ap plain c.in-Drop.is ∙ plain-Drop _))) c.requires.nested) tt;
+      falls = subst (λ fs. 1 + weight_all (opens fs) < 2 * size (plain c.args.node.now) + weight_all (opens c.args.self.now.stack)) (sym c.in_ok-want-in-Drop.ensures.stack) (answered_falls (plain c.args.node.now) (weight_all (opens c.args.self.now.stack)));
+      tree = c.in_ok-want-in-Drop.ensures.tree;
+    }
+
+pub returns-in-At : goal.returns-in-At
+returns-in-At g c =
+    record {
+      keeps = λ s. ap (unwind (view_of c.args.view.now) (opens c.args.self.now.stack)) (holds (view_of c.args.view.now) (plain c.args.node.now) c.args.number (with_parts c.args.self.now.memory c.args.self.now.wants.items s) (Does (AtPlace c.in-At.place)) c.stands_on.result _ c.status_of.result (ap plain c.in-At.is ∙ plain-At _ c.in-At.place) refl c.status_of.ensures c.stands_on.ensures);
+      placed = placed_by c.args.self.now _ _ c.args.self.now.stack refl refl (answered_nested (whole_of c.args.self.now) _ c.args.number (plain c.args.node.now) (opens c.args.self.now.stack) (omega (arith, ap size (ap plain c.in-At.is ∙ plain-At _ c.in-At.place))) c.requires.nested) tt;
+      falls = answered_falls (plain c.args.node.now) (weight_all (opens c.args.self.now.stack));
+      tree = refl;
+    }
+
+pub returns-in-Carrying : goal.returns-in-Carrying
+returns-in-Carrying g c =
+    record {
+      keeps = λ s. ap (unwind (view_of c.args.view.now) (opens c.args.self.now.stack)) (holds (view_of c.args.view.now) (plain c.args.node.now) c.args.number (with_parts c.args.self.now.memory c.args.self.now.wants.items s) (Does Carries) c.carries-in-Carrying.result _ c.status_of-in-Carrying.result (ap plain c.in-Carrying.is ∙ plain-Carrying _) refl c.status_of-in-Carrying.ensures c.carries-in-Carrying.ensures);
+      placed = placed_by c.args.self.now _ _ c.args.self.now.stack refl refl (answered_nested (whole_of c.args.self.now) _ c.args.number (plain c.args.node.now) (opens c.args.self.now.stack) (omega (arith, ap size (ap plain c.in-Carrying.is ∙ plain-Carrying _))) c.requires.nested) tt;
+      falls = answered_falls (plain c.args.node.now) (weight_all (opens c.args.self.now.stack));
+      tree = refl;
+    }
+
+pub returns-in-Item : goal.returns-in-Item
+returns-in-Item g c =
+    record {
+      keeps = λ s. ap (unwind (view_of c.args.view.now) (opens c.args.self.now.stack)) (holds (view_of c.args.view.now) (plain c.args.node.now) c.args.number (with_parts c.args.self.now.memory c.args.self.now.wants.items s) (Does OnItem) c.is_on_item-in-Item.result _ c.status_of-in-Item.result (ap plain c.in-Item.is ∙ plain-Item _) refl c.status_of-in-Item.ensures c.is_on_item-in-Item.ensures);
+      placed = placed_by c.args.self.now _ _ c.args.self.now.stack refl refl (answered_nested (whole_of c.args.self.now) _ c.args.number (plain c.args.node.now) (opens c.args.self.now.stack) (omega (arith, ap size (ap plain c.in-Item.is ∙ plain-Item _))) c.requires.nested) tt;
+      falls = answered_falls (plain c.args.node.now) (weight_all (opens c.args.self.now.stack));
+      tree = refl;
+    }
+
+pub returns-in-Signal : goal.returns-in-Signal
+returns-in-Signal g c =
+    record {
+      keeps = λ s. ap (unwind (view_of c.args.view.now) (opens c.args.self.now.stack)) (holds (view_of c.args.view.now) (plain c.args.node.now) c.args.number (with_parts c.args.self.now.memory c.args.self.now.wants.items s) (Does (SignalOn c.in-Signal.signal)) c.has_signal.result _ c.status_of-in-Signal.result (ap plain c.in-Signal.is ∙ plain-Signal _ c.in-Signal.signal) refl c.status_of-in-Signal.ensures c.has_signal.ensures);
+      placed = placed_by c.args.self.now _ _ c.args.self.now.stack refl refl (answered_nested (whole_of c.args.self.now) _ c.args.number (plain c.args.node.now) (opens c.args.self.now.stack) (omega (arith, ap size (ap plain c.in-Signal.is ∙ plain-Signal _ c.in-Signal.signal))) c.requires.nested) tt;
+      falls = answered_falls (plain c.args.node.now) (weight_all (opens c.args.self.now.stack));
+      tree = refl;
+    }
+
+pub returns-in-Near : goal.returns-in-Near
+returns-in-Near g c =
+    record {
+      keeps = λ s. ap (unwind (view_of c.args.view.now) (opens c.args.self.now.stack)) (holds (view_of c.args.view.now) (plain c.args.node.now) c.args.number (with_parts c.args.self.now.memory c.args.self.now.wants.items s) (Does (NearOther c.in-Near.within)) c.is_near.result _ c.status_of-in-Near.result (ap plain c.in-Near.is ∙ plain-Near _ c.in-Near.within) refl c.status_of-in-Near.ensures c.is_near.ensures);
+      placed = placed_by c.args.self.now _ _ c.args.self.now.stack refl refl (answered_nested (whole_of c.args.self.now) _ c.args.number (plain c.args.node.now) (opens c.args.self.now.stack) (omega (arith, ap size (ap plain c.in-Near.is ∙ plain-Near _ c.in-Near.within))) c.requires.nested) tt;
+      falls = answered_falls (plain c.args.node.now) (weight_all (opens c.args.self.now.stack));
+      tree = refl;
+    }
