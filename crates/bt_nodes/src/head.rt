@@ -48,8 +48,8 @@ impl<A: Allocator> Node<A> {
         }
     }
 
-    // The children that it lists, which are none where its kind lists none.
-    pub(crate) fn listed(&self) -> &[Node<A>]
+    /// The children that it lists, from the left, which are none where its kind lists none.
+    pub fn listed(&self) -> &[Node<A>]
         ensures { plains result.now ≡ listed (plain self.now) }
     {
         match self {
@@ -76,8 +76,8 @@ impl<A: Allocator> Node<A> {
         )
     }
 
-    // The one child that it has by its kind.
-    pub(crate) fn decorated(&self) -> Option<&Node<A>>
+    /// The one child that a decorator has.
+    pub fn decorated(&self) -> Option<&Node<A>>
         ensures { option_map (λ child. plain child.now) result ≡ decorated (plain self.now) }
     {
         match self {

@@ -1,9 +1,8 @@
 // Whether a memory fits a tree.
 
-ghost use Rattle.std.specs.Prelude.{◌≡◌, ◌↔◌, nat_lt, option_map, None, Some, MatchOption, IsTrue};
+ghost use Rattle.std.specs.Prelude.{◌≡◌, ◌↔◌, nat_lt, None, Some, MatchOption, IsTrue};
 ghost use Rattle.bt_nodes.specs.Plain.{plain, plains};
 ghost use Rattle.bt_nodes.specs.Bounds.{bounds, bounds_all, Fits};
-ghost use Rattle.bt_nodes.specs.Heads.{listed, decorated};
 ghost use Rattle.bt_nodes.specs.Trees.{plain_of};
 ghost use Rattle.bt_tick.specs.Fitting.{behind, root_bound};
 
@@ -22,30 +21,6 @@ fn is_below<T: Allocator>(node: &Node<T>, number: u64) -> bool
     }
 }
 
-// The children that a node lists.
-fn listed<T: Allocator>(node: &Node<T>) -> &[Node<T>]
-    ensures { plains result.now ≡ listed (plain node.now) }
-{
-    match node {
-        Node::Seq(children)
-        | Node::Fallback(children)
-        | Node::Par(_, children)
-        | Node::SeqStar(children)
-        | Node::FallbackStar(children) => children,
-        _ => &[],
-    }
-}
-
-// The one child that a node has by its kind.
-fn decorated<T: Allocator>(node: &Node<T>) -> Option<&Node<T>>
-    ensures { option_map (λ child. plain child.now) result ≡ decorated (plain node.now) }
-{
-    match node {
-        Node::Not(child) | Node::Tries(_, child) | Node::Ticks(_, child) => Some(child),
-        _ => None,
-    }
-}
-
 // The numbers that are left behind those of a node and of the nodes below it, if each of these is below its bound.
 #[cycle(behind)]
 fn behind<'m, T: Allocator>(node: &Node<T>, numbers: &'m [u64]) -> Option<&'m [u64]>
@@ -58,9 +33,9 @@ fn behind<'m, T: Allocator>(node: &Node<T>, numbers: &'m [u64]) -> Option<&'m [u
     if !is_below(node, *own) {
         return None;
     }
-    match decorated(node) {
+    match node.decorated() {
         Some(child) => behind(child, rest),
-        None => behind_all(listed(node), rest),
+        None => behind_all(node.listed(), rest),
     }
 }
 
