@@ -1,5 +1,6 @@
 -- The text of a frame, by what its turn and its bands hold.
-use Rattle.std.proofs.Common.{◌≡◌, ℕ, zero, suc, ◌+◌, ◌-◌, ◌<◌, Bool, List, [], ◌∷◌, ◌++◌, map, sym, ap, ◌∙◌, arith}
+use Rattle.std.proofs.Common.{◌≡◌, ℕ, zero, suc, ◌+◌, ◌-◌, ◌<◌, Bool, true, nat_eq, List, [], ◌∷◌, ◌++◌, map, sym, ap, ◌∙◌, arith}
+use Rattle.std.proofs.lemmas.Bool.{eqb-true}
 use Rattle.std.proofs.lemmas.List.{map-append}
 use Rattle.grid_world.specs.Grid.{Grid}
 use Rattle.grid_world.specs.Map.{count_up}
@@ -12,6 +13,11 @@ use Rattle.draw_list.specs.Bands.{bands_of, band_count}
 use Rattle.draw_list.proofs.Counting.{count_up-zero, count_up-suc, count_up-append}
 use Rattle.frame_params.specs.Contents.{world_after, signals_in, statuses_in, bands_in, band_in}
 use Rattle.frame_params.proofs.Turning.{height_stays}
+
+-- of no bands, all are there
+pub none_drawn : (g : Game) (f bands : ℕ) → nat_eq bands 0 ≡ true → [] ≡ map (band_in g f) (count_up 0 bands)
+none_drawn g f bands none =
+    ap (map (band_in g f)) (sym (count_up-zero 0)) ∙ ap (λ n. map (band_in g f) (count_up 0 n)) (sym (eqb-true bands 0 none))
 
 -- one band more
 pub one_more : (g : Game) (f n : ℕ) (drawn : List Band) (band : Band) → drawn ≡ map (band_in g f) (count_up 0 n) → band ≡ band_in g f n

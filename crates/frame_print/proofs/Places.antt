@@ -1,6 +1,6 @@
 -- The places of a frame's bands: what is seen of them when one is filled or emptied.
 use Rattle.std.proofs.Common.{◌≡◌, ℕ, zero, suc, ◌<◌, ◌≤◌, ◌⊎◌, inl, inr, List, [], ◌∷◌, Option, Some, None, option_map, length, map, replicate, get_or, set, sym, ap, ◌∙◌, refl, arith}
-use Rattle.std.proofs.lemmas.List.{map-set, set_past, length-map, length-set, get_or-map}
+use Rattle.std.proofs.lemmas.List.{map-set, set_past, length-map, get_or-map}
 use Rattle.frame_print.specs.Tables.{AreAtTheirNumbers}
 
 -- a number of what lies at each place
@@ -48,6 +48,13 @@ set_numbered numbers i o own before place number h =
 pub some_same : (a b : ℕ) → Some a ≡ Some b → a ≡ b
 some_same a b e = cc
 
+-- where there is no such place, all are as they were
+pub unwritten_is : {X : Type 0} (f : X → ℕ) (places : List (Option X)) (i n : ℕ) (o : Option ℕ) (old : List (Option ℕ)) → each f places ≡ old → i ≡ n → length places ≤ i
+    → each f places ≡ set old n o
+unwritten_is f places i n o old before e past =
+    let beyond : length old ≤ n = omega (arith, past, e, each-length f places, ap length before) in
+    before ∙ sym (set_past old n o beyond)
+
 -- ---- a place that is filled
 
 pub filled_is : {X : Type 0} (f : X → ℕ) (places : List (Option X)) (i n : ℕ) (x : X) (old : List (Option ℕ)) → each f places ≡ old → i ≡ n
@@ -60,13 +67,6 @@ pub filled_numbered : {X : Type 0} (f : X → ℕ) (places : List (Option X)) (i
 filled_numbered f places i x e before =
     rw (each-set f places i (Some x)) (set_numbered (each f places) i (Some (f x)) (λ n h. sym (some_same (f x) n h) ∙ sym e) before)
 
--- where there is no such place, all are as they were
-pub not_filled_is : {X : Type 0} (f : X → ℕ) (places : List (Option X)) (i n k : ℕ) (old : List (Option ℕ)) → each f places ≡ old → i ≡ n → length places ≤ i
-    → each f places ≡ set old n (Some k)
-not_filled_is f places i n k old before e past =
-    let beyond : length old ≤ n = omega (arith, past, e, each-length f places, ap length before) in
-    before ∙ sym (set_past old n (Some k) beyond)
-
 -- ---- a place that is emptied
 
 pub emptied_is : {X : Type 0} (f : X → ℕ) (places : List (Option X)) (i : ℕ) (o : Option X) → o ≡ None → each f (set places i o) ≡ set (each f places) i None
@@ -76,7 +76,3 @@ pub emptied_numbered : {X : Type 0} (f : X → ℕ) (places : List (Option X)) (
     → AreAtTheirNumbers (each f (set places i o))
 emptied_numbered f places i o e before =
     rw (emptied_is f places i o e) (set_numbered (each f places) i None (λ n h. let wrong : None ≡ Some n = h in cc) before)
-
-pub emptied_length : {X : Type 0} (f : X → ℕ) (places : List (Option X)) (i : ℕ) (o : Option X) (old : List (Option ℕ)) → length (each f places) ≡ length old
-    → length (each f (set places i o)) ≡ length old
-emptied_length f places i o old e = ap (λ (l : List (Option ℕ)). length l) (each-set f places i o) ∙ length-set (each f places) i (option_map f o) ∙ e

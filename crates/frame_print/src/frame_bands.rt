@@ -1,4 +1,4 @@
-ghost use Rattle.std.specs.Prelude.{◌≡◌, ℕ, Some, None, [], true, false, length, map, replicate, IfOk};
+ghost use Rattle.std.specs.Prelude.{◌≡◌, ◌≢◌, ℕ, Some, None, [], true, false, length, map, replicate, slice_index_or, slice_set, IfOk, IfSome, IfNone};
 ghost use Rattle.grid_world.specs.Map.{count_up};
 ghost use Rattle.frame_params.specs.Contents.{band_in};
 ghost use Rattle.frame_print.specs.Tables.{with_place, LacksBand};
@@ -67,17 +67,27 @@ impl<'t, L: RunLedger> FrameBands<'t, L> {
         ensures size { length self.new ≡ length self.old }
     {
         'numbers: for number in 0..bands {
-            let Some(place) = self.places.get_mut(number as usize) else {
+            let Some(band) = self.take_band(session, frame, number) else {
                 return Ok(false);
             };
-            let Some(band) = place.take() else {
-                return Ok(false);
-            };
-            let Some(drawn) = band.into_band_at(session, frame, number) else {
-                return Ok(false);
-            };
-            into.push(drawn)?;
+            into.push(band)?;
         }
         Ok(true)
+    }
+
+    /// Empties the place of this number. What lay there, where it is this band of this frame.
+    fn take_band(&mut self, session: &Session, frame: u32, number: u32) -> Option<Band>
+        requires { L.game ≡ Some session.now }
+        ensures value { IfSome result (λ band. band ≡ band_in session.now frame number) }
+        ensures another { IfNone result (slice_index_or self.old number None ≢ Some frame) }
+        ensures emptied { self.new ≡ slice_set self.old number None }
+    {
+        if let Some(place) = self.places.get_mut(number as usize)
+            && let Some(band) = place.take()
+        {
+            band.into_band_at(session, frame, number)
+        } else {
+            None
+        }
     }
 }

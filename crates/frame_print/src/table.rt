@@ -1,6 +1,7 @@
-ghost use Rattle.std.specs.Prelude.{◌≡◌, ◌<◌, IfOk, IfSome, IfNone, Some};
+ghost use Rattle.std.specs.Prelude.{◌≡◌, ◌<◌, ◌%◌, [], true, false, map, IfOk, IfSome, IfNone, Some};
+ghost use Rattle.grid_world.specs.Map.{count_up};
 ghost use Rattle.game_rules.specs.Text.{frame_text};
-ghost use Rattle.frame_params.specs.Contents.{bands_in};
+ghost use Rattle.frame_params.specs.Contents.{bands_in, band_in};
 ghost use Rattle.frame_print.specs.Tables.{no_bands, row_of, with_band, LacksBand, IsElsewhereSame, IsSameSize};
 
 use crate::frame_bands::FrameBands;
@@ -37,12 +38,8 @@ impl<'t, L: RunLedger> BandTable<'t, L> {
     pub fn new(alloc: Global, frames: u32, bands: u32) -> Result<BandTable<'t, L>, AllocError>
         ensures { IfOk result (λ table. table ≡ no_bands frames bands) }
     {
-        let mut places = Vec::with_capacity(alloc, frames as usize)?;
-        'frames: for _frame in 0..frames {
-            places.push(FrameBands::new(alloc, bands)?)?;
-        }
         Ok(BandTable {
-            frames: places,
+            frames: empty_frames(alloc, frames, bands)?,
             drawn: Vec::with_capacity(alloc, bands as usize)?,
         })
     }
@@ -51,11 +48,8 @@ impl<'t, L: RunLedger> BandTable<'t, L> {
     pub fn keep(&mut self, band: RunBand<'t, L>)
         ensures { self.new ≡ with_band self.old band.entry.band.frame band.entry.band.number }
     {
-        let frames = self.frames.len();
-        if frames == 0 {
-            return;
-        }
-        if let Some(places) = self.frames.get_mut(band.band.frame() as usize % frames) {
+        let row = row_at(self.frames.len(), band.band.frame());
+        if let Some(places) = self.frames.get_mut(row) {
             places.keep(band);
         }
     }
@@ -77,22 +71,58 @@ impl<'t, L: RunLedger> BandTable<'t, L> {
     {
         let BandTable { frames, drawn } = self;
         drawn.clear();
-        let count = frames.len();
-        // A world has rows, so where nothing has a place a band is missing.
-        prove!(turn.world().height() > 0);
-        if count == 0 {
-            return Ok(None);
-        }
         let frame = turn.frame();
-        let Some(places) = frames.get_mut(frame as usize % count) else {
-            return Ok(None);
-        };
-        if !places.take_all(session, frame, turn.bands(), drawn)? {
+        if !take_frame(frames, session, frame, turn.bands(), drawn)? {
             return Ok(None);
         }
         match frame_text(alloc, frame, drawn, turn.world(), turn.statuses()) {
             Ok(text) => Ok(Some(text)),
             Err(_) => Err(AllocError),
         }
+    }
+}
+
+/// Empty places for so many frames of so many bands.
+fn empty_frames<'t, L: RunLedger>(
+    alloc: Global,
+    frames: u32,
+    bands: u32,
+) -> Result<Vec<FrameBands<'t, L>>, AllocError>
+    ensures { IfOk result (λ rows. rows.items ≡ no_bands frames bands) }
+{
+    let mut places = Vec::with_capacity(alloc, frames as usize)?;
+    'frames: for _frame in 0..frames {
+        places.push(FrameBands::new(alloc, bands)?)?;
+    }
+    Ok(places)
+}
+
+/// Which of so many rows is a frame's; with none, any number.
+fn row_at(rows: usize, frame: u32) -> usize
+    ensures { 0 < rows → result ≡ frame % rows }
+{
+    if rows == 0 { 0 } else { frame as usize % rows }
+}
+
+/// Takes all bands of a frame out of its places, and puts them into `into`, from the top. False where one of them isn't there.
+fn take_frame<'t, L: RunLedger>(
+    frames: &mut Vec<FrameBands<'t, L>>,
+    session: &Session,
+    frame: u32,
+    bands: u32,
+    into: &mut Vec<Band>,
+) -> Result<bool, AllocError>
+    requires run { L.game ≡ Some session.now }
+    requires empty { into.old.items ≡ [] }
+    ensures all { IfOk result (λ all. all ≡ true → into.new.items ≡ map (band_in session.now frame) (count_up 0 bands)) }
+    ensures missing { IfOk result (λ all. all ≡ false → LacksBand (row_of frames.old.items frame) frame bands) }
+    ensures others { IsElsewhereSame frame frames.old.items frames.new.items }
+    ensures size { IsSameSize frames.old.items frames.new.items }
+{
+    let row = row_at(frames.len(), frame);
+    match frames.get_mut(row) {
+        Some(places) => places.take_all(session, frame, bands, into),
+        // With no rows a frame has all its bands only where it has none.
+        None => Ok(bands == 0),
     }
 }

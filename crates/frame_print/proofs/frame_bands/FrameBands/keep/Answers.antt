@@ -1,5 +1,5 @@
-use Rattle.std.proofs.Common.{rules, ◌≤◌, length, vec_len, arith}
-use Rattle.frame_print.proofs.Places.{filled_is, filled_numbered, not_filled_is}
+use Rattle.std.proofs.Common.{rules, ◌≤◌, length, vec_len, arith, Some}
+use Rattle.frame_print.proofs.Places.{filled_is, filled_numbered, unwritten_is}
 use Rattle.frame_print.proofs.frame_bands.FrameBands.keep.Goals.{in-Some+in-Some-1, in-Some+in-None-1, in_default}
 use Rattle.frame_print.proofs.frame_bands.FrameBands.keep.Goals as goal
 
@@ -24,5 +24,5 @@ returns g c =
       | in_default w ↦
           let none : vec_len places ≤ n = search rules in
           let past : length places.items ≤ n = omega (arith, none, places.ok.0) in
-          rw w.self-inside-is (not_filled_is (λ kept. kept.band.frame) places.items n band.number band.frame c.args.self.now c.self.view_is c.number-number.ensures past)
+          rw w.self-inside-is (unwritten_is (λ kept. kept.band.frame) places.items n band.number (Some band.frame) c.args.self.now c.self.view_is c.number-number.ensures past)
     ]

@@ -1,5 +1,5 @@
 use Rattle.std.proofs.Common.{◌≡◌, replicate, None}
-use Rattle.frame_print.proofs.table.BandTable.new.Given as goal
+use Rattle.frame_print.proofs.table.empty_frames.Given as goal
 
 -- as many rows as were pushed
 abbrev pub invariant-frames : goal.invariant-frames
