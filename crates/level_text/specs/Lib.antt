@@ -1,6 +1,7 @@
 pub mod Changes
 pub mod Scripts
 pub mod Nodes
+pub mod Inner
 pub mod Parts
 pub mod Names
 pub mod Drafts
@@ -12,4 +13,5 @@ pub mod Kept
 pub mod Levels
 pub mod Written
 pub mod Marks
+pub mod Children
 pub mod Sessions
