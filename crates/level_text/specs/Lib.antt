@@ -9,9 +9,11 @@ pub mod PlainCode
 pub mod GameCode
 pub mod Places
 pub mod Faults
+pub mod TreeFaults
 pub mod Kept
 pub mod Levels
 pub mod Written
+pub mod LevelObject
 pub mod Marks
 pub mod Children
 pub mod Sessions
