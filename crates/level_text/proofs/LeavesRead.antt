@@ -1,6 +1,6 @@
 -- Nodes that take no node, as plain trees.
 use Rattle.std.proofs.Common.{◌≡◌, ℕ, Global, rules}
-use Rattle.bt_nodes.specs.Plain.{Plain, Wait, MoveTo, Does, TakeItem, DropItem, AtPlace, Carries, OnItem, SignalOn, NearOther, plain}
+use Rattle.bt_nodes.specs.Plain.{Wait, MoveTo, Does, TakeItem, DropItem, AtPlace, Carries, OnItem, SignalOn, NearOther, plain}
 use Rattle.bt_nodes.specs.declared.node.Node.{the_lemmas}
 use Rattle.bt_nodes.specs.declared.node.Node as node
 
