@@ -13,7 +13,5 @@ pub mod TreeFaults
 pub mod Kept
 pub mod Levels
 pub mod Written
-pub mod LevelObject
 pub mod Marks
-pub mod Children
 pub mod Sessions

@@ -1,7 +1,6 @@
 // Levels and scripts as text: reading, writing, and what they stand for.
 #![tactic(auto)]
 
-mod children;
 mod draft;
 mod inner;
 mod leaves;

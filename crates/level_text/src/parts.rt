@@ -1,12 +1,11 @@
 // The parts of a level file as JSON values.
-ghost use Rattle.std.specs.Prelude.{◌≡◌, None, IfOk, IfSome, IfNone, IsTrue, option_map, map, string_bytes};
+ghost use Rattle.std.specs.Prelude.{◌≡◌, IfOk, IfSome, IsTrue, option_map, map, string_bytes};
 ghost use Rattle.serde_json.specs.View.{view};
 ghost use Rattle.serde_json.specs.Find.{as_object};
 ghost use Rattle.serde_json.specs.Events.{members_len};
 ghost use Rattle.level_text.specs.Drafts.{parts_view, node_view};
-ghost use Rattle.level_text.specs.Nodes.{node_of as spelled_node};
 ghost use Rattle.level_text.specs.Names.{is_in_order, names_of};
-ghost use Rattle.level_text.specs.Parts.{texts_of as spelled_texts, trees_of as spelled_trees, parts_of as spelled_parts, parts_from, named, has_three};
+ghost use Rattle.level_text.specs.Parts.{texts_of as spelled_texts, trees_of as spelled_trees, parts_of as spelled_parts, has_three};
 
 use crate::draft::{Draft, NamedNode};
 use crate::nodes::node_of;
@@ -30,19 +29,6 @@ fn texts_of(alloc: Global, value: &Value) -> Result<Option<Vec<String>>, AllocEr
     Ok(Some(texts))
 }
 
-/// The node of a name, or none where the value spells no node.
-fn named_node(alloc: Global, name: &String, value: &Value) -> Result<Option<NamedNode>, AllocError>
-    ensures { IfOk result (λ o. option_map node_view o ≡ option_map (named (string_bytes name.now)) (spelled_node (view value.now))) }
-{
-    match node_of(alloc, value)? {
-        Some(node) => Ok(Some(NamedNode {
-            name: name.clone()?,
-            node,
-        })),
-        None => Ok(None),
-    }
-}
-
 /// The nodes of an object, by name, or none where the value is no object from name to node.
 fn trees_of(alloc: Global, value: &Value) -> Result<Option<Vec<NamedNode>>, AllocError>
     ensures spelled { IfOk result (λ o. option_map (λ v. map node_view v.items) o ≡ spelled_trees (view value.now)) }
@@ -53,10 +39,13 @@ fn trees_of(alloc: Global, value: &Value) -> Result<Option<Vec<NamedNode>>, Allo
     };
     let mut trees = Vec::new(alloc);
     'members: for (key, member) in members.iter() {
-        match named_node(alloc, key, member)? {
-            Some(named) => trees.push(named)?,
-            None => return Ok(None),
-        }
+        let Some(node) = node_of(alloc, member)? else {
+            return Ok(None);
+        };
+        trees.push(NamedNode {
+            name: key.clone()?,
+            node,
+        })?;
     }
     Ok(Some(trees))
 }
@@ -70,25 +59,19 @@ fn is_of_three(value: &Value) -> bool
     }
 }
 
-/// The values of the map, the agents and the trees, or none where there are not these three.
-fn three_of(value: &Value) -> Option<(&Value, &Value, &Value)>
-    ensures none { IfNone result (spelled_parts (view value.now) ≡ None) }
-    ensures some { IfSome result (λ p. spelled_parts (view value.now)
-        ≡ parts_from (spelled_texts (view p.0.now)) (spelled_texts (view p.1.now)) (spelled_trees (view p.2.now))) }
-{
-    if is_of_three(value) {
-        Some((value.get("map")?, value.get("agents")?, value.get("trees")?))
-    } else {
-        None
-    }
-}
-
 /// The parts of a level, or none where the value has another shape.
 pub(crate) fn parts_of(alloc: Global, value: &Value) -> Result<Option<Draft>, AllocError>
     ensures spelled { IfOk result (λ o. option_map parts_view o ≡ spelled_parts (view value.now)) }
     ensures ordered { IfOk result (λ o. IfSome o (λ p. IsTrue (is_in_order (names_of (parts_view p).trees)))) }
 {
-    let Some((map, agents, trees)) = three_of(value) else {
+    if !is_of_three(value) {
+        return Ok(None);
+    }
+    let (Some(map), Some(agents), Some(trees)) = (
+        value.get("map"),
+        value.get("agents"),
+        value.get("trees"),
+    ) else {
         return Ok(None);
     };
     let Some(rows) = texts_of(alloc, map)? else {

@@ -7,7 +7,6 @@ ghost use Rattle.level_text.specs.Kept.{texts_view, trees_view};
 ghost use Rattle.level_text.specs.Levels.{value_of as value_kept, spelled};
 ghost use Rattle.level_text.specs.Marks.{has_marks};
 ghost use Rattle.level_text.specs.Names.{is_in_order, names_of};
-ghost use Rattle.level_text.specs.LevelObject.{level_object};
 ghost use Rattle.level_text.specs.Written.{texts_data, trees_data, level_data, level_text};
 
 use crate::level::Level;
@@ -38,12 +37,6 @@ fn trees_value(alloc: Global, trees: &[NamedTree]) -> Result<Value, AllocError>
     Ok(Value::Object(members))
 }
 
-fn object_of(alloc: Global, agents: Value, map: Value, trees: Value) -> Result<Value, AllocError>
-    ensures { IfOk result (λ v. view v ≡ level_object (view agents) (view map) (view trees)) }
-{
-    json!(in alloc; {"agents": agents, "map": map, "trees": trees})
-}
-
 fn level_value(alloc: Global, level: &Level) -> Result<Value, AllocError>
     ensures value { IfOk result (λ v. view v ≡ level_data (value_kept level.now)) }
     ensures marks { OnOk result (IsTrue (list_all (λ t. has_marks t.tree) (value_kept level.now).trees)) }
@@ -51,7 +44,7 @@ fn level_value(alloc: Global, level: &Level) -> Result<Value, AllocError>
     let agents = texts_value(alloc, &level.names)?;
     let map = texts_value(alloc, &level.rows)?;
     let trees = trees_value(alloc, &level.trees)?;
-    object_of(alloc, agents, map, trees)
+    json!(in alloc; {"agents": agents, "map": map, "trees": trees})
 }
 
 /// The level as compact JSON text: the keys `agents`, `map` and `trees`, the trees in order of their names' bytes, no

@@ -4,10 +4,8 @@ ghost use Rattle.serde_json.specs.Data.{item, no_items};
 ghost use Rattle.serde_json.specs.View.{view, items_view};
 ghost use Rattle.bt_nodes.specs.Plain.{plain, plains};
 ghost use Rattle.level_text.specs.Marks.{has_marks, all_have_marks};
-ghost use Rattle.level_text.specs.Written.{marked as marked_items, node_data, forest_data};
-ghost use Rattle.level_text.specs.Children.{form_behind, head_of, number_of, mark_of, is_marked, numbered};
+ghost use Rattle.level_text.specs.Written.{form as form_data, counted as counted_items, marked as marked_items, node_data, forest_data};
 
-use crate::children::{Children, children_of};
 use bt_nodes::Node;
 use serde_json::Value;
 use std::alloc::{AllocError, Global};
@@ -18,10 +16,36 @@ pub(crate) fn value_of(alloc: Global, node: &Node<Global>) -> Result<Value, Allo
     ensures value { IfOk result (λ v. view v ≡ node_data (plain node.now)) }
     ensures marks { OnOk result (IsTrue (has_marks (plain node.now))) }
 {
-    match children_of(node) {
-        Children::Listed(children) => form(alloc, node, values_of(alloc, children)?),
-        Children::Only(child) => form(alloc, node, only(alloc, value_of(alloc, child)?)?),
-        Children::Absent => form(alloc, node, mark_of(alloc, node)?),
+    match node {
+        Node::Seq(children) => form(alloc, "seq", values_of(alloc, children)?),
+        Node::Fallback(children) => form(alloc, "fallback", values_of(alloc, children)?),
+        Node::Par(m, children) => form(
+            alloc,
+            "par",
+            counted(alloc, *m, values_of(alloc, children)?)?,
+        ),
+        Node::SeqStar(children) => form(alloc, "seq*", values_of(alloc, children)?),
+        Node::FallbackStar(children) => form(alloc, "fallback*", values_of(alloc, children)?),
+        Node::Not(child) => form(alloc, "not", only(alloc, value_of(alloc, child)?)?),
+        Node::Tries(n, child) => form(
+            alloc,
+            "tries",
+            counted(alloc, *n, only(alloc, value_of(alloc, child)?)?)?,
+        ),
+        Node::Ticks(n, child) => form(
+            alloc,
+            "ticks",
+            counted(alloc, *n, only(alloc, value_of(alloc, child)?)?)?,
+        ),
+        Node::Wait(n) => form(alloc, "wait", counted(alloc, *n, Vec::new(alloc))?),
+        Node::Move(place) => form(alloc, "move", marked(alloc, b'0', place.number())?),
+        Node::Take => form(alloc, "take", Vec::new(alloc)),
+        Node::Drop => form(alloc, "drop", Vec::new(alloc)),
+        Node::At(place) => form(alloc, "at", marked(alloc, b'0', place.number())?),
+        Node::Carrying => form(alloc, "carrying", Vec::new(alloc)),
+        Node::Item => form(alloc, "item", Vec::new(alloc)),
+        Node::Signal(signal) => form(alloc, "signal", marked(alloc, b'a', signal.number())?),
+        Node::Near(n) => form(alloc, "near", counted(alloc, *n, Vec::new(alloc))?),
     }
 }
 
@@ -37,73 +61,17 @@ fn values_of(alloc: Global, nodes: &[Node<Global>]) -> Result<Vec<Value>, AllocE
     Ok(values)
 }
 
-/// The head of a node, its number if it has one, and what stands behind these.
-fn form(alloc: Global, node: &Node<Global>, behind: Vec<Value>) -> Result<Value, AllocError>
-    ensures { IfOk result (λ v. view v ≡ form_behind (plain node.now) (items_view behind.items)) }
+/// A head and its arguments.
+fn form(alloc: Global, head: &str, arguments: Vec<Value>) -> Result<Value, AllocError>
+    ensures { IfOk result (λ v. view v ≡ form_data head.now (items_view arguments.items)) }
 {
-    let head = Value::try_from_str(alloc, head_of(node))?;
-    let arguments = numbered(alloc, number_of(node), behind)?;
-    Ok(Value::Array(with_first(alloc, head, arguments)?))
+    Ok(Value::Array(with_first(alloc, Value::try_from_str(alloc, head)?, arguments)?))
 }
 
-fn head_of(node: &Node<Global>) -> &'static str
-    ensures { result.now ≡ head_of (plain node.now) }
+fn counted(alloc: Global, count: u64, arguments: Vec<Value>) -> Result<Vec<Value>, AllocError>
+    ensures { IfOk result (λ v. items_view v.items ≡ counted_items count (items_view arguments.items)) }
 {
-    match node {
-        Node::Seq(_) => "seq",
-        Node::Fallback(_) => "fallback",
-        Node::Par(_, _) => "par",
-        Node::SeqStar(_) => "seq*",
-        Node::FallbackStar(_) => "fallback*",
-        Node::Not(_) => "not",
-        Node::Tries(_, _) => "tries",
-        Node::Ticks(_, _) => "ticks",
-        Node::Wait(_) => "wait",
-        Node::Move(_) => "move",
-        Node::Take => "take",
-        Node::Drop => "drop",
-        Node::At(_) => "at",
-        Node::Carrying => "carrying",
-        Node::Item => "item",
-        Node::Signal(_) => "signal",
-        Node::Near(_) => "near",
-    }
-}
-
-/// The number right behind the head.
-fn number_of(node: &Node<Global>) -> Option<u64>
-    ensures { result ≡ number_of (plain node.now) }
-{
-    match node {
-        Node::Par(n, _) | Node::Tries(n, _) | Node::Ticks(n, _) | Node::Wait(n) | Node::Near(n) =>
-            Some(*n),
-        _ => None,
-    }
-}
-
-/// The place or the signal of a node, as a text.
-fn mark_of(alloc: Global, node: &Node<Global>) -> Result<Vec<Value>, AllocError>
-    ensures value { IfOk result (λ v. items_view v.items ≡ mark_of (plain node.now)) }
-    ensures marks { OnOk result (IsTrue (is_marked (plain node.now))) }
-{
-    match node {
-        Node::Move(place) | Node::At(place) => marked(alloc, b'0', place.number()),
-        Node::Signal(signal) => marked(alloc, b'a', signal.number()),
-        _ => Ok(Vec::new(alloc)),
-    }
-}
-
-fn numbered(
-    alloc: Global,
-    number: Option<u64>,
-    behind: Vec<Value>,
-) -> Result<Vec<Value>, AllocError>
-    ensures { IfOk result (λ v. items_view v.items ≡ numbered number (items_view behind.items)) }
-{
-    match number {
-        Some(n) => with_first(alloc, Value::from(n), behind),
-        None => Ok(behind),
-    }
+    with_first(alloc, Value::from(count), arguments)
 }
 
 fn only(alloc: Global, value: Value) -> Result<Vec<Value>, AllocError>

@@ -1,4 +1,5 @@
 use Rattle.std.proofs.Common.{ap, ◌∙◌, sym, map, option_map, ◌++◌}
+use Rattle.bt_nodes.specs.Plain.{plain}
 use Rattle.serde_json.specs.View.{members_view}
 use Rattle.serde_json.proofs.Views.{Entry}
 use Rattle.level_text.specs.Parts.{trees_in}
@@ -14,8 +15,9 @@ members-preserved c =
     let left = c.next.new.self in (
       tt,
       tt,
-      ap (λ ts. option_map (λ us. map node_view ts ++ us) (trees_in (members_view left))) c.in_ok-push-in-Some-2.ensures.items
-          ∙ tree_more l.trees.items c.in-Some-2.named e left _ (sym (ap (option_map node_view) c.in-Some-2.is) ∙ c.in_ok-named.ensures)
+      ap (λ ts. option_map (λ us. map node_view ts ++ us) (trees_in (members_view left))) c.in_ok-push.ensures.items
+          ∙ tree_more l.trees.items record { name = c.in_ok-clone.field-0; node = c.in-Some-2.node } e left _ c.in_ok-clone.ensures.cases
+          (sym (ap (option_map plain) c.in-Some-2.is) ∙ c.in_ok-node.ensures)
           (sym (ap (λ es. option_map (λ us. map node_view l.trees.items ++ us) (trees_in (members_view es))) c.in-Some.ensures.steps) ∙ l.invariant.2),
     )
 
