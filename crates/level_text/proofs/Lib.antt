@@ -5,8 +5,12 @@ pub mod ThreeWords
 pub mod ReadLines
 pub mod Items
 pub mod NodesBefore
+pub mod LeavesRead
 pub mod NodesRead
+pub mod InnerRead
 pub mod TreesRead
+pub mod TextsRead
+pub mod TreesWithin
 pub mod PartsRead
 pub mod NameOrder
 pub mod FaultOrder

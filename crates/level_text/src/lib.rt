@@ -2,6 +2,7 @@
 #![tactic(auto)]
 
 mod draft;
+mod inner;
 mod leaves;
 mod level;
 mod level_fault;

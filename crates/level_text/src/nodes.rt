@@ -1,51 +1,46 @@
 // Nodes as JSON values.
-ghost use Rattle.std.specs.Prelude.{◌≡◌, IfOk, option_map};
+ghost use Rattle.std.specs.Prelude.{◌≡◌, ◌<◌, None, IfOk, IfNone, IfSome, option_map};
 ghost use Rattle.serde_json.specs.View.{view, items_view};
+ghost use Rattle.serde_json.specs.declared.value.Value.{size-Value};
 ghost use Rattle.bt_nodes.specs.Plain.{plain, plains};
 ghost use Rattle.level_text.specs.Nodes.{node_of as spelled_node, forest_in, child_in};
+ghost use Rattle.level_text.specs.Inner.{form_in, deepest};
 
-use crate::leaves::{leaf_of, numbered};
+use crate::inner::{Inner, inner_of};
+use crate::leaves::leaf_of;
 use bt_nodes::Node;
 use serde_json::Value;
 use std::alloc::{AllocError, Global};
+
+/// The head of a form, which is an array that begins with a text, and the values behind it.
+fn form_of(value: &Value) -> Option<(&str, &[Value])>
+    ensures none { IfNone result (spelled_node (view value.now) ≡ None) }
+    ensures some { IfSome result (λ form. spelled_node (view value.now) ≡ form_in form.0.now (items_view form.1.now)) }
+    ensures inside { IfSome result (λ form. deepest form.1.now < size-Value value.now) }
+{
+    let Value::Array(items) = value else {
+        return None;
+    };
+    let (first, arguments) = items.split_first()?;
+    Some((first.as_str()?, arguments))
+}
 
 /// The node that a value spells, or none where it spells none.
 #[cycle(nodes)]
 pub(crate) fn node_of(alloc: Global, value: &Value) -> Result<Option<Node<Global>>, AllocError>
     ensures { IfOk result (λ found. option_map plain found ≡ spelled_node (view value.now)) }
 {
-    let Value::Array(items) = value else {
+    let Some((head, arguments)) = form_of(value) else {
         return Ok(None);
     };
-    let Some((first, arguments)) = items.split_first() else {
-        return Ok(None);
-    };
-    let Some(head) = first.as_str() else {
-        return Ok(None);
-    };
-    match head {
-        "seq" => Ok(forest_of(alloc, arguments)?.map(|children| Node::Seq(children))),
-        "fallback" => Ok(forest_of(alloc, arguments)?.map(|children| Node::Fallback(children))),
-        "seq*" => Ok(forest_of(alloc, arguments)?.map(|children| Node::SeqStar(children))),
-        "fallback*" => Ok(forest_of(alloc, arguments)?.map(|children| Node::FallbackStar(
-            children,
-        ))),
-        "par" => match numbered(arguments) {
-            Some((n, behind)) => Ok(forest_of(alloc, behind)?.map(|children| Node::Par(
-                n, children,
-            ))),
-            None => Ok(None),
-        },
-        "not" => Ok(child_of(alloc, arguments)?.map(|child| Node::Not(child))),
-        "tries" => match numbered(arguments) {
-            Some((n, behind)) => Ok(child_of(alloc, behind)?.map(|child| Node::Tries(n, child))),
-            None => Ok(None),
-        },
-        "ticks" => match numbered(arguments) {
-            Some((n, behind)) => Ok(child_of(alloc, behind)?.map(|child| Node::Ticks(n, child))),
-            None => Ok(None),
-        },
-        _ => Ok(leaf_of(head, arguments)),
+    match inner_of(head, arguments) {
+        Some(Inner::Lists(lister, values)) => Ok(forest_of(alloc, values)?.map(
+            |children| lister.over(children),
+        )),
+        Some(Inner::Decorates(decorator, values)) => Ok(child_of(alloc, values)?.map(
+            |child| decorator.over(child),
+        )),
+        None => Ok(leaf_of(head, arguments)),
     }
 }
 

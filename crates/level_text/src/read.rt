@@ -6,7 +6,8 @@ ghost use Rattle.std.specs.Str.{chars, bytes_eq};
 ghost use Rattle.level_text.specs.Drafts.{parts_view, node_view};
 ghost use Rattle.level_text.specs.Names.{is_in_order, names_of};
 ghost use Rattle.level_text.specs.Faults.{row_fault, limit_fault, agent_fault, place_fault, no_place};
-ghost use Rattle.level_text.specs.Kept.{trees_view, texts_view, index_of as spelled_index};
+ghost use Rattle.level_text.specs.TreeFaults.{own_fault};
+ghost use Rattle.level_text.specs.Kept.{tree_view, trees_view, texts_view, index_of as spelled_index};
 ghost use Rattle.level_text.specs.Levels.{value_of, of_parts, spelled, level_of as spelled_level, IsFaultOf, IsFirstOf};
 ghost use Rattle.level_text.specs.declared.named_tree.NamedTree.{NamedTree};
 
@@ -34,6 +35,23 @@ fn world_of(alloc: Global, rows: &[String]) -> Result<World, LevelFault>
     }
 }
 
+/// The tree of a name, or the limit that it breaks.
+fn tree_within(named: NamedNode) -> Result<NamedTree, LevelFault>
+    ensures ok { IfOk result (λ t. (own_fault (node_view named) ≡ None) × (tree_view t ≡ node_view named)) }
+    ensures err { IfErr result (IsFirstOf (own_fault (node_view named))) }
+{
+    match Tree::new(named.node) {
+        Ok(tree) => Ok(NamedTree {
+            name: named.name,
+            tree,
+        }),
+        Err((fault, _)) => Err(LevelFault::BadTree {
+            name: named.name,
+            fault,
+        }),
+    }
+}
+
 fn trees_within(alloc: Global, nodes: Vec<NamedNode>) -> Result<Vec<NamedTree>, LevelFault>
     ensures ok { IfOk result (λ v. (limit_fault (map node_view nodes.items) ≡ None)
         × (trees_view v.items ≡ map node_view nodes.items)) }
@@ -41,15 +59,9 @@ fn trees_within(alloc: Global, nodes: Vec<NamedNode>) -> Result<Vec<NamedTree>, 
 {
     let mut trees = Vec::with_capacity(alloc, nodes.len())?;
     'nodes: for named in nodes {
-        match Tree::new(named.node) {
-            Ok(tree) => trees.push(NamedTree {
-                name: named.name,
-                tree,
-            })?,
-            Err((fault, _)) => return Err(LevelFault::BadTree {
-                name: named.name,
-                fault,
-            }),
+        match tree_within(named) {
+            Ok(tree) => trees.push(tree)?,
+            Err(fault) => return Err(fault),
         }
     }
     Ok(trees)

@@ -1,0 +1,32 @@
+-- Nodes that take no node, as plain trees.
+use Rattle.std.proofs.Common.{◌≡◌, ℕ, Global, rules}
+use Rattle.bt_nodes.specs.Plain.{Wait, MoveTo, Does, TakeItem, DropItem, AtPlace, Carries, OnItem, SignalOn, NearOther, plain}
+use Rattle.bt_nodes.specs.declared.node.Node.{the_lemmas}
+use Rattle.bt_nodes.specs.declared.node.Node as node
+
+pub plain-Wait : (n : ℕ) → plain {A = Global} (node.Wait n) ≡ Wait n
+plain-Wait n = search (rules, the_lemmas)
+
+pub plain-Move : (p : ℕ) → plain {A = Global} (node.Move p) ≡ MoveTo p
+plain-Move p = search (rules, the_lemmas)
+
+pub plain-Take : plain {A = Global} node.Take ≡ Does TakeItem
+plain-Take = search (rules, the_lemmas)
+
+pub plain-Drop : plain {A = Global} node.Drop ≡ Does DropItem
+plain-Drop = search (rules, the_lemmas)
+
+pub plain-At : (p : ℕ) → plain {A = Global} (node.At p) ≡ Does (AtPlace p)
+plain-At p = search (rules, the_lemmas)
+
+pub plain-Carrying : plain {A = Global} node.Carrying ≡ Does Carries
+plain-Carrying = search (rules, the_lemmas)
+
+pub plain-Item : plain {A = Global} node.Item ≡ Does OnItem
+plain-Item = search (rules, the_lemmas)
+
+pub plain-Signal : (a : ℕ) → plain {A = Global} (node.Signal a) ≡ Does (SignalOn a)
+plain-Signal a = search (rules, the_lemmas)
+
+pub plain-Near : (n : ℕ) → plain {A = Global} (node.Near n) ≡ Does (NearOther n)
+plain-Near n = search (rules, the_lemmas)
