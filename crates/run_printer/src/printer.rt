@@ -17,19 +17,6 @@ use std::rt::Clock;
 use std::sync::Wait;
 use std::sync::ledger::{Ledger, Share};
 
-// Stops the board, so that all threads end. Why, and after how many frames.
-fn stopped<'t, L: RunLedger, M: Ledger, R: Wait>(
-    rt: &R,
-    hall: &Hall<'t, L, M>,
-    cause: Cause,
-    frames: u32,
-) -> RunFault
-    ensures { result.frames ≡ frames }
-{
-    hall.stop(rt);
-    RunFault { cause, frames }
-}
-
 /// Shows and writes all frames in order, and flushes. At a fault it stops the board.
 pub fn print<'t, W: Write, L: RunLedger, M: Ledger, R: Wait + Clock>(
     rt: &R,
@@ -54,15 +41,33 @@ pub fn print<'t, W: Write, L: RunLedger, M: Ledger, R: Wait + Clock>(
     'shows: for done in 0..last {
         let text = match next_text(rt, alloc, session, settings, hall, emits, inbox) {
             Ok(text) => text,
-            Err(cause) => return Err(stopped(rt, hall, cause, done)),
+            Err(cause) => {
+                hall.stop(rt);
+                return Err(RunFault {
+                    cause,
+                    frames: done,
+                });
+            }
         };
         match write_whole(out, &text) {
             Ok(()) => {}
-            Err(_) => return Err(stopped(rt, hall, Cause::Write, done)),
+            Err(_) => {
+                hall.stop(rt);
+                return Err(RunFault {
+                    cause: Cause::Write,
+                    frames: done,
+                });
+            }
         }
     }
     match out.flush() {
         Ok(()) => Ok(()),
-        Err(_) => Err(stopped(rt, hall, Cause::Write, last)),
+        Err(_) => {
+            hall.stop(rt);
+            Err(RunFault {
+                cause: Cause::Write,
+                frames: last,
+            })
+        }
     }
 }

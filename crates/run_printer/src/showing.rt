@@ -16,39 +16,6 @@ use std::sync::{MutexGuard, Wait};
 // How often the printer looks for a frame before it sleeps: a microsecond, for the workers may want its core.
 const LOOKS: u32 = 100;
 
-// Takes what is in the mail with the lock free, and looks for the next frame once more. Whoever waits for room in the mail is woken.
-fn make_room<'m, 't, L: RunLedger, M: Ledger, R: Wait + Clock>(
-    rt: &R,
-    hall: &'m Hall<'t, L, M>,
-    inbox: &mut Inbox<'t, L>,
-    board: MutexGuard<'m, SharedBoard<'t, L, M>>,
-) -> MutexGuard<'m, SharedBoard<'t, L, M>>
-    requires { inbox.old.taker.mail ≡ hall.now.mail }
-    ensures { inbox.new.taker.mail ≡ hall.now.mail }
-{
-    hall.unlock(board);
-    inbox.take_all(rt, hall);
-    let (board, _) = hall.spin(rt, &hall.printer, LOOKS);
-    if hall.room.any_asleep() {
-        hall.room.wake_all();
-    }
-    board
-}
-
-// Sleeps until it is woken for the next frame, for a while at most.
-fn sleep<'m, 't, L: RunLedger, M: Ledger, R: Wait + Clock>(
-    rt: &R,
-    hall: &'m Hall<'t, L, M>,
-    rest: &mut Rest,
-    board: MutexGuard<'m, SharedBoard<'t, L, M>>,
-) -> MutexGuard<'m, SharedBoard<'t, L, M>> {
-    let (board, is_over) = hall.doze(rt, &hall.printer, board, rest.length());
-    if is_over {
-        rest.lengthen();
-    }
-    board
-}
-
 // Waits until the next frame may be there. Where the mail has bands they are taken in place of sleeping, so a worker that finds no room there
 // is never left waiting.
 fn wait_for_frame<'m, 't, L: RunLedger, M: Ledger, R: Wait + Clock>(
@@ -61,39 +28,24 @@ fn wait_for_frame<'m, 't, L: RunLedger, M: Ledger, R: Wait + Clock>(
     requires { inbox.old.taker.mail ≡ hall.now.mail }
     ensures { inbox.new.taker.mail ≡ hall.now.mail }
 {
-    if inbox.take_one(rt, hall) {
-        make_room(rt, hall, inbox, board)
-    } else {
-        sleep(rt, hall, rest, board)
+    if !inbox.take_one(rt, hall) {
+        let (board, is_over) = hall.doze(rt, &hall.printer, board, rest.length());
+        if is_over {
+            rest.lengthen();
+        }
+        return board;
     }
-}
-
-// Lets the lock go once a frame is shown, and tells the workers: a Logic may have waited for the frame's slot, and after the
-// last frame they end.
-fn let_go<'h, 't, L: RunLedger, M: Ledger>(
-    hall: &'h Hall<'t, L, M>,
-    board: MutexGuard<'h, SharedBoard<'t, L, M>>,
-) {
-    let is_done = board.is_done();
-    let another = board.may_take() && hall.wants_worker();
     hall.unlock(board);
-    if is_done {
-        hall.workers.wake_all();
+    inbox.take_all(rt, hall);
+    let (board, _) = hall.spin(rt, &hall.printer, LOOKS);
+    if hall.room.any_asleep() {
+        hall.room.wake_all();
     }
-    if another {
-        hall.workers.wake_one();
-    }
+    board
 }
 
-// Why a run ends whose next frame is refused.
-fn cause_of(fault: BoardFault) -> Cause {
-    match fault {
-        BoardFault::OutOfMemory => Cause::OutOfMemory,
-        _ => Cause::Stranger,
-    }
-}
-
-// Shows the next frame, once all of it is drawn.
+// Shows the next frame, once all of it is drawn. The workers are told: a Logic may have waited for the frame's slot, and
+// after the last frame they end.
 fn emit<'t, L: RunLedger, M: Ledger, R: Wait + Clock>(
     rt: &R,
     session: &Session,
@@ -116,11 +68,20 @@ fn emit<'t, L: RunLedger, M: Ledger, R: Wait + Clock>(
     for _ in rt.forever() {
         match board.emit(session, settings, emits) {
             Ok(shown) => {
-                let_go(hall, board);
+                let is_done = board.is_done();
+                let another = board.may_take() && hall.wants_worker();
+                hall.unlock(board);
+                if is_done {
+                    hall.workers.wake_all();
+                }
+                if another {
+                    hall.workers.wake_one();
+                }
                 return Ok(shown);
             }
             Err(BoardFault::Illegal) => board = wait_for_frame(rt, hall, inbox, &mut rest, board),
-            Err(fault) => return Err(cause_of(fault)),
+            Err(BoardFault::OutOfMemory) => return Err(Cause::OutOfMemory),
+            Err(_) => return Err(Cause::Stranger),
         }
     }
     unreachable!()

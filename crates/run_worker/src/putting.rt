@@ -1,4 +1,4 @@
-ghost use Rattle.std.specs.Prelude.{◌≡◌, true, false, MatchResult};
+ghost use Rattle.std.specs.Prelude.{◌≡◌, true, false};
 ghost use Rattle.band_mail.specs.Mails.{IsPutterOf, with_put};
 
 use band_mail::Putter;
@@ -11,58 +11,6 @@ use std::sync::ledger::Ledger;
 
 // How often a full queue is tried again before its worker sleeps: some microseconds.
 const TRIES: u32 = 100;
-
-// Puts a band into the worker's queue, or hands it back where that is full for some microseconds.
-fn put_soon<'t, L: RunLedger, M: Ledger, R: Wait>(
-    rt: &R,
-    hall: &Hall<'t, L, M>,
-    putter: &mut Putter<RunBand<'t, L>>,
-    band: RunBand<'t, L>,
-) -> Result<(), RunBand<'t, L>>
-    requires { IsPutterOf hall.now.mail putter.old }
-    ensures putter { IsPutterOf hall.now.mail putter.new × (putter.new.worker ≡ putter.old.worker) }
-    ensures put { MatchResult result (λ _. putter.new ≡ with_put putter.old band.entry) (λ back. (back ≡ band.entry) × (putter.new ≡ putter.old)) }
-{
-    let mut band = band;
-    'tries: for _ in 0..TRIES {
-        match hall.mail.put(rt, putter, band) {
-            Ok(()) => return Ok(()),
-            Err(back) => band = back,
-        }
-        hint::spin_loop();
-    }
-    Err(band)
-}
-
-// The same under the lock, where it sleeps until there is room. False, and the band is let go, where the board is stopped meanwhile.
-fn put_once_there_is_room<'t, L: RunLedger, M: Ledger, R: Wait>(
-    rt: &R,
-    hall: &Hall<'t, L, M>,
-    putter: &mut Putter<RunBand<'t, L>>,
-    band: RunBand<'t, L>,
-) -> bool
-    requires { IsPutterOf hall.now.mail putter.old }
-    ensures putter { IsPutterOf hall.now.mail putter.new × (putter.new.worker ≡ putter.old.worker) }
-    ensures put { result ≡ true → putter.new ≡ with_put putter.old band.entry }
-    ensures kept { result ≡ false → putter.new ≡ putter.old }
-{
-    let mut band = band;
-    let mut board = hall.board.lock(rt);
-    'waits: for _ in rt.forever() {
-        if board.is_stopped() {
-            return false;
-        }
-        match hall.mail.put(rt, putter, band) {
-            Ok(()) => return true,
-            Err(back) => band = back,
-        }
-        if hall.printer.want_one() {
-            hall.printer.wake_one();
-        }
-        board = hall.room.sleep(rt, board);
-    }
-    unreachable!()
-}
 
 /// Puts a band into the worker's queue of the mail, and waits for room where it is full. False, and the band is let go, where the board is
 /// stopped meanwhile.
@@ -80,8 +28,27 @@ pub fn put_band<'t, L: RunLedger, M: Ledger, R: Wait>(
     ensures put { result ≡ true → putter.new ≡ with_put putter.old band.entry }
     ensures kept { result ≡ false → putter.new ≡ putter.old }
 {
-    match put_soon(rt, hall, putter, band) {
-        Ok(()) => true,
-        Err(back) => put_once_there_is_room(rt, hall, putter, back),
+    let mut band = band;
+    'tries: for _ in 0..TRIES {
+        match hall.mail.put(rt, putter, band) {
+            Ok(()) => return true,
+            Err(back) => band = back,
+        }
+        hint::spin_loop();
     }
+    let mut board = hall.board.lock(rt);
+    'waits: for _ in rt.forever() {
+        if board.is_stopped() {
+            return false;
+        }
+        match hall.mail.put(rt, putter, band) {
+            Ok(()) => return true,
+            Err(back) => band = back,
+        }
+        if hall.printer.want_one() {
+            hall.printer.wake_one();
+        }
+        board = hall.room.sleep(rt, board);
+    }
+    unreachable!()
 }

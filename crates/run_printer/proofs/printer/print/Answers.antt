@@ -7,8 +7,7 @@ use Rattle.run_printer.proofs.printer.print.Goals as goal
 
 pub returns-in-Err-clause-err : goal.returns-in-Err-clause-err
 returns-in-Err-clause-err g c =
-    rw c.stopped.ensures
-    (part-of_whole _ _ c.args.session.now _ c.shows.done (omega (arith, c.shows-test.true, c.frames-last.ensures.value)) c.shows.invariant.3)
+    part-of_whole _ _ c.args.session.now _ c.shows.done (omega (arith, c.shows-test.true, c.frames-last.ensures.value)) c.shows.invariant.3
 
 pub returns-in-Err-write_whole-clause-err : goal.returns-in-Err-write_whole-clause-err
 returns-in-Err-write_whole-clause-err g c =
@@ -16,11 +15,10 @@ returns-in-Err-write_whole-clause-err g c =
     let done = c.shows.done in
     let below : done < c.args.settings.frames = omega (arith, c.shows-test.true, c.frames-last.ensures.value) in
     let text : c.deref.result.now ≡ frame_text session (done + 1) = c.deref.ensures.value ∙ c.in-Ok.ensures.text ∙ ap (λ n. frame_text session (n + 1)) c.shows.invariant.2 in
-    rw c.stopped-in-Err-write_whole.ensures
-    (part-of_more _ _ _ session c.args.settings.frames done _ below (rw text at c.in-Err-write_whole.ensures.not_all) c.shows.invariant.3 (rw text at c.in-Err-write_whole.ensures.err))
+    part-of_more _ _ _ session c.args.settings.frames done _ below (rw text at c.in-Err-write_whole.ensures.not_all) c.shows.invariant.3 (rw text at c.in-Err-write_whole.ensures.err)
 
 pub returns-in-Err-flush-clause-err : goal.returns-in-Err-flush-clause-err
 returns-in-Err-flush-clause-err g c =
     let wrote : Appends (g.W.Write.contents c.args.out.now) (g.W.Write.contents c.shows.out) (texts c.args.session.now c.args.settings.frames) = search rules in
-    rw (c.stopped-in-Err-flush.ensures, c.frames-last.ensures.value)
+    rw c.frames-last.ensures.value
     (part-of_whole _ _ c.args.session.now c.args.settings.frames c.args.settings.frames (omega arith) (Appends-kept _ _ _ _ wrote c.in-Err-flush.ensures.bytes))

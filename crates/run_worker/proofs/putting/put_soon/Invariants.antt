@@ -1,7 +1,0 @@
-use Rattle.std.proofs.Common.{◌≡◌}
-use Rattle.band_mail.specs.Mails.{IsPutterOf}
-use Rattle.run_worker.proofs.putting.put_soon.Given as goal
-
--- a full queue takes nothing, and hands the band back
-abbrev pub invariant-tries : goal.invariant-tries
-invariant-tries g l = IsPutterOf l.hall.mail l.putter × (l.putter ≡ l.initial.putter) × (l.band ≡ l.initial.band)
