@@ -1,7 +1,8 @@
 // Logs that are completed.
 use anyhow::{Context, Result};
 use case_files::{Completion, Taker};
-use level_text::{Session, read_level, read_script};
+use game_session::Session;
+use level_text::{read_level, read_script};
 use replay_log::{complete, read_log, write_log};
 use std::alloc::Global;
 use std::fs;

@@ -3,7 +3,8 @@ ghost use Rattle.play_run.specs.Games.{spelled_game};
 ghost use Rattle.commands.specs.Faults.{IsSessionFault};
 
 use crate::faults::Fault;
-use level_text::{Session, read_level, read_script};
+use game_session::Session;
+use level_text::{read_level, read_script};
 use std::alloc::Global;
 
 /// The game that a level's and a script's bytes spell; the level is read before the script.

@@ -10,11 +10,11 @@ use Rattle.grid_world.proofs.cell.Answer.TheSendSync.{the_send as answer_send, t
 use Rattle.grid_world.proofs.cell.Intent.TheSendSync.{the_send as intent_send, the_sync as intent_sync}
 use Rattle.grid_world.proofs.place.Place.TheSendSync.{the_send as place_send, the_sync as place_sync}
 use Rattle.grid_world.proofs.signal.Signals.TheSendSync.{the_send as signals_send, the_sync as signals_sync}
-use Rattle.level_text.proofs.script.Script.TheSendSync.{the_send as script_send, the_sync as script_sync}
+use Rattle.game_session.proofs.script.Script.TheSendSync.{the_send as script_send, the_sync as script_sync}
 use Rattle.bt_tick.proofs.memory.Memory.TheSendSync.{the_send as memory_send, the_sync as memory_sync}
 use Rattle.frame_params.proofs.kept_memory.KeptMemory.TheSendSync.{the_send as kept_send, the_sync as kept_sync}
 use Rattle.grid_path.proofs.distances.Distances.TheSendSync.{the_send as distances_send, the_sync as distances_sync}
-use Rattle.level_text.specs.contracts.session.Session as Session
+use Rattle.game_session.specs.contracts.session.Session as Session
 use Rattle.std.specs.contracts.alloc.Global as Global
 use Rattle.std_heap.specs.contracts.GlobalAllocator.TheImpl.{ghosts}
 use Rattle.bt_tick.specs.contracts.tick.Pending as Pending

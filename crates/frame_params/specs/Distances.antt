@@ -2,7 +2,7 @@
 use Rattle.std.specs.Prelude.{ℕ, Bool, ◌≡◌, List, All, Option, Some, None, refl}
 use Rattle.std.specs.Coded.{Coded, code_by, coded×, coded_ℕ, coded_bool, coded_list}
 use Rattle.game_rules.specs.Game.{Game}
-use Rattle.level_text.specs.GameCode.{game_code}
+use Rattle.game_session.specs.GameCode.{game_code}
 
 -- the distances to a place on a game's ground while the doors of these signals are open
 pub record DistancesOf : Type 0 where

@@ -4,7 +4,7 @@ use Rattle.std.specs.Prelude.{ℕ, Bool, ◌≡◌, List, length, map, refl}
 use Rattle.std.specs.Coded.{Coded, code_by, coded×, coded_ℕ, coded_bool}
 use Rattle.grid_world.specs.Map.{count_up}
 use Rattle.game_rules.specs.Game.{Game}
-use Rattle.level_text.specs.GameCode.{game_code}
+use Rattle.game_session.specs.GameCode.{game_code}
 
 -- a frame of a game: what its jobs read, or what came of it
 pub record FrameOf : Type 0 where

@@ -1,7 +1,7 @@
 ghost use Rattle.std.specs.Prelude.{◌≡◌};
 
+use game_session::Session;
 use job_core::names::JobName;
-use level_text::Session;
 use std::marker::Model;
 
 /// Which band of a frame it is, without its rows. It takes no memory.

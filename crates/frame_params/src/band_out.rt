@@ -3,8 +3,8 @@ ghost use Rattle.frame_params.specs.Contents.{band_in};
 
 use crate::band_mark::BandMark;
 use draw_list::Band;
+use game_session::Session;
 use job_core::names::JobName;
-use level_text::Session;
 use std::marker::Model;
 
 /// A band of a frame, drawn.

@@ -6,8 +6,8 @@ use crate::kept_memory::KeptMemory;
 use crate::known::Known;
 use crate::turn::Turn;
 use bt_nodes::Status;
+use game_session::Session;
 use grid_world::{Intent, ResolveFault, Signals, World, resolve};
-use level_text::Session;
 use std::alloc::{AllocError, Global};
 use std::sync::Arc;
 

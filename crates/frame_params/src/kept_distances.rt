@@ -3,9 +3,9 @@ ghost use Rattle.grid_world.specs.Grid.{is_on_map, place_of};
 ghost use Rattle.grid_world.specs.Way.{way};
 ghost use Rattle.grid_world.specs.World.{point};
 
+use game_session::Session;
 use grid_path::{Distances, PathFault};
 use grid_world::{Answer, Place, Signals};
-use level_text::Session;
 use std::alloc::{AllocError, Allocator, Global};
 use std::marker::Model;
 use std::sync::Arc;

@@ -1,8 +1,8 @@
 ghost use Rattle.std.specs.Prelude.{◌≡◌, Contains, IfOk, IfSome};
 
 use crate::kept_distances::KeptDistances;
+use game_session::Session;
 use grid_world::{Place, Signals};
-use level_text::Session;
 use std::alloc::{AllocError, Global};
 use std::marker::Model;
 use std::sync::Arc;

@@ -2,8 +2,8 @@ ghost use Rattle.std.specs.Prelude.{◌≡◌, ◌<◌};
 ghost use Rattle.frame_params.specs.Contents.{questions_in};
 
 use bt_tick::Pending;
+use game_session::Session;
 use job_core::names::JobName;
-use level_text::Session;
 use std::alloc::Global;
 use std::marker::Model;
 use std::sync::Arc;

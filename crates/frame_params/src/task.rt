@@ -6,8 +6,8 @@ use crate::logic_task::LogicTask;
 use crate::path_task::PathTask;
 use crate::step::Step;
 use crate::think_task::ThinkTask;
+use game_session::Session;
 use job_core::names::JobName;
-use level_text::Session;
 use std::alloc::{AllocError, Allocator, Global};
 
 /// The work that a job stands at.

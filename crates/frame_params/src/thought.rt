@@ -5,9 +5,9 @@ ghost use Rattle.frame_params.specs.Contents.{thought_in, questions_in};
 
 use crate::kept_memory::KeptMemory;
 use bt_nodes::Status;
+use game_session::Session;
 use grid_world::Intent;
 use job_core::names::JobName;
-use level_text::Session;
 use std::marker::Model;
 
 /// What an agent thought in a frame: its tick's answer, its memory after it, and what it wants to do.

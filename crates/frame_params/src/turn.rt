@@ -5,9 +5,9 @@ use crate::kept_memory::KeptMemory;
 use crate::known::Known;
 use bt_nodes::Status;
 use draw_list::BAND_ROWS;
+use game_session::Session;
 use grid_world::World;
 use job_core::names::JobName;
-use level_text::Session;
 use std::marker::Model;
 use std::sync::Arc;
 

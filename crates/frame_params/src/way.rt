@@ -2,9 +2,9 @@ ghost use Rattle.std.specs.Prelude.{◌≡◌};
 ghost use Rattle.frame_params.specs.Contents.{way_in};
 
 use crate::kept_distances::KeptDistances;
+use game_session::Session;
 use grid_world::Answer;
 use job_core::names::JobName;
-use level_text::Session;
 use std::marker::Model;
 
 /// The answer to a path question of an agent in a frame.

@@ -5,7 +5,7 @@ ghost use Rattle.frame_print.specs.Tables.{with_place, LacksBand};
 
 use crate::run_band::RunBand;
 use draw_list::Band;
-use level_text::Session;
+use game_session::Session;
 use run_ledger::RunLedger;
 use std::alloc::{AllocError, Global};
 use std::marker::Model;

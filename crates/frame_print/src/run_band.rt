@@ -1,11 +1,11 @@
 ghost use Rattle.std.specs.Prelude.{◌≡◌, Some, IfSome, IfNone};
 ghost use Rattle.std.specs.Coded.{Coded-set, coded_option};
-ghost use Rattle.level_text.specs.GameCode.{game_code};
+ghost use Rattle.game_session.specs.GameCode.{game_code};
 ghost use Rattle.frame_params.specs.Contents.{band_in};
 
 use draw_list::Band;
 use frame_params::BandOut;
-use level_text::Session;
+use game_session::Session;
 use run_ledger::RunLedger;
 use std::marker::PhantomData;
 

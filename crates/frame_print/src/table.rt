@@ -8,7 +8,7 @@ use crate::frame_bands::FrameBands;
 use crate::run_band::RunBand;
 use draw_list::{Band, frame_text};
 use frame_params::Turn;
-use level_text::Session;
+use game_session::Session;
 use run_ledger::RunLedger;
 use std::alloc::{AllocError, Global};
 use std::marker::Model;

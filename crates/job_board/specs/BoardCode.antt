@@ -2,7 +2,7 @@
 use Rattle.std.specs.Prelude.{◌≡◌, ℕ, zero, suc, List, refl}
 use Rattle.std.specs.Coded.{Coded, code_by, coded×, coded_ℕ, coded_list}
 use Rattle.game_rules.specs.Game.{Game}
-use Rattle.level_text.specs.GameCode.{game_code}
+use Rattle.game_session.specs.GameCode.{game_code}
 use Rattle.job_core.specs.declared.names.JobName.{JobName}
 use Rattle.job_core.specs.declared.names.JobName.TheVariants.{Logic, Think, Path, Draw}
 use Rattle.job_core.specs.declared.names.Event.{Event}

@@ -2,7 +2,7 @@
 use Rattle.std.specs.Prelude.{◌≡◌, ◌<◌, ℕ, List, length, ◌⊎◌, Option, Some, None, slice_index_or, refl}
 use Rattle.std.specs.Coded.{Coded, code_by, coded×, coded_ℕ, coded_list, coded_option}
 use Rattle.game_rules.specs.Game.{Game}
-use Rattle.level_text.specs.GameCode.{game_code}
+use Rattle.game_session.specs.GameCode.{game_code}
 use Rattle.job_core.specs.declared.names.JobName.{JobName}
 use Rattle.job_core.specs.declared.names.JobName.TheVariants.{Logic, Think}
 use Rattle.job_core.specs.declared.names.Event.TheVariants.{Start, Resume}

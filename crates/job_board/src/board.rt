@@ -11,11 +11,11 @@ use super::refused::Refused;
 use super::run::Run;
 use super::works::Works;
 use frame_params::{Parked, Task};
+use game_session::Session;
 use job_core::names::Event;
 use job_log::BoardFault;
 use job_machine::{OutOfMemory, Settings};
 use job_shelf::{Done, Shown};
-use level_text::Session;
 use std::alloc::Global;
 use std::marker::Model;
 

@@ -6,9 +6,9 @@ ghost use Rattle.job_shelf.specs.Dones.{game_done, job_done};
 
 use bumpalo::Bump;
 use frame_params::{BoardStep, LogicStep, Parked, Task, ThinkStep};
+use game_session::Session;
 use job_core::names::JobName;
 use job_shelf::Done;
-use level_text::Session;
 use std::alloc::{AllocError, Global};
 use std::marker::Model;
 

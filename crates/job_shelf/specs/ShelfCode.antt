@@ -2,7 +2,7 @@
 use Rattle.std.specs.Prelude.{ℕ, Bool, List, Option, refl}
 use Rattle.std.specs.Coded.{Coded, code_by, coded×, coded_ℕ, coded_bool, coded_list, coded_option}
 use Rattle.game_rules.specs.Game.{Game}
-use Rattle.level_text.specs.GameCode.{game_code}
+use Rattle.game_session.specs.GameCode.{game_code}
 use Rattle.board_law.specs.Stored.{Part, Asked, Drawn, Stored, asked}
 use Rattle.job_shelf.specs.Shelf.{AskedOf, PartsOf, DrawnOf, Shelved}
 

@@ -4,7 +4,7 @@ ghost use Rattle.board_law.specs.Stored.{asked};
 ghost use Rattle.frame_params.specs.Names.{question_of};
 
 use frame_params::{Parked, Way};
-use level_text::Session;
+use game_session::Session;
 use std::marker::Model;
 
 /// The question at which an agent's thought stands in the frame under way, and the answer to it.

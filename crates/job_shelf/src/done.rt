@@ -1,8 +1,8 @@
 ghost use Rattle.std.specs.Prelude.{◌≡◌, true, false};
 
 use frame_params::{BandMark, BoardStep, LogicStep, ThinkStep, Thought, Turn, Way};
+use game_session::Session;
 use job_core::names::JobName;
-use level_text::Session;
 
 /// What the work of a job came to.
 #[derive(Drop)]

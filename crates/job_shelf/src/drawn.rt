@@ -4,7 +4,7 @@ ghost use Rattle.job_shelf.specs.Shelf.{part_name};
 
 use super::shown::Shown;
 use frame_params::{BandMark, DrawTask, Turn};
-use level_text::Session;
+use game_session::Session;
 use std::alloc::{AllocError, Global};
 use std::marker::Model;
 

@@ -19,8 +19,8 @@ use super::thoughts::Thoughts;
 use frame_params::{
     BandMark, FrameParams, LogicTask, Parked, PathTask, Slots, Task, ThinkTask, Turn, Way,
 };
+use game_session::Session;
 use job_core::names::JobName;
-use level_text::Session;
 use std::alloc::{AllocError, Global};
 use std::marker::Model;
 use std::mem;

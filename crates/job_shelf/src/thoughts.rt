@@ -3,7 +3,7 @@ ghost use Rattle.board_law.specs.Stored.{parts, put_in};
 ghost use Rattle.job_shelf.specs.Shelf.{part_name};
 
 use frame_params::{FrameParams, LogicTask, Thought};
-use level_text::Session;
+use game_session::Session;
 use std::alloc::{AllocError, Global};
 use std::marker::Model;
 

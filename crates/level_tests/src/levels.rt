@@ -1,4 +1,5 @@
-use level_text::{Level, level_of, read_level, write_level};
+use game_session::Level;
+use level_text::{level_of, read_level, write_level};
 use serde_json::Value;
 use std::alloc::Global;
 use std::process::Abort;

@@ -1,6 +1,7 @@
 use crate::sessions::session_of;
+use game_session::{Script, Session};
 use grid_world::{Signal, Signals};
-use level_text::{Script, Session, read_script};
+use level_text::read_script;
 use std::alloc::Global;
 use std::process::Abort;
 use std::test::Fail;

@@ -1,4 +1,5 @@
-use level_text::{Session, read_level, read_script};
+use game_session::Session;
+use level_text::{read_level, read_script};
 use std::alloc::Global;
 
 /// The session of a level and a script.

@@ -3,8 +3,8 @@ use Rattle.std.proofs.Common.{◌≡◌, ℕ, List, length, map, Bool, true, fal
 use Rattle.std.specs.Str.{chars}
 use Rattle.grid_world.specs.Grid.{Grid}
 use Rattle.grid_world.specs.Map.{grid_of}
-use Rattle.level_text.specs.Parts.{Parts, NamedPlain}
-use Rattle.level_text.specs.Faults.{row_fault, count_fault, agent_fault, place_fault, world_of, agent_count}
+use Rattle.game_session.specs.Parts.{Parts, NamedPlain}
+use Rattle.game_session.specs.Faults.{row_fault, count_fault, agent_fault, place_fault, world_of, agent_count}
 
 module _ (parts : Parts) where
   pub no_row_fault : (rows : List (List ℕ)) → rows ≡ parts.rows → row_fault rows ≡ None → row_fault parts.rows ≡ None

@@ -8,8 +8,9 @@ use Rattle.serde_json.specs.Written.{has_float, items_have_float, members_have_f
 use Rattle.bt_nodes.specs.Plain.{Plain}
 use Rattle.bt_nodes.specs.Sizes.{size, depth}
 use Rattle.bt_nodes.specs.Limits.{tree_fault}
-use Rattle.level_text.specs.Parts.{Parts, NamedPlain, texts_in, trees_in}
-use Rattle.level_text.specs.Faults.{limit_fault, parts_fault, bad_tree}
+use Rattle.game_session.specs.Parts.{Parts, NamedPlain}
+use Rattle.level_text.specs.Parts.{texts_in, trees_in}
+use Rattle.game_session.specs.Faults.{limit_fault, parts_fault, bad_tree}
 use Rattle.level_text.specs.Levels.{level_of, unless_fault}
 use Rattle.level_text.specs.Marks.{has_marks}
 use Rattle.level_text.specs.Written.{texts_data, trees_data, level_data}

@@ -1,4 +1,3 @@
-pub mod Rising
 pub mod FirstLines
 pub mod FrameNumbers
 pub mod ThreeWords
@@ -14,7 +13,6 @@ pub mod TreesWithin
 pub mod PartsRead
 pub mod NameOrder
 pub mod FaultOrder
-pub mod AgentTrees
 pub mod RowFaults
 pub mod Picks
 pub mod JsonBytes

@@ -7,8 +7,9 @@ use Rattle.serde_json.specs.View.{view, members_view}
 use Rattle.serde_json.proofs.Views.{Entry}
 use Rattle.bt_nodes.specs.Plain.{Plain}
 use Rattle.level_text.specs.Nodes.{node_of}
-use Rattle.level_text.specs.Parts.{NamedPlain, named, trees_in}
-use Rattle.level_text.specs.Names.{is_before, is_in_order, names_of}
+use Rattle.game_session.specs.Parts.{NamedPlain, named}
+use Rattle.level_text.specs.Parts.{trees_in}
+use Rattle.game_session.specs.Names.{is_before, is_in_order, names_of}
 use Rattle.level_text.specs.Drafts.{node_view}
 use Rattle.level_text.specs.declared.draft.NamedNode.{NamedNode}
 

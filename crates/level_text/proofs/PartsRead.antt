@@ -3,7 +3,8 @@ use Rattle.std.proofs.Common.{◌≡◌, ℕ, List, true, Some, option_map, code
 use Rattle.serde_json.specs.Data.{Data}
 use Rattle.serde_json.specs.Find.{get, as_object}
 use Rattle.serde_json.specs.Events.{members_len}
-use Rattle.level_text.specs.Parts.{NamedPlain, texts_of, trees_of, has_three, parts_of}
+use Rattle.game_session.specs.Parts.{NamedPlain}
+use Rattle.level_text.specs.Parts.{texts_of, trees_of, has_three, parts_of}
 
 pub parts_found : (d a b c : Data) (r n : List (List ℕ)) (t : List NamedPlain) → has_three (option_map members_len (as_object d)) ≡ true
     → Some a ≡ get (codes "map") d → Some r ≡ texts_of a → Some b ≡ get (codes "agents") d → Some n ≡ texts_of b → Some c ≡ get (codes "trees") d → Some t ≡ trees_of c

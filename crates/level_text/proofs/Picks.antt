@@ -2,10 +2,10 @@
 use Rattle.std.proofs.Common.{◌≡◌, ℕ, suc, ◌+◌, ◌<◌, List, [], ◌∷◌, ◌++◌, length, get_or, drop, map, Bool, true, false, not, is_some, cond, ltb, Option, Some, None, position, String, Global, string_bytes, bytes_eq, append_assoc, add-one, refl, sym, ap, ◌∙◌}
 use Rattle.std.proofs.lemmas.List.{drop_more, length-map}
 use Rattle.std.specs.List.{position_or_len}
-use Rattle.level_text.specs.Parts.{NamedPlain}
-use Rattle.level_text.specs.Faults.{Fault, is_named, agent_fault, no_tree}
-use Rattle.level_text.specs.Kept.{tree_view, trees_view, texts_view, index_of}
-use Rattle.level_text.specs.declared.named_tree.NamedTree.{NamedTree}
+use Rattle.game_session.specs.Parts.{NamedPlain}
+use Rattle.game_session.specs.Faults.{Fault, is_named, agent_fault, no_tree}
+use Rattle.game_session.specs.Kept.{tree_view, trees_view, texts_view, index_of}
+use Rattle.game_session.specs.declared.named_tree.NamedTree.{NamedTree}
 
 same_place : (n : ℕ) (b : Bool) (i : ℕ) → Some i ≡ cond b (Some n) None → n ≡ i
 same_place n true i h = cc

@@ -5,8 +5,8 @@ use Rattle.std.proofs.lemmas.Grind.{common_steps}
 use Rattle.game_rules.specs.declared.change.Change.{Change}
 use Rattle.level_text.specs.declared.script_file.ScriptFault.{ScriptFault}
 use Rattle.level_text.specs.declared.script_file.ScriptFault.TheVariants.{Line, Order}
-use Rattle.level_text.specs.Changes.{last_frame}
-use Rattle.level_text.proofs.Rising.{last_frame-at}
+use Rattle.game_session.specs.Changes.{last_frame}
+use Rattle.game_session.proofs.Rising.{last_frame-at}
 use Rattle.level_text.specs.Scripts.{lines_of, change_of, fault_from, script_fault, unless_fault, script_of}
 
 -- the faults and the changes of the bytes that are left

@@ -4,8 +4,8 @@ use Rattle.std.specs.Str.{chars}
 use Rattle.grid_world.specs.MapFaults.{map_fault, rows_of}
 use Rattle.grid_world.specs.declared.fault.MapFault.{MapFault}
 use Rattle.grid_world.specs.declared.fault.MapFault.TheVariants.{OutOfMemory}
-use Rattle.level_text.specs.Faults.{Fault, fault_of_map, row_fault}
-use Rattle.level_text.specs.Kept.{texts_view}
+use Rattle.game_session.specs.Faults.{Fault, fault_of_map, row_fault}
+use Rattle.game_session.specs.Kept.{texts_view}
 
 pub rows_of-texts : (texts : List (String Global)) → rows_of texts ≡ map chars (texts_view texts)
 rows_of-texts [] = refl

@@ -5,7 +5,8 @@ use Rattle.serde_json.specs.View.{view, members_view}
 use Rattle.serde_json.proofs.Views.{Entry}
 use Rattle.bt_nodes.specs.Plain.{plain}
 use Rattle.level_text.specs.Nodes.{node_of}
-use Rattle.level_text.specs.Parts.{NamedPlain, trees_in}
+use Rattle.game_session.specs.Parts.{NamedPlain}
+use Rattle.level_text.specs.Parts.{trees_in}
 use Rattle.level_text.specs.Drafts.{node_view}
 use Rattle.level_text.specs.declared.draft.NamedNode.{NamedNode}
 

@@ -2,13 +2,13 @@
 use Rattle.std.proofs.Common.{◌≡◌, List, [], ◌∷◌, ◌++◌, Option, Some, None, append_assoc, refl, ap, ◌∙◌}
 use Rattle.std.proofs.lemmas.List.{map-append}
 use Rattle.std.specs.Option.{option_or}
-use Rattle.level_text.specs.Parts.{NamedPlain}
-use Rattle.level_text.specs.Faults.{Fault, limit_fault}
-use Rattle.level_text.specs.Kept.{tree_view, trees_view}
+use Rattle.game_session.specs.Parts.{NamedPlain}
+use Rattle.game_session.specs.Faults.{Fault, limit_fault}
+use Rattle.game_session.specs.Kept.{tree_view, trees_view}
 use Rattle.level_text.specs.Levels.{fault_view, NamesFirst, IsFirstOf}
 use Rattle.level_text.specs.TreeFaults.{own_fault}
 use Rattle.level_text.specs.declared.level_fault.LevelFault.{LevelFault}
-use Rattle.level_text.specs.declared.named_tree.NamedTree.{NamedTree}
+use Rattle.game_session.specs.declared.named_tree.NamedTree.{NamedTree}
 
 -- a tree has no fault of its own, so the first fault is that of a later one
 pub fault_is_later : (t : NamedPlain) (ts : List NamedPlain) → own_fault t ≡ None → limit_fault (t ∷ ts) ≡ limit_fault ts

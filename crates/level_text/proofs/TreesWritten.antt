@@ -6,11 +6,11 @@ use Rattle.std.specs.Cmp.Lexicographic.{slice_cmp}
 use Rattle.std.specs.List.{list_all}
 use Rattle.std.specs.Ordering.{nat_cmp, is_lt, ordering_reverse}
 use Rattle.serde_json.specs.Data.{put, member}
-use Rattle.level_text.specs.Parts.{NamedPlain}
-use Rattle.level_text.specs.Kept.{tree_view, trees_view}
-use Rattle.level_text.specs.Names.{is_before, is_in_order, names_of}
+use Rattle.game_session.specs.Parts.{NamedPlain}
+use Rattle.game_session.specs.Kept.{tree_view, trees_view}
+use Rattle.game_session.specs.Names.{is_before, is_in_order, names_of}
 use Rattle.level_text.specs.Written.{node_data, trees_data}
-use Rattle.level_text.specs.declared.named_tree.NamedTree.{NamedTree}
+use Rattle.game_session.specs.declared.named_tree.NamedTree.{NamedTree}
 use Rattle.level_text.proofs.NodesSpelled.{both}
 use Rattle.level_text.proofs.WrittenSteps.{drop-read}
 

@@ -1,7 +1,7 @@
 -- Parts that were read, without where they lie in memory.
 use Rattle.std.specs.Prelude.{map, string_bytes}
 use Rattle.bt_nodes.specs.Plain.{plain}
-use Rattle.level_text.specs.Parts.{NamedPlain, Parts, named}
+use Rattle.game_session.specs.Parts.{NamedPlain, Parts, named}
 use Rattle.level_text.specs.declared.draft.NamedNode.{NamedNode}
 use Rattle.level_text.specs.declared.draft.Draft.{Draft}
 

@@ -1,13 +1,11 @@
--- What a level stands for, and what bytes spell.
-use Rattle.std.specs.Prelude.{ℕ, List, map, find, if◌then◌else◌, Option, Some, None, option_map, Result, Ok, Err, string_bytes, unwrap_or, ◌≡◌}
+-- The level that bytes spell, and their first fault.
+use Rattle.std.specs.Prelude.{ℕ, List, if◌then◌else◌, Option, Some, None, Result, Ok, Err, string_bytes, ◌≡◌}
 use Rattle.std.specs.Str.{is_utf8}
 use Rattle.serde_json.specs.Data.{Data}
 use Rattle.serde_json.specs.Read.{read}
-use Rattle.bt_nodes.specs.Plain.{Plain, Does, Carries}
-use Rattle.level_text.specs.Parts.{Parts, NamedPlain, parts_of}
-use Rattle.level_text.specs.Faults.{parts_fault, is_named, Fault, json, shape, map_size, map_char, letters, agent_count, bad_tree, no_tree, no_place}
-use Rattle.level_text.specs.Kept.{kept}
-use Rattle.level_text.specs.declared.level.Level.{Level}
+use Rattle.game_session.specs.Parts.{Parts}
+use Rattle.game_session.specs.Faults.{parts_fault, Fault, json, shape, map_size, map_char, letters, agent_count, bad_tree, no_tree, no_place}
+use Rattle.level_text.specs.Parts.{parts_of}
 use Rattle.level_text.specs.declared.level_fault.LevelFault.{LevelFault}
 use Rattle.level_text.specs.declared.level_fault.LevelFault.TheVariants.{OutOfMemory, Json, Shape, MapSize, MapChar, Letters, AgentCount, BadTree, NoTree, NoPlace}
 
@@ -37,20 +35,6 @@ of_json (Some d) = level_of d
 -- the level that bytes spell, or their first fault
 abbrev pub spelled : List ℕ → Result Parts Fault
 spelled bytes = of_json (json_of bytes)
-
--- ---- levels
-
--- a level without where it lies in memory
-abbrev pub value_of : Level → Parts
-value_of level = kept level.rows.items level.names.items level.trees.items
-
--- the tree of a name; in a level there is one for each agent's name
-abbrev pub tree_named : List NamedPlain → List ℕ → Plain
-tree_named trees name = unwrap_or (option_map (λ t. t.tree) (find (is_named name) trees)) (Does Carries)
-
--- the tree of each agent
-abbrev pub agent_trees : Parts → List Plain
-agent_trees parts = map (tree_named parts.trees) parts.names
 
 -- ---- faults
 

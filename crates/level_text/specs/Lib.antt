@@ -1,17 +1,9 @@
-pub mod Changes
 pub mod Scripts
 pub mod Nodes
 pub mod Inner
 pub mod Parts
-pub mod Names
 pub mod Drafts
-pub mod PlainCode
-pub mod GameCode
-pub mod Places
-pub mod Faults
 pub mod TreeFaults
-pub mod Kept
 pub mod Levels
 pub mod Written
 pub mod Marks
-pub mod Sessions

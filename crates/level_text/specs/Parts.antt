@@ -1,21 +1,10 @@
--- The parts of a level file, before any fault but its shape is looked at.
+-- The parts of a level that a JSON value spells.
 use Rattle.std.specs.Prelude.{ℕ, List, [], ◌∷◌, codes, ◌==◌, Bool, false, if◌then◌else◌, Option, Some, None, option_map, option_and_then}
 use Rattle.serde_json.specs.Data.{Data, Items, no_items, item, Members, no_members, member}
 use Rattle.serde_json.specs.Find.{get, as_str, as_array, as_object}
 use Rattle.serde_json.specs.Events.{members_len}
-use Rattle.bt_nodes.specs.Plain.{Plain}
+use Rattle.game_session.specs.Parts.{Parts, NamedPlain, named}
 use Rattle.level_text.specs.Nodes.{node_of}
-
--- a tree and its name, the bytes of a text
-pub record NamedPlain : Type 0 where
-  pub name : List ℕ
-  pub tree : Plain
-
--- the rows of the map from the top, the tree name of agent A, B, .., and the trees
-pub record Parts : Type 0 where
-  pub rows : List (List ℕ)
-  pub names : List (List ℕ)
-  pub trees : List NamedPlain
 
 abbrev pub texts_in : Items → Option (List (List ℕ))
 texts_in no_items = Some []
@@ -24,9 +13,6 @@ texts_in (item d ds) = option_and_then (λ s. option_map (λ ss. s ∷ ss) (text
 -- a list of texts
 abbrev pub texts_of : Data → Option (List (List ℕ))
 texts_of d = option_and_then texts_in (as_array d)
-
-abbrev pub named : List ℕ → Plain → NamedPlain
-named name p = record { name = name; tree = p }
 
 abbrev pub trees_in : Members → Option (List NamedPlain)
 trees_in no_members = Some []

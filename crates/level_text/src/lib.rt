@@ -4,23 +4,16 @@
 mod draft;
 mod inner;
 mod leaves;
-mod level;
 mod level_fault;
-mod named_tree;
 mod nodes;
 mod parts;
 mod placed;
 mod read;
-mod script;
 mod script_file;
-mod session;
 mod write;
 mod write_nodes;
 
-pub use level::Level;
 pub use level_fault::LevelFault;
 pub use read::{level_of, read_level};
-pub use script::Script;
 pub use script_file::{ScriptFault, read_script};
-pub use session::Session;
 pub use write::write_level;

@@ -4,7 +4,7 @@ ghost use Rattle.serde_json.specs.View.{view};
 ghost use Rattle.serde_json.specs.Find.{as_object};
 ghost use Rattle.serde_json.specs.Events.{members_len};
 ghost use Rattle.level_text.specs.Drafts.{parts_view, node_view};
-ghost use Rattle.level_text.specs.Names.{is_in_order, names_of};
+ghost use Rattle.game_session.specs.Names.{is_in_order, names_of};
 ghost use Rattle.level_text.specs.Parts.{texts_of as spelled_texts, trees_of as spelled_trees, parts_of as spelled_parts, has_three};
 
 use crate::draft::{Draft, NamedNode};

@@ -2,7 +2,7 @@
 ghost use Rattle.std.specs.Prelude.{◌≡◌};
 ghost use Rattle.std.specs.List.{list_all};
 ghost use Rattle.bt_nodes.specs.Plain.{plain, plains};
-ghost use Rattle.level_text.specs.Places.{places, places_in, has_place, has_place as is_on_map};
+ghost use Rattle.game_session.specs.Places.{places, places_in, has_place, has_place as is_on_map};
 
 use bt_nodes::Node;
 use grid_world::{Place, World};

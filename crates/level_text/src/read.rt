@@ -4,20 +4,20 @@ ghost use Rattle.serde_json.specs.View.{view};
 ghost use Rattle.grid_world.specs.Map.{grid_of};
 ghost use Rattle.std.specs.Str.{chars, bytes_eq};
 ghost use Rattle.level_text.specs.Drafts.{parts_view, node_view};
-ghost use Rattle.level_text.specs.Names.{is_in_order, names_of};
-ghost use Rattle.level_text.specs.Faults.{row_fault, limit_fault, agent_fault, place_fault, no_place};
+ghost use Rattle.game_session.specs.Names.{is_in_order, names_of};
+ghost use Rattle.game_session.specs.Faults.{row_fault, limit_fault, agent_fault, place_fault, no_place};
 ghost use Rattle.level_text.specs.TreeFaults.{own_fault};
-ghost use Rattle.level_text.specs.Kept.{tree_view, trees_view, texts_view, index_of as spelled_index};
-ghost use Rattle.level_text.specs.Levels.{value_of, of_parts, spelled, level_of as spelled_level, IsFaultOf, IsFirstOf};
-ghost use Rattle.level_text.specs.declared.named_tree.NamedTree.{NamedTree};
+ghost use Rattle.game_session.specs.Kept.{tree_view, trees_view, texts_view, index_of as spelled_index};
+ghost use Rattle.game_session.specs.Levels.{value_of};
+ghost use Rattle.level_text.specs.Levels.{of_parts, spelled, level_of as spelled_level, IsFaultOf, IsFirstOf};
+ghost use Rattle.game_session.specs.declared.named_tree.NamedTree.{NamedTree};
 
 use crate::draft::{Draft, NamedNode};
-use crate::level::Level;
 use crate::level_fault::LevelFault;
-use crate::named_tree::NamedTree;
 use crate::parts::parts_of;
 use crate::placed::is_placed;
 use bt_nodes::Tree;
+use game_session::{Level, NamedTree};
 use grid_world::{MapFault, World};
 use serde_json::Value;
 use std::alloc::Global;
@@ -138,13 +138,7 @@ fn level_from(alloc: Global, draft: Draft) -> Result<Level, LevelFault>
             name: trees.remove(i).name,
         });
     }
-    Ok(Level {
-        rows: draft.rows,
-        names: draft.names,
-        trees,
-        world,
-        picks,
-    })
+    Ok(Level::new(draft.rows, draft.names, trees, world, picks))
 }
 
 /// The level that a value spells, or the first fault of it, which is never `Json`.

@@ -1,8 +1,8 @@
 ghost use Rattle.std.specs.Prelude.{◌≡◌, ◌==◌, ◌+◌, ◌<◌, [], ◌∷◌, ◌++◌, length, All, IfOk, IfErr, IfSome, IfNone, ◌⊎◌, Ok, Err, false};
 ghost use Rattle.level_text.specs.Scripts.{lines_of, frame_of, switch_of, letter_of, change_of, script_of};
 
-use crate::script::Script;
 use game_rules::Change;
+use game_session::Script;
 use grid_world::Signal;
 use std::alloc::{AllocError, Global};
 

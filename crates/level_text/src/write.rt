@@ -3,15 +3,15 @@ ghost use Rattle.std.specs.Prelude.{◌≡◌, Ok, IfOk, OnOk, IsTrue};
 ghost use Rattle.std.specs.List.{list_all};
 ghost use Rattle.serde_json.specs.Data.{array, object};
 ghost use Rattle.serde_json.specs.View.{view};
-ghost use Rattle.level_text.specs.Kept.{texts_view, trees_view};
-ghost use Rattle.level_text.specs.Levels.{value_of as value_kept, spelled};
+ghost use Rattle.game_session.specs.Kept.{texts_view, trees_view};
+ghost use Rattle.game_session.specs.Levels.{value_of as value_kept};
+ghost use Rattle.level_text.specs.Levels.{spelled};
 ghost use Rattle.level_text.specs.Marks.{has_marks};
-ghost use Rattle.level_text.specs.Names.{is_in_order, names_of};
+ghost use Rattle.game_session.specs.Names.{is_in_order, names_of};
 ghost use Rattle.level_text.specs.Written.{texts_data, trees_data, level_data, level_text};
 
-use crate::level::Level;
-use crate::named_tree::NamedTree;
 use crate::write_nodes::value_of;
+use game_session::{Level, NamedTree};
 use serde_json::{Map, Value, json};
 use std::alloc::{AllocError, Global};
 
@@ -41,9 +41,9 @@ fn level_value(alloc: Global, level: &Level) -> Result<Value, AllocError>
     ensures value { IfOk result (λ v. view v ≡ level_data (value_kept level.now)) }
     ensures marks { OnOk result (IsTrue (list_all (λ t. has_marks t.tree) (value_kept level.now).trees)) }
 {
-    let agents = texts_value(alloc, &level.names)?;
-    let map = texts_value(alloc, &level.rows)?;
-    let trees = trees_value(alloc, &level.trees)?;
+    let agents = texts_value(alloc, level.names())?;
+    let map = texts_value(alloc, level.rows())?;
+    let trees = trees_value(alloc, level.named_trees())?;
     json!(in alloc; {"agents": agents, "map": map, "trees": trees})
 }
 

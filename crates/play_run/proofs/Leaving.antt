@@ -20,7 +20,7 @@ use Rattle.band_mail.specs.contracts.putter.Putter as putter
 use Rattle.frame_params.proofs.Crossing as params
 use Rattle.frame_print.specs.contracts.run_band.RunBand as run_band
 use Rattle.frame_print.proofs.Crossing as prints
-use Rattle.level_text.specs.contracts.session.Session as session
+use Rattle.game_session.specs.contracts.session.Session as session
 use Rattle.run_hall.specs.contracts.hall.Hall as hall
 use Rattle.run_hall.proofs.Sends.{hall_sync}
 use Rattle.run_worker.specs.contracts.worker.Worked as worked

@@ -6,10 +6,10 @@ use Rattle.job_machine.specs.Numbers.{Numbers}
 use Rattle.play_run.specs.Plays.{IsPlayed}
 use Rattle.run_report.specs.declared.report.RunReport.{RunReport}
 use Rattle.game_rules.specs.declared.change.Change.{Change}
-use Rattle.level_text.specs.Parts.{Parts}
+use Rattle.game_session.specs.Parts.{Parts}
 use Rattle.level_text.specs.Levels.{spelled}
 use Rattle.level_text.specs.Scripts.{script_of}
-use Rattle.level_text.specs.Sessions.{game_of}
+use Rattle.game_session.specs.Sessions.{game_of}
 use Rattle.play_run.specs.Games.{spelled_game}
 
 pub both_spelled : (level script : List ℕ) (parts : Parts) (changes : List Change) → spelled level ≡ Ok parts → script_of script ≡ Ok changes → spelled_game level script ≡ Some (game_of parts changes)

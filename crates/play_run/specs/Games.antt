@@ -2,11 +2,11 @@
 use Rattle.std.specs.Prelude.{ℕ, List, Option, Some, None, Result, Ok, Err}
 use Rattle.game_rules.specs.declared.change.Change.{Change}
 use Rattle.game_rules.specs.Game.{Game}
-use Rattle.level_text.specs.Parts.{Parts}
-use Rattle.level_text.specs.Faults.{Fault}
+use Rattle.game_session.specs.Parts.{Parts}
+use Rattle.game_session.specs.Faults.{Fault}
 use Rattle.level_text.specs.Levels.{spelled}
 use Rattle.level_text.specs.Scripts.{script_of}
-use Rattle.level_text.specs.Sessions.{game_of}
+use Rattle.game_session.specs.Sessions.{game_of}
 use Rattle.level_text.specs.declared.script_file.ScriptFault.{ScriptFault}
 
 abbrev pub of_both : Result Parts Fault → Result (List Change) ScriptFault → Option Game

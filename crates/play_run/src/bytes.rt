@@ -4,8 +4,9 @@ ghost use Rattle.play_run.specs.Plays.{IsPlayed, IsPlayFault};
 
 use crate::fault::PlayFault;
 use crate::whole_run::run;
+use game_session::Session;
 use job_board::Settings;
-use level_text::{Session, read_level, read_script};
+use level_text::{read_level, read_script};
 use run_report::RunReport;
 use run_worker::Gate;
 use std::alloc::Global;

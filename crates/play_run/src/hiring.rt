@@ -4,7 +4,7 @@ ghost use Rattle.band_mail.specs.Mails.{IsPutterOf, ArePuttersOf};
 use crate::seats::{Seat, SeatOf};
 use band_mail::{BandMail, Putter};
 use frame_print::RunBand;
-use level_text::Session;
+use game_session::Session;
 use run_fault::Cause;
 use run_hall::Hall;
 use run_ledger::RunLedger;

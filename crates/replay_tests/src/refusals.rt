@@ -4,8 +4,8 @@
 use crate::sessions::session_of;
 use bumpalo::Bump;
 use frame_params::{BoardStep, LogicStep, Parked, Step, Task, ThinkStep};
+use game_session::Session;
 use job_board::{Board, BoardFault, Done, Refused, Settings};
-use level_text::Session;
 use replay_log::replay;
 use std::alloc::Global;
 

@@ -1,5 +1,6 @@
 //! The sessions that the tests play.
-use level_text::{Session, read_level, read_script};
+use game_session::Session;
+use level_text::{read_level, read_script};
 use std::alloc::Global;
 
 /// The session of a level and a script.

@@ -2,8 +2,8 @@ ghost use Rattle.std.specs.Prelude.{◌≡◌, ◌+◌, ◌<◌, IfOk, OnOk, Som
 ghost use Rattle.game_rules.specs.Text.{frame_text};
 
 use crate::inbox::Inbox;
+use game_session::Session;
 use job_board::{BoardFault, Settings, Shown};
-use level_text::Session;
 use run_fault::Cause;
 use run_hall::{Hall, Rest};
 use run_ledger::RunLedger;

@@ -4,8 +4,8 @@ ghost use Rattle.shared_board.specs.Counts.{names, names_worker, steps_of};
 ghost use Rattle.shared_board.specs.Runs.{setup_for};
 ghost use Rattle.run_report.specs.Reports.{AreStepsOf};
 
+use game_session::Session;
 use job_board::{Event, Settings};
-use level_text::Session;
 use run_fault::{Cause, RunFault};
 use run_ledger::RunLedger;
 use shared_board::SharedBoard;

@@ -1,6 +1,6 @@
 ghost use Rattle.std.specs.Prelude.{◌≡◌, ◌+◌, ◌<◌, ◌≤◌, ◌⊎◌, MatchResult, MatchOption, IfOk, IfSome, count_by, [], Some};
 ghost use Rattle.std.specs.Coded.{Coded-set, coded_option};
-ghost use Rattle.level_text.specs.GameCode.{game_code};
+ghost use Rattle.game_session.specs.GameCode.{game_code};
 ghost use Rattle.job_core.specs.Core.{IsComplete};
 ghost use Rattle.frame_params.specs.Tasks.{game_of};
 ghost use Rattle.frame_params.specs.BoardSteps.{IsToldIn};
@@ -9,8 +9,8 @@ ghost use Rattle.shared_board.specs.Runs.{setup_for};
 
 use crate::handing::hand_in;
 use frame_params::{BoardStep, Task};
+use game_session::Session;
 use job_board::{Board, BoardFault, Event, Settings, Shown};
-use level_text::Session;
 use run_ledger::RunLedger;
 use std::sync::ledger::{Book, Ledger, Share};
 

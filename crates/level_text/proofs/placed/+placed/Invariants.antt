@@ -1,7 +1,7 @@
 use Rattle.std.proofs.Common.{◌≡◌, drop}
 use Rattle.std.specs.List.{list_all}
 use Rattle.bt_nodes.specs.Plain.{plains}
-use Rattle.level_text.specs.Places.{places_in, has_place}
+use Rattle.game_session.specs.Places.{places_in, has_place}
 use Rattle.level_text.proofs.placed.+placed.Given as goal
 
 abbrev pub invariant-are_placed-nodes : goal.invariant-are_placed-nodes

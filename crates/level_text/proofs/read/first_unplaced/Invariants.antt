@@ -1,6 +1,6 @@
 use Rattle.std.proofs.Common.{◌≡◌, drop}
-use Rattle.level_text.specs.Faults.{place_fault}
-use Rattle.level_text.specs.Kept.{trees_view}
+use Rattle.game_session.specs.Faults.{place_fault}
+use Rattle.game_session.specs.Kept.{trees_view}
 use Rattle.level_text.proofs.read.first_unplaced.Given as goal
 
 abbrev pub invariant-trees : goal.invariant-trees

@@ -1,13 +1,13 @@
-use Rattle.std.proofs.Common.{◌≡◌, ◌∙◌, ap, sym, subst, get_or, map, None, Some, string_bytes}
+use Rattle.std.proofs.Common.{◌≡◌, ◌∙◌, ap, sym, subst, get_or, None, Some, string_bytes}
 use Rattle.level_text.specs.Drafts.{parts_view}
-use Rattle.level_text.specs.Parts.{Parts}
-use Rattle.level_text.specs.Names.{is_in_order, names_of}
-use Rattle.level_text.specs.Faults.{row_fault, agent_fault, place_fault, count_fault, parts_fault, world_of, no_place}
-use Rattle.level_text.specs.Kept.{texts_view, trees_view, index_of}
+use Rattle.game_session.specs.Parts.{Parts}
+use Rattle.game_session.specs.Faults.{row_fault, agent_fault, place_fault, count_fault, parts_fault, world_of, no_place}
+use Rattle.game_session.specs.Kept.{texts_view, trees_view}
 use Rattle.level_text.specs.Levels.{IsFirstOf}
-use Rattle.level_text.specs.declared.named_tree.NamedTree.{NamedTree}
+use Rattle.game_session.specs.declared.named_tree.NamedTree.{NamedTree}
 use Rattle.level_text.proofs.Drafted.{no_row_fault, world_is, count_is, no_count_fault, agent_fault-same, place_fault-same}
-use Rattle.level_text.proofs.FaultOrder.{at_agents, at_places, faultless_is}
+use Rattle.game_session.proofs.Faultless.{faultless_is}
+use Rattle.level_text.proofs.FaultOrder.{at_agents, at_places}
 use Rattle.level_text.proofs.read.level_from.Goals as goal
 
 pub returns-in-Err-picks_of-clause-err : goal.returns-in-Err-picks_of-clause-err
@@ -38,8 +38,8 @@ returns-in-Some-clause-err c =
     ∙ ap (λ (t : NamedTree). Some (no_place (string_bytes t.name))) (ap (λ ts. get_or ts c.in-Some.i r) c.deref-5.ensures.value ∙ sym c.remove.ensures.value) in
     at_places parts (string_bytes r.name) rows count c.in-Ok-trees_within.ensures.ok.0 agents places
 
-pub invariant_of-result : goal.invariant_of-result
-invariant_of-result c =
+pub new-requires-clause-faultless : goal.new-requires-clause-faultless
+new-requires-clause-faultless c =
     let parts : Parts = parts_view c.args.draft in
     let same_rows = ap texts_view c.deref.ensures.value in
     let rows : row_fault parts.rows ≡ None = no_row_fault parts _ same_rows c.in-Ok.ensures.ok.0 in
@@ -51,11 +51,5 @@ invariant_of-result c =
     let same_trees : trees_view c.in-Ok-trees_within.trees.items ≡ parts.trees = c.in-Ok-trees_within.ensures.ok.1 in
     let places : place_fault (world_of parts) parts.trees ≡ None =
     sym (place_fault-same parts _ _ world (ap trees_view c.deref-5.ensures.value ∙ same_trees)) ∙ c.in_default.ensures.none in
-    record {
-      faultless = ap (λ ts. parts_fault (record { rows = parts.rows; names = parts.names; trees = ts })) same_trees
-          ∙ faultless_is parts (record { rows = rows; count = count; limits = c.in-Ok-trees_within.ensures.ok.0; agents = agents; places = places });
-      ordered = ap (λ ts. is_in_order (names_of ts)) same_trees ∙ c.requires;
-      built = world;
-      picked = c.in-Ok-picks_of.ensures.ok.1 ∙ ap (λ ts. map (index_of ts) (texts_view c.deref-3.result.now)) (ap trees_view c.deref-4.ensures.value)
-          ∙ ap (λ ns. map (index_of (trees_view c.in-Ok-trees_within.trees.items)) ns) (ap texts_view c.deref-3.ensures.value);
-    }
+    ap (λ ts. parts_fault (record { rows = parts.rows; names = parts.names; trees = ts })) same_trees
+    ∙ faultless_is parts (record { rows = rows; count = count; limits = c.in-Ok-trees_within.ensures.ok.0; agents = agents; places = places })

@@ -1,5 +1,5 @@
 use Rattle.std.proofs.Common.{◌∙◌, ap, ◌++◌, map, drop, ◌+◌, string_bytes, String, Global}
-use Rattle.level_text.specs.Kept.{trees_view, texts_view, index_of}
+use Rattle.game_session.specs.Kept.{trees_view, texts_view, index_of}
 use Rattle.level_text.proofs.Picks.{pick_more, pick_missing, position-trees_view}
 use Rattle.level_text.proofs.read.picks_of.Goals as goal
 

@@ -1,6 +1,6 @@
 use Rattle.std.proofs.Common.{◌≡◌, ◌++◌, map, drop}
-use Rattle.level_text.specs.Faults.{agent_fault}
-use Rattle.level_text.specs.Kept.{trees_view, texts_view, index_of}
+use Rattle.game_session.specs.Faults.{agent_fault}
+use Rattle.game_session.specs.Kept.{trees_view, texts_view, index_of}
 use Rattle.level_text.proofs.read.picks_of.Given as goal
 
 abbrev pub invariant-names : goal.invariant-names

@@ -1,6 +1,7 @@
 use Rattle.std.proofs.Common.{◌≡◌, ap, sym, subst, IsTrue, true≢false, Ok, IfOk, IfErr}
 use Rattle.serde_json.specs.View.{view}
-use Rattle.level_text.specs.Levels.{of_json, value_of, IsFaultOf}
+use Rattle.game_session.specs.Levels.{value_of}
+use Rattle.level_text.specs.Levels.{of_json, IsFaultOf}
 use Rattle.level_text.proofs.JsonBytes.{json_is, no_json}
 use Rattle.level_text.proofs.read.read_level.Goals as goal
 

@@ -1,7 +1,7 @@
 use Rattle.std.proofs.Common.{◌∙◌, ap, sym, map, ◌++◌, subst, rules}
 use Rattle.level_text.specs.Drafts.{node_view}
-use Rattle.level_text.specs.Faults.{limit_fault}
-use Rattle.level_text.specs.Kept.{trees_view}
+use Rattle.game_session.specs.Faults.{limit_fault}
+use Rattle.game_session.specs.Kept.{trees_view}
 use Rattle.level_text.specs.Levels.{IsFirstOf}
 use Rattle.level_text.proofs.TreesWithin.{fault_is_later, fault_is_first, one_more}
 use Rattle.level_text.proofs.read.trees_within.Goals as goal

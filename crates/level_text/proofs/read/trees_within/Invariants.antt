@@ -1,7 +1,7 @@
 use Rattle.std.proofs.Common.{◌≡◌, ◌++◌, map}
 use Rattle.level_text.specs.Drafts.{node_view}
-use Rattle.level_text.specs.Faults.{limit_fault}
-use Rattle.level_text.specs.Kept.{trees_view}
+use Rattle.game_session.specs.Faults.{limit_fault}
+use Rattle.game_session.specs.Kept.{trees_view}
 use Rattle.level_text.proofs.read.trees_within.Given as goal
 
 abbrev pub invariant-nodes : goal.invariant-nodes

@@ -1,6 +1,6 @@
 use Rattle.std.proofs.Common.{◌∙◌, ap}
 use Rattle.grid_world.specs.Map.{grid_of}
-use Rattle.level_text.specs.Faults.{fault_of_map}
+use Rattle.game_session.specs.Faults.{fault_of_map}
 use Rattle.level_text.proofs.RowFaults.{rows_of-texts, row_fault-None, row_fault-Some}
 use Rattle.level_text.proofs.read.world_of.Goals as goal
 

@@ -1,5 +1,5 @@
 use Rattle.std.proofs.Common.{◌≡◌, ◌≤◌, ◌+◌, ◌++◌, length}
-use Rattle.level_text.specs.Changes.{last_frame}
+use Rattle.game_session.specs.Changes.{last_frame}
 use Rattle.level_text.specs.Scripts.{script_fault}
 use Rattle.level_text.proofs.ReadLines.{fault_in, changes_in}
 use Rattle.level_text.proofs.script_file.read_script.Given as goal

@@ -2,7 +2,7 @@ use Rattle.std.proofs.Common.{◌∙◌, ap, refl, string_bytes, String, Global,
 use Rattle.serde_json.specs.Data.{array, string}
 use Rattle.serde_json.specs.declared.value.Value.TheVariants as value
 use Rattle.serde_json.proofs.Views.{view-Array}
-use Rattle.level_text.specs.Kept.{texts_view}
+use Rattle.game_session.specs.Kept.{texts_view}
 use Rattle.level_text.specs.Written.{texts_data}
 use Rattle.level_text.proofs.ItemsBefore.{items_before, view-String}
 use Rattle.level_text.proofs.WrittenSteps.{written_more, written_all}

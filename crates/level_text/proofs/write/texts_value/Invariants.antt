@@ -1,5 +1,5 @@
 use Rattle.std.proofs.Common.{◌≡◌, drop}
-use Rattle.level_text.specs.Kept.{texts_view}
+use Rattle.game_session.specs.Kept.{texts_view}
 use Rattle.level_text.specs.Written.{texts_data}
 use Rattle.level_text.proofs.ItemsBefore.{items_before}
 use Rattle.level_text.proofs.write.texts_value.Given as goal

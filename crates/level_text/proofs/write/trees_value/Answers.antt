@@ -3,9 +3,9 @@ use Rattle.serde_json.specs.Data.{object, put}
 use Rattle.serde_json.specs.View.{view, members_view}
 use Rattle.serde_json.proofs.Views.{view-Object, members_view-insert_entry}
 use Rattle.bt_nodes.specs.Trees.{plain_of}
-use Rattle.level_text.specs.declared.named_tree.NamedTree.{NamedTree}
+use Rattle.game_session.specs.declared.named_tree.NamedTree.{NamedTree}
 use Rattle.level_text.specs.Marks.{has_marks}
-use Rattle.level_text.specs.Parts.{NamedPlain}
+use Rattle.game_session.specs.Parts.{NamedPlain}
 use Rattle.level_text.specs.Written.{node_data}
 use Rattle.level_text.proofs.TreesWritten.{put_more, put_all, all_more}
 use Rattle.level_text.proofs.write.trees_value.Goals as goal

@@ -1,7 +1,7 @@
 use Rattle.std.proofs.Common.{◌≡◌, take, drop}
 use Rattle.std.specs.List.{list_all}
 use Rattle.serde_json.specs.View.{members_view}
-use Rattle.level_text.specs.Kept.{trees_view}
+use Rattle.game_session.specs.Kept.{trees_view}
 use Rattle.level_text.specs.Marks.{has_marks}
 use Rattle.level_text.specs.Written.{trees_data}
 use Rattle.level_text.proofs.write.trees_value.Given as goal

@@ -1,4 +1,4 @@
-use Rattle.level_text.specs.Levels.{value_of}
+use Rattle.game_session.specs.Levels.{value_of}
 use Rattle.play_run.proofs.Spelled.{played}
 use Rattle.play_run.proofs.bytes.run_bytes.Goals as goal
 

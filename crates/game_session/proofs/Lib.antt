@@ -1,0 +1,4 @@
+pub mod Rising
+pub mod Faultless
+pub mod AgentTrees
+pub mod LevelsKept

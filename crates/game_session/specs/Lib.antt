@@ -1,0 +1,10 @@
+pub mod Parts
+pub mod Places
+pub mod Names
+pub mod Faults
+pub mod Kept
+pub mod Levels
+pub mod Changes
+pub mod Sessions
+pub mod PlainCode
+pub mod GameCode

@@ -1,8 +1,0 @@
-use Rattle.std.proofs.Common.{rules}
-use Rattle.level_text.proofs.Rising.{kept_push}
-use Rattle.level_text.proofs.script.Script.push.Goals as goal
-
-pub invariant_of-self-2 : goal.invariant_of-self-2
-invariant_of-self-2 c =
-    kept_push c.self.inside.changes.items _ c.self.inside.after.items _ c.args.change c.last_signals-signals.result c.self.invariant
-    (rw c.self.view_is c.requires) (rw c.self.view_is c.last_signals-signals.ensures) (search rules) (search rules)

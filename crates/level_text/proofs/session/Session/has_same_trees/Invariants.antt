@@ -1,6 +1,0 @@
-use Rattle.std.proofs.Common.{◌≡◌, take}
-use Rattle.level_text.proofs.session.Session.has_same_trees.Given as goal
-
--- those so far are the same
-abbrev pub invariant-agents : goal.invariant-agents
-invariant-agents l = take l.agent l.self.trees ≡ take l.agent l.other.trees
