@@ -1,11 +1,8 @@
-pub mod Boarding
-pub mod Tasked
-pub mod Sized
 pub mod Working
 pub mod Staying
+pub mod Handing
 pub mod Applying
 pub mod Owning
 pub mod Coming
 pub mod Ending
 pub mod Crossing
-pub mod Beginning

@@ -1,20 +1,19 @@
 -- Work that a board has done itself: of which job it is, and where the job stands.
-use Rattle.std.specs.Prelude.{◌≡◌, ◌<◌, ℕ, List, length, ◌⊎◌, Option, Some, None, slice_index_or, refl}
+use Rattle.std.specs.Prelude.{◌≡◌, ◌<◌, ℕ, List, length, Option, Some, None, slice_index_or, refl}
 use Rattle.std.specs.Coded.{Coded, code_by, coded×, coded_ℕ, coded_list, coded_option}
 use Rattle.game_rules.specs.Game.{Game}
 use Rattle.game_session.specs.GameCode.{game_code}
 use Rattle.job_core.specs.declared.names.JobName.{JobName}
 use Rattle.job_core.specs.declared.names.JobName.TheVariants.{Logic, Think}
-use Rattle.job_core.specs.declared.names.Event.TheVariants.{Start, Resume}
 use Rattle.frame_params.specs.Names.{QuestionOf}
 use Rattle.frame_params.specs.Contents.{questions_in}
 use Rattle.frame_params.specs.Tasks.{IsTaskAt}
 use Rattle.frame_params.specs.BoardSteps.{IsToldOf}
 use Rattle.frame_params.specs.declared.task.Task.{Task}
 use Rattle.frame_params.specs.declared.board_step.BoardStep.{BoardStep}
-use Rattle.job_core.specs.Core.{Runs, Waits, IsLegal, IsLegalList}
-use Rattle.job_board.specs.Boards.{Played, setup_in, state_in}
-use Rattle.job_board.specs.BoardCode.{job_code}
+use Rattle.job_core.specs.Core.{Runs, IsLegalList}
+use Rattle.task_board.specs.Boards.{Played, setup_in, state_in}
+use Rattle.task_board.specs.BoardCode.{job_code}
 use Rattle.job_shelf.specs.Dones.{game_done, job_done}
 use Rattle.job_shelf.specs.declared.done.Done.{Done}
 
@@ -67,11 +66,6 @@ pub record IsParkedOf (w : WorkOf) (parked : QuestionOf) : Type 0 where
   pub game : parked.game ≡ w.game
   pub question : parked.question ≡ w.step
   pub asks : parked.question < questions_in parked.game parked.frame parked.agent
-
--- a worker may start the job, or go on with it where it stands
-abbrev pub MayBeTakenUp : Played → JobName → ℕ → Type 0
-MayBeTakenUp b j k =
-    (w : ℕ) × ((IsLegal (setup_in b) (state_in b) (Start w j) × (k ≡ 0)) ⊎ (IsLegal (setup_in b) (state_in b) (Resume w j) × ((state_in b).phase j ≡ Waits k)))
 
 -- ---- a worker's work
 

@@ -2,15 +2,16 @@ ghost use Rattle.std.specs.Prelude.{◌≡◌, ℕ, IfOk, IfErr, OnOk, OnErr, tr
 ghost use Rattle.job_core.specs.declared.names.JobName.TheVariants.{Logic, Think};
 ghost use Rattle.job_core.specs.declared.names.Event.TheVariants.{Ask, Spread, Hold, Finish, Emit};
 ghost use Rattle.job_core.specs.Core.{IsLegal, IsLegalList, IsComplete};
-ghost use Rattle.job_board.specs.Boards.{setup_in, state_in, Happens, IsDoneByLogic, IsTaken, IsTakeRefused, GivesJob, IsRefused, IsEmitRefused, IsShown, IsStopped, NoOther};
+ghost use Rattle.task_board.specs.Boards.{setup_in, state_in, Happens, IsDoneByLogic, IsTaken, IsTakeRefused, GivesJob, IsRefused, IsEmitRefused, IsShown, IsStopped, NoOther};
+ghost use Rattle.frame_params.specs.BoardSteps.{IsToldIn};
+ghost use Rattle.task_board.specs.HandedIn.{IsHandedIn, IsHandInRefused};
 ghost use Rattle.job_shelf.specs.Dones.{game_done, job_done, IsOtherDone};
-ghost use Rattle.job_board.specs.Parked.{IsOtherParked};
-ghost use Rattle.job_board.specs.Playing.{IsOwn, NothingToShow, NobodyStarts};
+ghost use Rattle.task_board.specs.Parked.{IsOtherParked};
+ghost use Rattle.task_board.specs.Given.{NothingToShow, NobodyStarts};
+ghost use Rattle.job_board.specs.Playing.{IsOwn};
 
-use super::refused::Refused;
-use super::run::Run;
 use super::works::Works;
-use frame_params::{Parked, Task};
+use frame_params::{BoardStep, Parked, Task};
 use game_session::Session;
 use job_core::names::Event;
 use job_log::BoardFault;
@@ -18,12 +19,13 @@ use job_machine::{OutOfMemory, Settings};
 use job_shelf::{Done, Shown};
 use std::alloc::Global;
 use std::marker::Model;
+use task_board::{Refused, TaskBoard};
 
-/// The jobs of a run over a session, and what their work came to. Each call that answers Ok, but for a `take` that
-/// gives nothing and a `stop` of a stopped board, does one event, which was legal and is the last of `events` from then
-/// on; a call that is refused changes nothing.
+/// The jobs of a run over a session, handed out as a task board does, or done by the board itself for events that are
+/// given. Each call that answers Ok, but for a `take` that gives nothing and a `stop` of a stopped board, does one event,
+/// which was legal and is the last of `events` from then on; a call that is refused changes nothing.
 pub struct Board<'t> {
-    pub(crate) run: Run<'t>,
+    pub(crate) run: TaskBoard<'t>,
     // For each worker the work of the job that it runs, where `apply` has done it.
     pub(crate) works: Works<'t>,
 }
@@ -59,7 +61,7 @@ impl<'t> Board<'t> {
         ensures worked { IfOk result (λ board. board.worked ≡ replicate settings.workers false) }
         ensures own { IfOk result IsOwn }
     {
-        let run = Run::new(alloc, session, settings)?;
+        let run = TaskBoard::new(alloc, session, settings)?;
         let Ok(works) = Works::new(alloc, settings.workers()) else {
             return Err(OutOfMemory);
         };
@@ -126,10 +128,7 @@ impl<'t> Board<'t> {
         ensures yes { result ≡ true → (frame : ℕ) × IsLegal (setup_in self.now.run) (state_in self.now.run) (Emit frame) }
         ensures no { result ≡ false → NothingToShow self.now.run }
     {
-        match self.run.to_show() {
-            Some(_) => true,
-            None => false,
-        }
+        self.run.may_show()
     }
 
     /// The worker's Logic, at its start, queues the thinks of its frame and waits for them.
@@ -221,6 +220,29 @@ impl<'t> Board<'t> {
         ensures unchanged { OnErr result (self.new ≡ self.old) }
     {
         match self.run.finish_own(worker, done) {
+            Ok(()) => {}
+            Err(refused) => return Err(refused),
+        }
+        self.works.clear(worker);
+        Ok(())
+    }
+
+    /// Hands in what a worker's task came to: a frame that begins is spread, or held where it has no slot; a Think that
+    /// has a question asks it; every other job is over. The step is of the board's own game, as what comes of a task is
+    /// that `take` gave: no sessions are compared. Of a drawn band the board gets the mark alone.
+    pub fn hand_in(
+        &mut self,
+        worker: u32,
+        step: BoardStep<'t>,
+    ) -> Result<(), Refused<BoardStep<'t>>>
+        requires { IsToldIn self.old.run.game step }
+        ensures ok { OnOk result (IsHandedIn self.old.run self.new.run worker step.entry) }
+        ensures worked { OnOk result (self.new.worked ≡ slice_set self.old.worked worker false) }
+        ensures refused { IfErr result (λ r. IsHandInRefused self.old.run worker step.entry r.fault) }
+        ensures back { IfErr result (λ r. r.value ≡ step.entry) }
+        ensures unchanged { OnErr result (self.new ≡ self.old) }
+    {
+        match self.run.hand_in(worker, step) {
             Ok(()) => {}
             Err(refused) => return Err(refused),
         }

@@ -5,7 +5,7 @@ ghost use Rattle.job_core.specs.Core.{IsLegalList, IsComplete};
 ghost use Rattle.job_machine.specs.Numbers.{IsWithinLimits};
 ghost use Rattle.job_log.specs.declared.fault.BoardFault.{BoardFault};
 ghost use Rattle.job_log.specs.declared.fault.BoardFault.TheVariants.{OutOfMemory};
-ghost use Rattle.job_board.specs.Boards.{setup_in, state_in};
+ghost use Rattle.task_board.specs.Boards.{setup_in, state_in};
 ghost use Rattle.job_board.specs.Playing.{Playing, IsOwn, IsApplyRefused, IsEnabled, IsStuck};
 
 /// What `enabled` gave is refused by `apply` for want of memory alone.

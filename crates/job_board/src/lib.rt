@@ -1,17 +1,10 @@
-// The job board: the jobs of a run over a session, with what their work came to.
+// A board that can do the work of its jobs itself: events that are given, and which one comes next.
 #![tactic(auto)]
 
 mod apply;
 mod board;
 mod enabled;
-mod fitting;
-mod hand_in;
 pub mod laws;
-mod moves;
-mod next;
-mod refused;
-mod results;
-mod run;
 mod work;
 mod works;
 
@@ -20,4 +13,4 @@ pub use job_core::names::{Event, JobName};
 pub use job_log::BoardFault;
 pub use job_machine::{OutOfMemory, Settings, SettingsFault};
 pub use job_shelf::{Done, Shown};
-pub use refused::Refused;
+pub use task_board::Refused;

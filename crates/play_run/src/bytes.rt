@@ -5,7 +5,6 @@ ghost use Rattle.play_run.specs.Plays.{IsPlayed, IsPlayFault};
 use crate::fault::PlayFault;
 use crate::whole_run::run;
 use game_session::Session;
-use job_board::Settings;
 use level_text::{read_level, read_script};
 use run_report::RunReport;
 use run_worker::Gate;
@@ -14,6 +13,7 @@ use std::io::Write;
 use std::rt::Clock;
 use std::sync::Wait;
 use std::thread::Threads;
+use task_board::Settings;
 
 /// Plays the game that the level's and the script's bytes spell. The level is read before the script, and a fault of either
 /// is answered before anything is written.

@@ -5,7 +5,6 @@ use band_mail::{BandMail, Putter, Taker};
 use draw_list::BAND_ROWS;
 use frame_print::{BandTable, RunBand};
 use game_session::Session;
-use job_board::{Board, Settings};
 use run_hall::Hall;
 use run_ledger::RunLedger;
 use run_printer::Inbox;
@@ -13,6 +12,7 @@ use shared_board::SharedBoard;
 use std::alloc::{AllocError, Global};
 use std::sync::Wait;
 use std::sync::ledger::{Book, Ledger};
+use task_board::{Settings, TaskBoard};
 
 // How many bands a worker may be ahead of the printer.
 const MAIL_CAPACITY: usize = 64;
@@ -43,7 +43,7 @@ pub fn open_hall<'t, L: RunLedger, M: Ledger>(
     )?;
     // Behind the showing of a frame the bands of the one that gets its slot may be in the mail before the frame's own are taken.
     let table = BandTable::new(alloc, settings.slots() + 1, bands_of(session))?;
-    let Ok(board) = Board::new(alloc, session, settings) else {
+    let Ok(board) = TaskBoard::new(alloc, session, settings) else {
         return Err(AllocError);
     };
     let hall = Hall::new(

@@ -1,6 +1,6 @@
-use job_board::JobName;
 use play_run::Gate;
 use std::sync::atomic::{AtomicU64, Ordering};
+use task_board::JobName;
 
 // Looks until so many have come; false after so many looks.
 fn wait_for(come: &AtomicU64, need: u64, looks: u64) -> bool {

@@ -1,7 +1,6 @@
 // Jobs that are held until others have come: with workers enough the run comes to its end, with one fewer its gate closes.
 use crate::gates::{Four, Until};
 use crate::levels::{FOUR_BANDS, FOUR_NEIGHBOURS, NEIGHBOURS, RACE, WALK};
-use job_board::{JobName, Settings};
 use play_run::{Cause, Gate, PlayFault, RunFault, run_bytes};
 use std::alloc::Global;
 use std::rt::Clock;
@@ -9,6 +8,7 @@ use std::sync::Wait;
 use std::sync::atomic::AtomicU64;
 use std::test::Fail;
 use std::thread::Threads;
+use task_board::{JobName, Settings};
 
 // How often a held job looks for others that come, and for others that can't come.
 const MANY: u64 = 1_000_000_000;

@@ -1,9 +1,9 @@
 // The gate is asked for each job that a worker is given, once before its work and once after it.
 use crate::levels::CROWD;
-use job_board::{Event, JobName, Settings};
 use play_run::{Gate, run_bytes};
 use std::sync::{Mutex, Wait};
 use std::test::Fail;
+use task_board::{Event, JobName, Settings};
 
 // A worker, its job, and whether it is worked.
 type Asked = (u32, JobName, bool);

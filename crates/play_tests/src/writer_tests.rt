@@ -1,14 +1,14 @@
 // A writer whose call fails, and what is written before.
 use crate::levels::{WALK, WALK_TEXT};
-use job_board::Settings;
 use play_run::{Cause, EveryJob, PlayFault, RunFault, run_bytes};
 use std::alloc::Global;
-use std::io;
 use std::io::Write;
+use std::io;
 use std::rt::Clock;
 use std::sync::Wait;
 use std::test::Fail;
 use std::thread::Threads;
+use task_board::Settings;
 
 /// Takes one byte a call, so many in all.
 #[derive(Drop)]

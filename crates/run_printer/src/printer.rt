@@ -7,7 +7,6 @@ use crate::inbox::Inbox;
 use crate::showing::next_text;
 use byte_streams::write_whole;
 use game_session::Session;
-use job_board::Settings;
 use run_fault::{Cause, RunFault};
 use run_hall::Hall;
 use run_ledger::RunLedger;
@@ -16,6 +15,7 @@ use std::io::Write;
 use std::rt::Clock;
 use std::sync::Wait;
 use std::sync::ledger::{Ledger, Share};
+use task_board::Settings;
 
 /// Shows and writes all frames in order, and flushes. At a fault it stops the board.
 pub fn print<'t, W: Write, L: RunLedger, M: Ledger, R: Wait + Clock>(

@@ -3,7 +3,6 @@ ghost use Rattle.game_rules.specs.Text.{frame_text};
 
 use crate::inbox::Inbox;
 use game_session::Session;
-use job_board::{BoardFault, Settings, Shown};
 use run_fault::Cause;
 use run_hall::{Hall, Rest};
 use run_ledger::RunLedger;
@@ -12,6 +11,7 @@ use std::alloc::Global;
 use std::rt::Clock;
 use std::sync::ledger::{Ledger, Share};
 use std::sync::{MutexGuard, Wait};
+use task_board::{BoardFault, Settings, Shown};
 
 // How often the printer looks for a frame before it sleeps: a microsecond, for the workers may want its core.
 const LOOKS: u32 = 100;

@@ -5,12 +5,12 @@ ghost use Rattle.shared_board.specs.Runs.{setup_for};
 ghost use Rattle.run_report.specs.Reports.{AreStepsOf};
 
 use game_session::Session;
-use job_board::{Event, Settings};
 use run_fault::{Cause, RunFault};
 use run_ledger::RunLedger;
 use shared_board::SharedBoard;
 use std::alloc::{AllocError, Global};
 use std::sync::ledger::{Ledger, Share};
+use task_board::{Event, Settings};
 
 /// What a run comes to: its number of frames, all that happened in order, and for each worker how many events name it.
 #[derive(Debug, Drop)]

@@ -1,4 +1,4 @@
-use job_board::JobName;
+use task_board::JobName;
 
 /// Asked by a worker for each job that it is given: once before the work, and once after it where the work succeeded. It is
 /// asked with the board's lock free, so it may wait until other workers have come. A run whose gate answers false ends.

@@ -12,7 +12,6 @@ use band_mail::Putter;
 use frame_params::{BoardStep, Step, Task};
 use frame_print::RunBand;
 use game_session::Session;
-use job_board::BoardFault;
 use run_fault::Cause;
 use run_hall::{Hall, Rest};
 use run_ledger::RunLedger;
@@ -21,6 +20,7 @@ use std::alloc::Global;
 use std::rt::Clock;
 use std::sync::ledger::{Ledger, Share};
 use std::sync::{MutexGuard, Wait};
+use task_board::BoardFault;
 
 /// What a worker's thread hands back: its share of the events, its Putter, and the fault that it met.
 #[derive(Drop)]

@@ -11,7 +11,7 @@ use Rattle.frame_params.specs.declared.task.Task.{Task}
 use Rattle.frame_params.specs.declared.task.Task.TheVariants.{Logic as LogicTask, Think as ThinkTask, Path as PathTask, Draw as DrawTask}
 use Rattle.job_core.specs.Core.{Setup, State, IsComplete, after, after_all, opening, state}
 use Rattle.frame_params.specs.Names.{FrameOf}
-use Rattle.job_board.specs.Boards.{Played, Happens, IsTaken, IsShown, setup_in}
+use Rattle.task_board.specs.Boards.{Played, Happens, IsTaken, IsShown, setup_in}
 use Rattle.shared_board.specs.Counts.{names_worker, is_emit}
 use Rattle.job_machine.specs.Numbers.{Numbers}
 use Rattle.shared_board.specs.Runs.{setup_for, IsByWorker}

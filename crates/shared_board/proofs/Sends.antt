@@ -7,7 +7,7 @@ use Rattle.std.proofs.sync.Mutex.TheSendSync as mutex
 use Rattle.std.proofs.sync.ledger.Book.TheSendSync as book
 use Rattle.std.specs.declared.sync.ledger.Ledger as ledger
 use Rattle.std.specs.contracts.sync.Mutex as lock
-use Rattle.job_board.proofs.Crossing.{board}
+use Rattle.task_board.proofs.Crossing.{board}
 use Rattle.run_ledger.specs.declared.ledger.RunLedger as run_ledger
 use Rattle.shared_board.specs.contracts.shared.SharedBoard as shared
 

@@ -6,8 +6,8 @@ use Rattle.frame_params.specs.declared.board_step.BoardStep.{BoardStep}
 use Rattle.frame_params.specs.declared.board_step.BoardStep.TheVariants.{Logic, Think, Path, Draw}
 use Rattle.frame_params.specs.declared.logic_step.LogicStep.TheVariants.{Begins, Turned}
 use Rattle.frame_params.specs.declared.think_step.ThinkStep.TheVariants.{Ended, Asks}
-use Rattle.job_board.specs.Boards.{Played}
-use Rattle.job_board.specs.HandedIn.{IsHandedIn}
+use Rattle.task_board.specs.Boards.{Played}
+use Rattle.task_board.specs.HandedIn.{IsHandedIn}
 use Rattle.shared_board.specs.Runs.{IsByWorker}
 
 pub by_worker : (old new : Played) (w : ℕ) (step : BoardStep) → IsHandedIn old new w step → IsByWorker old new

@@ -6,7 +6,7 @@ use Rattle.job_core.specs.Core.{Setup}
 use Rattle.game_jobs.specs.Instance.{setup}
 use Rattle.frame_params.specs.Contents.{bands_in}
 use Rattle.job_machine.specs.Numbers.{Numbers}
-use Rattle.job_board.specs.Boards.{Played, Happens}
+use Rattle.task_board.specs.Boards.{Played, Happens}
 use Rattle.shared_board.specs.Counts.{names_worker}
 
 -- the jobs of a game's frames under these numbers

@@ -3,16 +3,16 @@ ghost use Rattle.frame_params.specs.BoardSteps.{IsToldIn};
 ghost use Rattle.shared_board.specs.Runs.{IsByWorker};
 
 use frame_params::BoardStep;
-use job_board::{Board, BoardFault};
+use task_board::{BoardFault, TaskBoard};
 
 /// Gives a board what the work of a worker's job came to, which is of the board's game: one event happens.
 pub fn hand_in<'t>(
-    board: &mut Board<'t>,
+    board: &mut TaskBoard<'t>,
     worker: u32,
     step: BoardStep<'t>,
 ) -> Result<(), BoardFault>
-    requires { IsToldIn board.old.run.game step }
-    ensures ok { OnOk result (IsByWorker board.old.run board.new.run) }
+    requires { IsToldIn board.old.game step }
+    ensures ok { OnOk result (IsByWorker board.old board.new) }
     ensures refused { OnErr result (board.new ≡ board.old) }
 {
     match board.hand_in(worker, step) {

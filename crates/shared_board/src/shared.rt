@@ -10,20 +10,20 @@ ghost use Rattle.shared_board.specs.Runs.{setup_for};
 use crate::handing::hand_in;
 use frame_params::{BoardStep, Task};
 use game_session::Session;
-use job_board::{Board, BoardFault, Event, Settings, Shown};
 use run_ledger::RunLedger;
 use std::sync::ledger::{Book, Ledger, Share};
+use task_board::{BoardFault, Event, Settings, Shown, TaskBoard};
 
 /// A board with two books: one of its events that name a worker, one of those that show a frame. A thread that makes
 /// such an event happen adds one to its share of the book.
 pub struct SharedBoard<'t, L: RunLedger, M: Ledger> {
-    board: Board<'t>,
+    board: TaskBoard<'t>,
     named: Book<L>,
     emitted: Book<M>,
-    ghost game_is: { L.game ≡ Some board.run.game } by { Coded-set (coded_option game_code) L.game (Some board.run.game) },
-    ghost numbers_are: { L.numbers ≡ Some board.run.numbers },
-    ghost named_is: { named.total ≡ count_by names_worker board.run.events },
-    ghost emitted_is: { emitted.total ≡ count_by is_emit board.run.events },
+    ghost game_is: { L.game ≡ Some board.game } by { Coded-set (coded_option game_code) L.game (Some board.game) },
+    ghost numbers_are: { L.numbers ≡ Some board.numbers },
+    ghost named_is: { named.total ≡ count_by names_worker board.events },
+    ghost emitted_is: { emitted.total ≡ count_by is_emit board.events },
 }
 
 impl<'t, L: RunLedger, M: Ledger> Drop for SharedBoard<'t, L, M> {
@@ -38,9 +38,9 @@ impl<'t, L: RunLedger, M: Ledger> Drop for SharedBoard<'t, L, M> {
 
 impl<'t, L: RunLedger, M: Ledger> SharedBoard<'t, L, M> {
     /// A board on which nothing has happened, with empty books.
-    pub fn new(board: Board<'t>, named: Book<L>, emitted: Book<M>) -> SharedBoard<'t, L, M>
-        requires run { (L.game ≡ Some board.run.game) × (L.numbers ≡ Some board.run.numbers) }
-        requires log { board.run.events ≡ [] }
+    pub fn new(board: TaskBoard<'t>, named: Book<L>, emitted: Book<M>) -> SharedBoard<'t, L, M>
+        requires run { (L.game ≡ Some board.game) × (L.numbers ≡ Some board.numbers) }
+        requires log { board.events ≡ [] }
         requires books { (named.total ≡ 0) × (emitted.total ≡ 0) }
     {
         SharedBoard {

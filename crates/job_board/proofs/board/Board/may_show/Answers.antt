@@ -1,7 +1,7 @@
 use Rattle.job_board.proofs.board.Board.may_show.Goals as goal
 
-pub returns-in-Some-clause-yes : goal.returns-in-Some-clause-yes
-returns-in-Some-clause-yes c = rw (← c.self.view_is) (λ e. (c.in-Some.field-0, c.in-Some.ensures.some))
+pub returns-clause-yes : goal.returns-clause-yes
+returns-clause-yes c = rw (← c.self.view_is) c.may_show.ensures.yes
 
-pub returns-in-None-clause-no : goal.returns-in-None-clause-no
-returns-in-None-clause-no c = rw (← c.self.view_is) (λ e. c.to_show.ensures.none c.in-None.is)
+pub returns-clause-no : goal.returns-clause-no
+returns-clause-no c = rw (← c.self.view_is) c.may_show.ensures.no

@@ -1,6 +1,6 @@
 use Rattle.std.proofs.Common.{None, replicate, ap, sym, ◌∙◌, map, is_some}
 use Rattle.job_board.proofs.Staying.{opens_playing, none_worked}
-use Rattle.job_board.specs.Boards.{Played}
+use Rattle.task_board.specs.Boards.{Played}
 use Rattle.job_board.proofs.board.Board.new.Goals as goal
 
 pub invariant_of-result : goal.invariant_of-result

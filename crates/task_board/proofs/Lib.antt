@@ -1,0 +1,6 @@
+pub mod Boarding
+pub mod Tasked
+pub mod Sized
+pub mod Beginning
+pub mod Idling
+pub mod Crossing

@@ -1,0 +1,36 @@
+use Rattle.std.proofs.Common.{Ok, Err, sym, ap, subst}
+use Rattle.job_core.specs.declared.names.Event.TheVariants.{Emit}
+use Rattle.job_log.specs.Looks.{IsToShow}
+use Rattle.job_log.specs.declared.fault.BoardFault.TheVariants.{OutOfMemory}
+use Rattle.job_shelf.specs.Shelf.{Shelved}
+use Rattle.task_board.specs.Boards.{IsEmitRefused, IsShown, state_in}
+use Rattle.task_board.proofs.Boarding.{there_for, known, next, kept_after, happens, seen_as, emit_refused}
+use Rattle.task_board.proofs.board.TaskBoard.emit.Goals as goal
+
+pub returns-in-Err-clause-refused : goal.returns-in-Err-clause-refused
+returns-in-Err-clause-refused c = subst (λ b. IsEmitRefused b c.in-Err.fault) c.self.view_is (emit_refused (seen_as c.self.inside.session.now c.self.inside.jobs) c.in-Err.fault (known c.self.inside.session.now c.self.inside.jobs c.self.inside.shelf c.self.invariant (IsToShow (Err c.in-Err.fault)) c.in-Err.ensures))
+
+pub emit-requires : goal.emit-requires
+emit-requires c = next c.self.inside.session.now c.self.inside.jobs c.self.inside.shelf c.self.invariant (Emit c.in-Ok.frame) (known c.self.inside.session.now c.self.inside.jobs c.self.inside.shelf c.self.invariant (IsToShow (Ok c.in-Ok.frame)) c.in-Ok.ensures)
+
+pub show-requires-clause-slot : goal.show-requires-clause-slot
+show-requires-clause-slot c = (there_for c.self.inside.session.now c.self.inside.jobs c.self.inside.shelf c.self.invariant (Emit c.in-Ok.frame) (known c.self.inside.session.now c.self.inside.jobs c.self.inside.shelf c.self.invariant (IsToShow (Ok c.in-Ok.frame)) c.in-Ok.ensures)).0
+
+pub show-requires-clause-drawn : goal.show-requires-clause-drawn
+show-requires-clause-drawn c = (there_for c.self.inside.session.now c.self.inside.jobs c.self.inside.shelf c.self.invariant (Emit c.in-Ok.frame) (known c.self.inside.session.now c.self.inside.jobs c.self.inside.shelf c.self.invariant (IsToShow (Ok c.in-Ok.frame)) c.in-Ok.ensures)).1
+
+pub returns-in_default-clause-refused : goal.returns-in_default-clause-refused
+returns-in_default-clause-refused c = subst (λ b. IsEmitRefused b OutOfMemory) c.self.view_is (c.in-Ok.frame, (known c.self.inside.session.now c.self.inside.jobs c.self.inside.shelf c.self.invariant (IsToShow (Ok c.in-Ok.frame)) c.in-Ok.ensures))
+
+pub returns-in_default-emit-clause-refused : goal.returns-in_default-emit-clause-refused
+returns-in_default-emit-clause-refused c = subst (λ b. IsEmitRefused b OutOfMemory) c.self.view_is (c.in-Ok.frame, (known c.self.inside.session.now c.self.inside.jobs c.self.inside.shelf c.self.invariant (IsToShow (Ok c.in-Ok.frame)) c.in-Ok.ensures))
+
+pub invariant_of-self-2 : goal.invariant_of-self-2
+invariant_of-self-2 c = kept_after c.self.inside.session.now c.self.inside.jobs c.self.inside.shelf c.self.invariant (Emit c.in-Ok.frame) (known c.self.inside.session.now c.self.inside.jobs c.self.inside.shelf c.self.invariant (IsToShow (Ok c.in-Ok.frame)) c.in-Ok.ensures) c.emit.new.self c.in-Ok-emit.ensures.ok c.show.new.self (c.show.ensures.stored (state_in (seen_as c.self.inside.session.now c.self.inside.jobs)))
+
+pub returns-clause-ok : goal.returns-clause-ok
+returns-clause-ok c =
+    let game = ap (λ (k : Shelved). k.game) c.self.invariant.shelf_is in
+    let now = seen_as c.self.inside.session.now c.emit.new.self in
+    subst (λ b. IsShown b now c.show.result) c.self.view_is
+    (subst (IsShown (seen_as c.self.inside.session.now c.self.inside.jobs) now) (sym c.show.ensures.shown) (game, happens c.self.inside.session.now c.self.inside.jobs c.self.inside.shelf c.self.invariant (Emit c.in-Ok.frame) (known c.self.inside.session.now c.self.inside.jobs c.self.inside.shelf c.self.invariant (IsToShow (Ok c.in-Ok.frame)) c.in-Ok.ensures) c.emit.new.self c.in-Ok-emit.ensures.ok))

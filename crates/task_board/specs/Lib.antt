@@ -1,0 +1,5 @@
+pub mod Boards
+pub mod BoardCode
+pub mod Parked
+pub mod HandedIn
+pub mod Given

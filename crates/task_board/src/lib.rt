@@ -1,0 +1,17 @@
+// The task board: the jobs of a run over a session, handed out as tasks, with what their work came to.
+#![tactic(auto)]
+
+mod board;
+mod fitting;
+mod hand_in;
+mod moves;
+mod next;
+mod refused;
+mod results;
+
+pub use board::TaskBoard;
+pub use job_core::names::{Event, JobName};
+pub use job_log::BoardFault;
+pub use job_machine::{OutOfMemory, Settings, SettingsFault};
+pub use job_shelf::{Done, Shown};
+pub use refused::Refused;

@@ -1,0 +1,109 @@
+ghost use Rattle.std.specs.Prelude.{◌≡◌, ℕ, ◌≤◌, ◌<◌, ◌+◌, None, IfOk, IfSome, OnOk, OnErr, true, false};
+ghost use Rattle.job_core.specs.declared.names.Event.TheVariants.{Start, Resume, Emit};
+ghost use Rattle.job_core.specs.Core.{Runs, Waits, IsLegal};
+ghost use Rattle.frame_params.specs.Tasks.{IsTaskAt};
+ghost use Rattle.board_law.specs.Lists.{first_place};
+ghost use Rattle.board_law.specs.Board.{core_of, holds};
+ghost use Rattle.task_board.specs.Boards.{setup_in, state_in, Happens};
+ghost use Rattle.task_board.specs.Given.{MayBeTakenUp, NothingToShow};
+
+use super::board::TaskBoard;
+use frame_params::Task;
+use job_core::names::JobName;
+use job_log::BoardFault;
+use job_machine::{Fiber, Held, OutOfMemory};
+use job_queues::is_same;
+
+// What is done for a given event, where it is legal.
+impl<'t> TaskBoard<'t> {
+    /// The task of a job that stands at this step, and may be taken up there.
+    pub fn task_of(&self, job: JobName, step: u32) -> Result<Task<'t>, OutOfMemory>
+        requires { MayBeTakenUp self.now job step }
+        ensures { IfOk result (IsTaskAt self.now.game job step) }
+    {
+        let Ok(task) = self.shelf.task(self.alloc, job, step) else {
+            return Err(OutOfMemory);
+        };
+        Ok(task)
+    }
+
+    /// Whether a worker may start this job.
+    pub fn may_start(&self, worker: u32, job: JobName) -> bool
+        ensures yes { result ≡ true → IsLegal (setup_in self.now) (state_in self.now) (Start worker job) }
+        ensures no { result ≡ false → IsLegal (setup_in self.now) (state_in self.now) (Start worker job) → ⊥ }
+    {
+        self.jobs.may_start(worker, job)
+    }
+
+    /// The fiber on which a worker may go on with this job, and how far the job has come; None where it may not.
+    pub fn may_resume(&self, worker: u32, job: JobName) -> Option<(Fiber, Held)>
+        ensures some { IfSome result (λ next. IsLegal (setup_in self.now) (state_in self.now) (Resume worker job)) }
+        ensures stands { IfSome result (λ next. (state_in self.now).phase job ≡ Waits next.1.step) }
+        ensures place { IfSome result (λ next. first_place (holds job) (core_of (setup_in self.now) self.now.events).seats.jobs ≡ next.0) }
+        ensures none { result ≡ None → IsLegal (setup_in self.now) (state_in self.now) (Resume worker job) → ⊥ }
+    {
+        let Some(next) = self.jobs.may_resume(worker, job) else {
+            return None;
+        };
+        Some(next)
+    }
+
+    /// Whether a worker runs this very job.
+    pub fn is_run_by(&self, worker: u32, job: JobName) -> bool
+        ensures yes { result ≡ true → (step : ℕ) × ((state_in self.now).phase job ≡ Runs worker step) }
+        ensures no { result ≡ false → (state_in self.now).stopped ≡ false → (step : ℕ) → (state_in self.now).phase job ≡ Runs worker step → ⊥ }
+    {
+        let held = match self.jobs.running(worker) {
+            Ok(held) => held,
+            Err(_) => return false,
+        };
+        if is_same(job, held.job) {
+            return true;
+        }
+        false
+    }
+
+    /// Whether the slot of a frame is free: so many frames are shown that there is one.
+    pub fn has_slot(&self, frame: u32) -> bool
+        ensures yes { result ≡ true → frame ≤ (state_in self.now).emitted + self.now.numbers.slots }
+        ensures no { result ≡ false → (state_in self.now).emitted + self.now.numbers.slots < frame }
+    {
+        self.jobs.has_slot(frame)
+    }
+
+    /// The frame that can be shown, if one can.
+    pub fn to_show(&self) -> Option<u32>
+        ensures some { IfSome result (λ frame. IsLegal (setup_in self.now) (state_in self.now) (Emit frame)) }
+        ensures none { result ≡ None → NothingToShow self.now }
+    {
+        match self.jobs.to_show() {
+            Ok(frame) => Some(frame),
+            Err(_) => None,
+        }
+    }
+
+    /// A worker starts a job.
+    pub fn begin(&mut self, worker: u32, job: JobName) -> Result<(), OutOfMemory>
+        requires { IsLegal (setup_in self.old) (state_in self.old) (Start worker job) }
+        ensures ok { OnOk result (Happens self.old self.new (Start worker job)) }
+        ensures unchanged { OnErr result (self.new ≡ self.old) }
+    {
+        let Ok(()) = self.jobs.start(worker, job) else {
+            return Err(OutOfMemory);
+        };
+        Ok(())
+    }
+
+    /// A worker goes on with a job, on the fiber that holds it.
+    pub fn go_on(&mut self, worker: u32, fiber: Fiber, job: JobName) -> Result<(), OutOfMemory>
+        requires legal { IsLegal (setup_in self.old) (state_in self.old) (Resume worker job) }
+        requires place { first_place (holds job) (core_of (setup_in self.old) self.old.events).seats.jobs ≡ fiber }
+        ensures ok { OnOk result (Happens self.old self.new (Resume worker job)) }
+        ensures unchanged { OnErr result (self.new ≡ self.old) }
+    {
+        let Ok(()) = self.jobs.resume(worker, fiber, job) else {
+            return Err(OutOfMemory);
+        };
+        Ok(())
+    }
+}
