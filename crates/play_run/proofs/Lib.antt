@@ -1,3 +1,4 @@
 mod Spelled
 mod Once
 pub mod Leaving
+pub mod Reported

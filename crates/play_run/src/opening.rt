@@ -22,6 +22,46 @@ fn bands_of(session: &Session) -> u32 {
     session.world().height().div_ceil(BAND_ROWS)
 }
 
+// The board of a run in which nothing has happened, with its books.
+fn open_board<'t, L: RunLedger, M: Ledger>(
+    alloc: Global,
+    session: &'t Session,
+    settings: Settings,
+    named: Book<L>,
+    emitted: Book<M>,
+) -> Result<SharedBoard<'t, L, M>, AllocError>
+    requires run { (L.game ≡ Some session.now) × (L.numbers ≡ Some settings) }
+    requires books { (named.total ≡ 0) × (emitted.total ≡ 0) }
+{
+    let Ok(board) = TaskBoard::new(alloc, session, settings) else {
+        return Err(AllocError);
+    };
+    Ok(SharedBoard::new(board, named, emitted))
+}
+
+// An empty mail, its ends, and the printer's table.
+fn open_mail<'t, L: RunLedger>(
+    alloc: Global,
+    session: &Session,
+    settings: Settings,
+) -> Result<
+    (
+        BandMail<RunBand<'t, L>>,
+        Vec<Putter<RunBand<'t, L>>>,
+        Inbox<'t, L>,
+    ),
+    AllocError,
+>
+    ensures workers { IfOk result (λ r. length r.0 ≡ settings.workers) }
+    ensures putters { IfOk result (λ r. (vec_len r.1 ≡ settings.workers) × ArePuttersOf r.0 r.1.items) }
+    ensures inbox { IfOk result (λ r. r.2.taker.mail ≡ r.0) }
+{
+    // Behind the showing of a frame the bands of the one that gets its slot may be in the mail before the frame's own are taken.
+    let table = BandTable::new(alloc, settings.slots() + 1, bands_of(session))?;
+    let (mail, putters, taker) = BandMail::new(alloc, MAIL_CAPACITY, settings.workers())?;
+    Ok((mail, putters, Inbox { taker, table }))
+}
+
 /// The hall of a run in which nothing has happened, a Putter for each worker, and the printer's inbox.
 pub fn open_hall<'t, L: RunLedger, M: Ledger>(
     alloc: Global,
@@ -36,22 +76,10 @@ pub fn open_hall<'t, L: RunLedger, M: Ledger>(
     ensures putters { IfOk result (λ r. (vec_len r.1 ≡ settings.workers) × ArePuttersOf r.0.mail r.1.items) }
     ensures inbox { IfOk result (λ r. r.2.taker.mail ≡ r.0.mail) }
 {
-    let (mail, putters, taker) = BandMail::<RunBand<L>>::new(
-        alloc,
-        MAIL_CAPACITY,
-        settings.workers(),
-    )?;
-    // Behind the showing of a frame the bands of the one that gets its slot may be in the mail before the frame's own are taken.
-    let table = BandTable::new(alloc, settings.slots() + 1, bands_of(session))?;
-    let Ok(board) = TaskBoard::new(alloc, session, settings) else {
-        return Err(AllocError);
-    };
-    let hall = Hall::new(
-        SharedBoard::new(board, named, emitted),
-        mail,
-        settings.workers(),
-    );
-    Ok((hall, putters, Inbox { taker, table }))
+    let board = open_board(alloc, session, settings, named, emitted)?;
+    let (mail, putters, inbox) = open_mail(alloc, session, settings)?;
+    let hall = Hall::new(board, mail, settings.workers());
+    Ok((hall, putters, inbox))
 }
 
 /// Closes the mail of a run whose threads have ended, and lets go what is left in it.

@@ -4,7 +4,7 @@ ghost use Rattle.game_rules.specs.Text.{frame_text};
 use crate::inbox::Inbox;
 use game_session::Session;
 use run_fault::Cause;
-use run_hall::{Hall, Rest};
+use run_hall::Hall;
 use run_ledger::RunLedger;
 use shared_board::SharedBoard;
 use std::alloc::Global;
@@ -12,6 +12,7 @@ use std::rt::Clock;
 use std::sync::ledger::{Ledger, Share};
 use std::sync::{MutexGuard, Wait};
 use task_board::{BoardFault, Settings, Shown};
+use waiting::Rest;
 
 // How often the printer looks for a frame before it sleeps: a microsecond, for the workers may want its core.
 const LOOKS: u32 = 100;
@@ -29,17 +30,21 @@ fn wait_for_frame<'m, 't, L: RunLedger, M: Ledger, R: Wait + Clock>(
     ensures { inbox.new.taker.mail ≡ hall.now.mail }
 {
     if !inbox.take_one(rt, hall) {
-        let (board, is_over) = hall.doze(rt, &hall.printer, board, rest.length());
+        let (board, is_over) = hall
+            .waiting
+            .doze(rt, &hall.waiting.printer, board, rest.length());
         if is_over {
             rest.lengthen();
         }
         return board;
     }
-    hall.unlock(board);
+    hall.waiting.unlock(board);
     inbox.take_all(rt, hall);
-    let (board, _) = hall.spin(rt, &hall.printer, LOOKS);
-    if hall.room.any_asleep() {
-        hall.room.wake_all();
+    let (board, _) = hall
+        .waiting
+        .spin(rt, &hall.board, &hall.waiting.printer, LOOKS);
+    if hall.waiting.room.any_asleep() {
+        hall.waiting.room.wake_all();
     }
     board
 }
@@ -64,18 +69,20 @@ fn emit<'t, L: RunLedger, M: Ledger, R: Wait + Clock>(
     ensures inbox { inbox.new.taker.mail ≡ hall.now.mail }
 {
     let mut rest = Rest::new();
-    let (mut board, _) = hall.spin(rt, &hall.printer, LOOKS);
+    let (mut board, _) = hall
+        .waiting
+        .spin(rt, &hall.board, &hall.waiting.printer, LOOKS);
     for _ in rt.forever() {
         match board.emit(session, settings, emits) {
             Ok(shown) => {
                 let is_done = board.is_done();
-                let another = board.may_take() && hall.wants_worker();
-                hall.unlock(board);
+                let another = board.may_take() && hall.waiting.wants_worker();
+                hall.waiting.unlock(board);
                 if is_done {
-                    hall.workers.wake_all();
+                    hall.waiting.workers.wake_all();
                 }
                 if another {
-                    hall.workers.wake_one();
+                    hall.waiting.workers.wake_one();
                 }
                 return Ok(shown);
             }
@@ -110,10 +117,10 @@ pub fn next_text<'t, L: RunLedger, M: Ledger, R: Wait + Clock>(
         Ok(shown) => shown,
         Err(cause) => return Err(cause),
     };
-    if inbox.take_all(rt, hall) && hall.room.any_asleep() {
+    if inbox.take_all(rt, hall) && hall.waiting.room.any_asleep() {
         // Who counts as asleep has the lock until it sleeps.
         drop(hall.board.lock(rt));
-        hall.room.wake_all();
+        hall.waiting.room.wake_all();
     }
     match inbox.table.text(alloc, session, &shown.into_turn()) {
         Ok(Some(text)) => Ok(text),

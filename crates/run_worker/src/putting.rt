@@ -45,10 +45,10 @@ pub fn put_band<'t, L: RunLedger, M: Ledger, R: Wait>(
             Ok(()) => return true,
             Err(back) => band = back,
         }
-        if hall.printer.want_one() {
-            hall.printer.wake_one();
+        if hall.waiting.printer.want_one() {
+            hall.waiting.printer.wake_one();
         }
-        board = hall.room.sleep(rt, board);
+        board = hall.waiting.room.sleep(rt, board);
     }
     unreachable!()
 }

@@ -13,7 +13,7 @@ use frame_params::{BoardStep, Step, Task};
 use frame_print::RunBand;
 use game_session::Session;
 use run_fault::Cause;
-use run_hall::{Hall, Rest};
+use run_hall::Hall;
 use run_ledger::RunLedger;
 use shared_board::SharedBoard;
 use std::alloc::Global;
@@ -21,6 +21,7 @@ use std::rt::Clock;
 use std::sync::ledger::{Ledger, Share};
 use std::sync::{MutexGuard, Wait};
 use task_board::BoardFault;
+use waiting::Rest;
 
 /// What a worker's thread hands back: its share of the events, its Putter, and the fault that it met.
 #[derive(Drop)]
@@ -58,12 +59,12 @@ fn let_go<'h, 't, L: RunLedger, M: Ledger>(
 ) {
     let more = board.may_take();
     if !more {
-        hall.workers.want_none();
+        hall.waiting.workers.want_none();
     }
-    let another = more && hall.wants_worker();
-    hall.unlock(board);
+    let another = more && hall.waiting.wants_worker();
+    hall.waiting.unlock(board);
     if another {
-        hall.workers.wake_one();
+        hall.waiting.workers.wake_one();
     }
 }
 
@@ -76,10 +77,17 @@ fn await_news<'h, 't, L: RunLedger, M: Ledger, R: Wait + Clock>(
     had_news: bool,
 ) -> (MutexGuard<'h, SharedBoard<'t, L, M>>, bool) {
     if had_news {
-        hall.unlock(board);
-        return hall.spin(rt, &hall.workers, hall.pace.looks());
+        hall.waiting.unlock(board);
+        return hall.waiting.spin(
+            rt,
+            &hall.board,
+            &hall.waiting.workers,
+            hall.waiting.pace.looks(),
+        );
     }
-    let (board, is_over) = hall.doze(rt, &hall.workers, board, rest.length());
+    let (board, is_over) = hall
+        .waiting
+        .doze(rt, &hall.waiting.workers, board, rest.length());
     if is_over {
         rest.lengthen();
     }
@@ -100,7 +108,12 @@ fn wait_for_task<'t, L: RunLedger, M: Ledger, R: Wait + Clock>(
     ensures part { share.new.parts ≡ 1 }
     ensures game { IsTurnIn session.now result }
 {
-    let (mut board, mut is_news) = hall.spin(rt, &hall.workers, hall.pace.looks());
+    let (mut board, mut is_news) = hall.waiting.spin(
+        rt,
+        &hall.board,
+        &hall.waiting.workers,
+        hall.waiting.pace.looks(),
+    );
     for _ in rt.forever() {
         match board.take(worker, session, share) {
             Ok(Some(task)) => {
@@ -134,13 +147,13 @@ fn tell<'t, L: RunLedger, M: Ledger, R: Wait + Clock>(
     ensures part { share.new.parts ≡ 1 }
     ensures game { IfOk result (λ task. IfSome task (λ t. game_of t ≡ session.now)) }
 {
-    let mut board = hall.lock(rt);
+    let mut board = hall.waiting.lock(rt, &hall.board);
     let taken = board.next(worker, session, told, share);
     let is_idle = matches!(&taken, Ok(None));
-    let shows = board.may_show() && hall.wants_printer(is_idle);
+    let shows = board.may_show() && hall.waiting.wants_printer(is_idle);
     let_go(hall, board);
     if shows {
-        hall.printer.wake_one();
+        hall.waiting.printer.wake_one();
     }
     taken
 }
@@ -272,11 +285,11 @@ pub fn work<'t, L: RunLedger, M: Ledger, G: Gate, R: Wait + Clock>(
                 return hand_back(share, putter, Some(cause));
             }
         };
-        let began = hall.pace.begin(rt, number);
+        let began = hall.waiting.pace.begin(rt, number);
         number = number.wrapping_add(1);
         let worked = work_of(alloc, &mut scratch, session, gate, worker, task);
-        hall.pace.end(rt, began);
-        if !hall.pace.is_short() {
+        hall.waiting.pace.end(rt, began);
+        if !hall.waiting.pace.is_short() {
             rest = Rest::new();
         }
         match worked {

@@ -13,9 +13,14 @@ const EVERY: u32 = 16;
 
 /// What is said of a lock by those who take it and give it up: whether it is held. A try for a held lock takes its memory, and what lies
 /// beside it, from the core of the holder, so the others look here. It is a hint: where it is wrong, the lock is tried a little later.
-#[derive(Drop)]
 pub(crate) struct Held {
     held: Line,
+}
+
+impl Drop for Held {
+    fn drop(self) {
+        let Self { held: _ } = self;
+    }
 }
 
 impl Held {

@@ -9,12 +9,22 @@ use std::time::Duration;
 ///
 /// Whoever makes something possible asks `want_one` under the lock, and calls `wake_one` behind it where that says so. Of those that spin one
 /// takes the news and goes for the lock. A thread that spins looks under the lock in any case before it sleeps, so it need not be woken.
-#[derive(Drop)]
 pub struct Waiters {
     news: Line,
     spinning: Line,
     sleeping: Line,
     moved: Condvar,
+}
+
+impl Drop for Waiters {
+    fn drop(self) {
+        let Self {
+            news: _,
+            spinning: _,
+            sleeping: _,
+            moved: _,
+        } = self;
+    }
 }
 
 impl Waiters {

@@ -2,11 +2,20 @@ use std::sync::atomic::{AtomicU64, Ordering};
 
 /// A number that many threads read and write, with room on both sides: no other one lies on the same line of a cache, so who uses its
 /// neighbours is not disturbed.
-#[derive(Drop)]
 pub(crate) struct Line {
     before: [u64; 8],
     number: AtomicU64,
     behind: [u64; 8],
+}
+
+impl Drop for Line {
+    fn drop(self) {
+        let Self {
+            before: _,
+            number: _,
+            behind: _,
+        } = self;
+    }
 }
 
 impl Line {
