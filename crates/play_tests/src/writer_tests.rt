@@ -2,8 +2,8 @@
 use crate::levels::{WALK, WALK_TEXT};
 use play_run::{Cause, EveryJob, PlayFault, RunFault, run_bytes};
 use std::alloc::Global;
-use std::io::Write;
 use std::io;
+use std::io::Write;
 use std::rt::Clock;
 use std::sync::Wait;
 use std::test::Fail;
