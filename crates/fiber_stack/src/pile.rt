@@ -1,35 +1,29 @@
-ghost use Rattle.std.specs.Prelude.{◌≡◌, ◌≢◌, ◌+◌, ◌-◌, ◌<◌, ◌^◌, ◌%◌, List, [], ◌∷◌, length, MatchResult, MatchOption, IfOk, IsOk};
+ghost use Rattle.std.specs.Prelude.{◌≡◌, ◌≢◌, ◌-◌, ◌<◌, ◌^◌, ◌%◌, List, [], ◌∷◌, length, MatchResult, MatchOption, IfOk, IsOk};
 
 use crate::frame::Frame;
-use crate::link::{Cell, Link};
-use crate::slots::Slots;
 use std::alloc::{AllocError, Allocator};
 use std::marker::Model;
-use std::mem;
 
-/// A stack of plain values, in boxed chunks of eight. Contracts see it as the list of them, the top one first.
+/// A stack of plain values in one block, which grows by at least eight values. Contracts see it as the list of them, the
+/// top one first.
 #[derive(Drop)]
 pub struct Pile<F: Copy, A: Allocator> {
-    top: Link<Slots<F>, A>,
-    // how many of the first chunk's slots are free, the first ones
-    free: u32,
-    depth: u32,
-    alloc: A,
+    values: Vec<F, A>,
 }
 
-/// A stack of open nodes: `T` holds the tree's nodes, and `A` the stack's boxes.
+/// A stack of open nodes: `T` holds the tree's nodes, and `A` the stack's block.
 pub type Stack<'t, T, A> = Pile<Frame<'t, T>, A>;
 
 impl<F: Copy, A: Allocator> Model for Pile<F, A> {
-    ghost use Rattle.std.specs.Prelude.{◌≡◌, ◌+◌, ◌*◌, ◌<◌, List, length};
-    ghost use Rattle.fiber_stack.specs.Links.{elements};
-    ghost use Rattle.fiber_stack.specs.Chunks.{values};
+    ghost use Rattle.std.specs.Prelude.{◌<◌, ◌≤◌, ◌^◌, List, reverse};
+    ghost use Rattle.std.specs.Vec.{vec_len, vec_capacity};
+    ghost use Rattle.fiber_stack.specs.Room.{room_of};
 
     ghost Value = { List F };
 
-    ghost view = { λ s. values s.free (elements s.top) };
+    ghost view = { λ s. reverse s.values.items };
 
-    ghost invariant = { λ s. (s.free < 8) × (s.depth + s.free ≡ 8 * length (elements s.top)) };
+    ghost invariant = { λ s. (vec_len s.values < 2 ^ 32) × (room_of (vec_len s.values) ≤ vec_capacity s.values) };
 }
 
 impl<F: Copy, A: Allocator> Pile<F, A> {
@@ -37,17 +31,14 @@ impl<F: Copy, A: Allocator> Pile<F, A> {
         ensures { result ≡ [] }
     {
         Pile {
-            top: Link::End,
-            free: 0,
-            depth: 0,
-            alloc,
+            values: Vec::new(alloc),
         }
     }
 
     pub fn depth(&self) -> u32
         ensures { result ≡ length self.now }
     {
-        self.depth
+        self.values.len() as u32
     }
 
     /// The value on the top.
@@ -55,31 +46,15 @@ impl<F: Copy, A: Allocator> Pile<F, A> {
     pub fn top(&self) -> Option<&F>
         ensures { MatchOption result (self.now ≡ []) (λ top. (below : List F) × (self.now ≡ top.now ∷ below)) }
     {
-        match &self.top {
-            Link::End => None,
-            Link::More(cell) => Some(cell.element.at(self.free)),
-        }
+        self.values.last()
     }
 
-    /// Takes the value on the top off. A chunk is given back when its last value goes.
+    /// Takes the value on the top off. Its room is kept.
     #[inline(always)]
     pub fn pop(&mut self) -> Option<F>
         ensures { MatchOption result ((self.old ≡ []) × (self.new ≡ [])) (λ top. self.old ≡ top ∷ self.new) }
     {
-        let value = match &self.top {
-            Link::End => return None,
-            Link::More(cell) => *cell.element.at(self.free),
-        };
-        self.depth -= 1;
-        if self.free < 7 {
-            self.free += 1;
-            return Some(value);
-        }
-        if let Some((_, below)) = mem::replace(&mut self.top, Link::End).split() {
-            self.top = below;
-        }
-        self.free = 0;
-        Some(value)
+        self.values.pop()
     }
 
     /// Puts a value in place of the one on the top, and hands that one out.
@@ -88,18 +63,11 @@ impl<F: Copy, A: Allocator> Pile<F, A> {
         ensures { MatchOption result ((self.old ≡ []) × (self.new ≡ []))
             (λ top. (below : List F) × (self.old ≡ top ∷ below) × (self.new ≡ element ∷ below)) }
     {
-        match &mut self.top {
-            Link::End => None,
-            Link::More(cell) => {
-                let value = *cell.element.at(self.free);
-                cell.element.set(self.free, element);
-                Some(value)
-            }
-        }
+        let top = self.values.pop()?;
+        self.values.push_reserved(element);
+        Some(top)
     }
-}
 
-impl<F: Copy, A: Allocator + Clone> Pile<F, A> {
     /// Puts a value on the top. Where memory is refused it is handed back, and the stack is unchanged. It takes memory
     /// only where the depth is a multiple of eight.
     #[inline(always)]
@@ -109,50 +77,20 @@ impl<F: Copy, A: Allocator + Clone> Pile<F, A> {
             (λ refused. (refused ≡ element) × (self.new ≡ self.old)) }
         ensures room { length self.old % 8 ≢ 0 → IsOk result }
     {
-        if self.free > 0 {
-            self.depth += 1;
-            self.free -= 1;
-            if let Link::More(cell) = &mut self.top {
-                cell.element.set(self.free, element);
-            }
-            return Ok(());
-        }
-        let Ok(alloc) = self.alloc.clone() else {
+        if self.values.len() % 8 == 0 && self.values.reserve(8).is_err() {
             return Err(element);
-        };
-        let below = mem::replace(&mut self.top, Link::End);
-        match Box::new(
-            alloc,
-            Cell {
-                element: Slots::of(element),
-                below,
-            },
-        ) {
-            Ok(cell) => {
-                self.top = Link::More(cell);
-                self.free = 7;
-                self.depth += 1;
-                Ok(())
-            }
-            Err(refused) => {
-                let Cell { element: _, below } = refused.value;
-                self.top = below;
-                Err(element)
-            }
         }
+        self.values.push_reserved(element);
+        Ok(())
     }
-}
 
-impl<F: Copy, A: Allocator> Pile<F, A> {
-    /// A copy whose boxes lie in `alloc`.
-    pub fn copy_in<B: Allocator + Clone>(&self, alloc: B) -> Result<Pile<F, B>, AllocError>
+    /// A copy whose block lies in `alloc`.
+    pub fn copy_in<B: Allocator>(&self, alloc: B) -> Result<Pile<F, B>, AllocError>
         ensures { IfOk result (λ copy. copy ≡ self.now) }
     {
-        Ok(Pile {
-            top: self.top.copy_in(&alloc)?,
-            free: self.free,
-            depth: self.depth,
-            alloc,
-        })
+        let room = self.values.len().next_multiple_of(8);
+        let mut values = Vec::with_capacity(alloc, room)?;
+        values.extend_from_slice(&self.values)?;
+        Ok(Pile { values })
     }
 }

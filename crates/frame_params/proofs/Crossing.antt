@@ -3,8 +3,6 @@ use denote.Ref.{NamedLft}
 use denote.Param.Send.{IsSend, IsSync, sendable}
 use Rattle.std.proofs.Crossing.{crosses}
 use Rattle.bt_nodes.proofs.node.Node.TheLaws.TheKnot.{both_send-Node, both_sync-Node, send-Node, sync-Node}
-use Rattle.fiber_stack.proofs.link.Link.TheLaws.TheKnot.{both_send-Link, both_sync-Link, send-Link, sync-Link, both_send-Cell, both_sync-Cell, send-Cell, sync-Cell}
-use Rattle.fiber_stack.proofs.slots.Slots.TheSendSync.{the_send as slots_send, the_sync as slots_sync}
 use Rattle.grid_world.proofs.world.World.TheSendSync.{the_send as world_send, the_sync as world_sync}
 use Rattle.grid_world.proofs.cell.Answer.TheSendSync.{the_send as answer_send, the_sync as answer_sync}
 use Rattle.grid_world.proofs.cell.Intent.TheSendSync.{the_send as intent_send, the_sync as intent_sync}
@@ -36,10 +34,10 @@ use Rattle.frame_params.specs.contracts.slots.Slots as Slots
 
 ruleset of_parts = (world_send, world_sync, answer_send, answer_sync, intent_send, intent_sync, place_send, place_sync, signals_send, signals_sync, script_send, script_sync, memory_send, memory_sync, kept_send, kept_sync, distances_send, distances_sync)
 
-ruleset of_knots = (both_send-Node, both_sync-Node, send-Node, sync-Node, both_send-Link, both_sync-Link, send-Link, sync-Link, both_send-Cell, both_sync-Cell, send-Cell, sync-Cell)
+ruleset of_knots = (both_send-Node, both_sync-Node, send-Node, sync-Node)
 
 -- those of a tick that stands at a question
-ruleset of_ticks = (both_send-Node, both_sync-Node, send-Link, sync-Link, slots_send, slots_sync, send-Node, sync-Node)
+ruleset of_ticks = (both_send-Node, both_sync-Node, send-Node, sync-Node)
 
 pub session : IsSync Session.the_row
 session = search (of_parts, of_knots, sendable, crosses) depth 40

@@ -1,6 +1,5 @@
 pub mod Working
 pub mod Staying
-pub mod Handing
 pub mod Applying
 pub mod Owning
 pub mod Coming

@@ -1,19 +1,23 @@
--- What a worker hands in is one event of its own.
-use Rattle.std.proofs.Common.{ℕ, refl, ⊎_elim}
-use Rattle.job_core.specs.declared.names.JobName.TheVariants.{Logic as LogicJob, Think as ThinkJob, Path as PathJob, Draw as DrawJob}
-use Rattle.job_core.specs.declared.names.Event.TheVariants.{Ask, Spread, Hold, Finish}
+-- What a worker hands in is one event that names a worker.
+use Rattle.std.proofs.Common.{◌≡◌, ℕ, true, refl}
+use Rattle.job_core.specs.declared.names.Event.{Event}
+use Rattle.job_core.specs.declared.names.Event.TheVariants.{Start, Resume, Ask, Spread, Hold, Finish, Emit, Stop}
 use Rattle.frame_params.specs.declared.board_step.BoardStep.{BoardStep}
-use Rattle.frame_params.specs.declared.board_step.BoardStep.TheVariants.{Logic, Think, Path, Draw}
-use Rattle.frame_params.specs.declared.logic_step.LogicStep.TheVariants.{Begins, Turned}
-use Rattle.frame_params.specs.declared.think_step.ThinkStep.TheVariants.{Ended, Asks}
 use Rattle.task_board.specs.Boards.{Played}
 use Rattle.task_board.specs.HandedIn.{IsHandedIn}
+use Rattle.task_board.proofs.Handing.{IsBy, handed_by}
+use Rattle.shared_board.specs.Counts.{names_worker}
 use Rattle.shared_board.specs.Runs.{IsByWorker}
 
+names_one : (w : ℕ) (e : Event) → IsBy w e → names_worker e ≡ true
+names_one w (Start v j) by = refl
+names_one w (Resume v j) by = refl
+names_one w (Ask v j) by = refl
+names_one w (Spread v j) by = refl
+names_one w (Hold v j) by = refl
+names_one w (Finish v j) by = refl
+names_one w (Emit f) by = absurd by
+names_one w Stop by = absurd by
+
 pub by_worker : (old new : Played) (w : ℕ) (step : BoardStep) → IsHandedIn old new w step → IsByWorker old new
-by_worker old new w (Logic Begins) h = ⊎_elim (λ d. (Spread w (LogicJob d.0), d.1, refl)) (λ d. (Hold w (LogicJob d.0), d.1, refl)) h
-by_worker old new w (Logic (Turned turn)) h = (Finish w (LogicJob turn.frame), h, refl)
-by_worker old new w (Think (Ended thought)) h = (Finish w (ThinkJob thought.frame thought.number), h, refl)
-by_worker old new w (Think (Asks parked)) h = (Ask w (ThinkJob parked.frame parked.agent), h, refl)
-by_worker old new w (Path way) h = (Finish w (PathJob way.frame way.agent way.question), h, refl)
-by_worker old new w (Draw mark) h = (Finish w (DrawJob mark.frame mark.number), h, refl)
+by_worker old new w step h = let one = handed_by old new w step h in (one.0, one.1, names_one w one.0 one.2)

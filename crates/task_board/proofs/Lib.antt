@@ -2,5 +2,6 @@ pub mod Boarding
 pub mod Tasked
 pub mod Sized
 pub mod Beginning
+pub mod Handing
 pub mod Idling
 pub mod Crossing

@@ -1,7 +1,7 @@
 use Rattle.std.proofs.Common.{None, is_some}
 use Rattle.std.proofs.lemmas.List.{map-set}
 use Rattle.job_board.proofs.Staying.{has_place, works_after}
-use Rattle.job_board.proofs.Handing.{handed_by}
+use Rattle.task_board.proofs.Handing.{handed_by}
 use Rattle.job_board.proofs.board.Board.hand_in.Goals as goal
 
 pub returns-in-Err-clause-refused : goal.returns-in-Err-clause-refused
