@@ -94,6 +94,25 @@ fn await_news<'h, 't, L: RunLedger, M: Ledger, R: Wait + Clock>(
     (board, !is_over)
 }
 
+// Begins to wait for a task: rests where another worker does more alone, and else looks for news.
+fn begin_to_wait<'h, 't, L: RunLedger, M: Ledger, R: Wait + Clock>(
+    rt: &R,
+    hall: &'h Hall<'t, L, M>,
+    rest: &mut Rest,
+) -> (MutexGuard<'h, SharedBoard<'t, L, M>>, bool) {
+    if hall.waiting.may_rest() {
+        let board = hall.waiting.lock(rt, &hall.board);
+        let rests = hall.waiting.may_rest();
+        return await_news(rt, hall, rest, board, !rests);
+    }
+    hall.waiting.spin(
+        rt,
+        &hall.board,
+        &hall.waiting.workers,
+        hall.waiting.pace.looks(),
+    )
+}
+
 // Waits for a task.
 fn wait_for_task<'t, L: RunLedger, M: Ledger, R: Wait + Clock>(
     rt: &R,
@@ -108,12 +127,7 @@ fn wait_for_task<'t, L: RunLedger, M: Ledger, R: Wait + Clock>(
     ensures part { share.new.parts ≡ 1 }
     ensures game { IsTurnIn session.now result }
 {
-    let (mut board, mut is_news) = hall.waiting.spin(
-        rt,
-        &hall.board,
-        &hall.waiting.workers,
-        hall.waiting.pace.looks(),
-    );
+    let (mut board, mut is_news) = begin_to_wait(rt, hall, rest);
     for _ in rt.forever() {
         match board.take(worker, session, share) {
             Ok(Some(task)) => {
@@ -132,6 +146,28 @@ fn wait_for_task<'t, L: RunLedger, M: Ledger, R: Wait + Clock>(
     unreachable!()
 }
 
+// Hands in what a worker's work came to, and takes its next task unless it may rest.
+fn hand_in_and_take<'t, L: RunLedger, M: Ledger>(
+    board: &mut SharedBoard<'t, L, M>,
+    session: &Session,
+    worker: u32,
+    told: BoardStep<'t>,
+    rests: bool,
+    share: &mut Share<L>,
+) -> Result<Option<Task<'t>>, BoardFault>
+    requires run { L.game ≡ Some session.now }
+    requires own { IsToldIn session.now told }
+    requires part { share.old.parts ≡ 1 }
+    ensures part { share.new.parts ≡ 1 }
+    ensures game { IfOk result (λ task. IfSome task (λ t. game_of t ≡ session.now)) }
+{
+    if rests {
+        board.hand_in(worker, session, told, share)?;
+        return Ok(None);
+    }
+    board.next(worker, session, told, share)
+}
+
 // Tells the board what a worker's work came to and takes the next task, in one hold of the lock. Whoever may go on now is woken.
 fn tell<'t, L: RunLedger, M: Ledger, R: Wait + Clock>(
     rt: &R,
@@ -148,7 +184,8 @@ fn tell<'t, L: RunLedger, M: Ledger, R: Wait + Clock>(
     ensures game { IfOk result (λ task. IfSome task (λ t. game_of t ≡ session.now)) }
 {
     let mut board = hall.waiting.lock(rt, &hall.board);
-    let taken = board.next(worker, session, told, share);
+    let rests = hall.waiting.may_rest();
+    let taken = hand_in_and_take(&mut board, session, worker, told, rests, share);
     let is_idle = matches!(&taken, Ok(None));
     let shows = board.may_show() && hall.waiting.wants_printer(is_idle);
     let_go(hall, board);
@@ -158,7 +195,7 @@ fn tell<'t, L: RunLedger, M: Ledger, R: Wait + Clock>(
     taken
 }
 
-// Tells the board what a worker's work came to and takes the next task; where there is none, waits for it.
+// Tells the board what a worker's work came to and takes the next task; where there is none, or the worker rests, waits for it.
 fn next_turn<'t, L: RunLedger, M: Ledger, R: Wait + Clock>(
     rt: &R,
     session: &Session,

@@ -5,6 +5,9 @@ use std::time::Instant;
 // Work that is shorter is over before a thread that is woken for it has come: nanoseconds.
 const SHORT: u64 = 3_000;
 
+// Work that is shorter takes less than to move what the lock guards from one processor to another: nanoseconds.
+const BRIEF: u64 = 1_000;
+
 // Of how many tasks one is measured.
 const EVERY: u64 = 8;
 
@@ -42,6 +45,11 @@ impl Pace {
     /// Whether the work of a task is over so soon that whoever is at work had better do the next one too.
     pub fn is_short(&self) -> bool {
         self.nanos.load() < SHORT
+    }
+
+    /// Whether the work of a task is over so soon that one worker alone does more than several, who take turns at the lock.
+    pub fn is_brief(&self) -> bool {
+        self.nanos.load() < BRIEF
     }
 
     /// How often an idle worker looks for a task before it sleeps.

@@ -84,6 +84,12 @@ impl Waiting {
         self.workers.want_one()
     }
 
+    /// Whether a worker had better rest than take a task: the work is brief, and another worker is awake. Under the lock it
+    /// is exact, so the last worker that is awake goes on.
+    pub fn may_rest(&self) -> bool {
+        self.pace.is_brief() && self.workers.sleepers() < u64::from(self.count).saturating_sub(1)
+    }
+
     /// Whether to wake the printer for a frame that could be shown now. Called under the lock. Where the work is short, a
     /// worker goes on first while it has a task.
     pub fn wants_printer(&self, is_idle: bool) -> bool {
