@@ -16,6 +16,7 @@ use std::rt::Clock;
 use std::sync::Wait;
 use std::sync::ledger::{Ledger, Share};
 use task_board::Settings;
+use waiting::Rest;
 
 /// Shows and writes all frames in order, and flushes. At a fault it stops the board.
 pub fn print<'t, W: Write, L: RunLedger, M: Ledger, R: Wait + Clock>(
@@ -38,8 +39,9 @@ pub fn print<'t, W: Write, L: RunLedger, M: Ledger, R: Wait + Clock>(
     ensures err { IfErr result (λ e. WrotePart (W.contents out.old) (W.contents out.new) session.now settings.frames e.frames) }
 {
     let last = settings.frames();
+    let mut rest = Rest::new();
     'shows: for done in 0..last {
-        let text = match next_text(rt, alloc, session, settings, hall, emits, inbox) {
+        let text = match next_text(rt, alloc, session, settings, hall, &mut rest, emits, inbox) {
             Ok(text) => text,
             Err(cause) => {
                 hall.stop(rt);

@@ -14,9 +14,6 @@ use std::sync::{MutexGuard, Wait};
 use task_board::{BoardFault, Settings, Shown};
 use waiting::Rest;
 
-// How often the printer looks for a frame before it sleeps: a microsecond, for the workers may want its core.
-const LOOKS: u32 = 100;
-
 // Waits until the next frame may be there. Where the mail has bands they are taken in place of sleeping, so a worker that finds no room there
 // is never left waiting.
 fn wait_for_frame<'m, 't, L: RunLedger, M: Ledger, R: Wait + Clock>(
@@ -40,9 +37,7 @@ fn wait_for_frame<'m, 't, L: RunLedger, M: Ledger, R: Wait + Clock>(
     }
     hall.waiting.unlock(board);
     inbox.take_all(rt, hall);
-    let (board, _) = hall
-        .waiting
-        .spin(rt, &hall.board, &hall.waiting.printer, LOOKS);
+    let board = hall.waiting.lock(rt, &hall.board);
     if hall.waiting.room.any_asleep() {
         hall.waiting.room.wake_all();
     }
@@ -56,6 +51,7 @@ fn emit<'t, L: RunLedger, M: Ledger, R: Wait + Clock>(
     session: &Session,
     settings: Settings,
     hall: &Hall<'t, L, M>,
+    rest: &mut Rest,
     emits: &mut Share<M>,
     inbox: &mut Inbox<'t, L>,
 ) -> Result<Shown<'t>, Cause>
@@ -68,14 +64,19 @@ fn emit<'t, L: RunLedger, M: Ledger, R: Wait + Clock>(
     ensures game { IfOk result (λ shown. shown.game ≡ session.now) }
     ensures inbox { inbox.new.taker.mail ≡ hall.now.mail }
 {
-    let mut rest = Rest::new();
     let (mut board, _) = hall
         .waiting
-        .spin(rt, &hall.board, &hall.waiting.printer, LOOKS);
+        .look_for_frame(rt, &hall.board, &mut rest.patience);
     for _ in rt.forever() {
         match board.emit(session, settings, emits) {
             Ok(shown) => {
+                rest.shorten();
                 let is_done = board.is_done();
+                if board.may_show() {
+                    hall.waiting.printer.tell_one();
+                } else {
+                    hall.waiting.printer.want_none();
+                }
                 let another = board.may_take() && hall.waiting.wants_worker();
                 hall.waiting.unlock(board);
                 if is_done {
@@ -86,7 +87,7 @@ fn emit<'t, L: RunLedger, M: Ledger, R: Wait + Clock>(
                 }
                 return Ok(shown);
             }
-            Err(BoardFault::Illegal) => board = wait_for_frame(rt, hall, inbox, &mut rest, board),
+            Err(BoardFault::Illegal) => board = wait_for_frame(rt, hall, inbox, rest, board),
             Err(BoardFault::OutOfMemory) => return Err(Cause::OutOfMemory),
             Err(_) => return Err(Cause::Stranger),
         }
@@ -102,6 +103,7 @@ pub fn next_text<'t, L: RunLedger, M: Ledger, R: Wait + Clock>(
     session: &Session,
     settings: Settings,
     hall: &Hall<'t, L, M>,
+    rest: &mut Rest,
     emits: &mut Share<M>,
     inbox: &mut Inbox<'t, L>,
 ) -> Result<Vec<u8>, Cause>
@@ -113,7 +115,7 @@ pub fn next_text<'t, L: RunLedger, M: Ledger, R: Wait + Clock>(
     ensures text { IfOk result (λ text. text.items ≡ frame_text session.now (emits.old.amount + 1)) }
     ensures inbox { inbox.new.taker.mail ≡ hall.now.mail }
 {
-    let shown = match emit(rt, session, settings, hall, emits, inbox) {
+    let shown = match emit(rt, session, settings, hall, rest, emits, inbox) {
         Ok(shown) => shown,
         Err(cause) => return Err(cause),
     };

@@ -1,9 +1,8 @@
-ghost use Rattle.std.specs.Prelude.{◌≡◌, IfOk, IfSome, Some};
-ghost use Rattle.game_rules.specs.Game.{Game};
+ghost use Rattle.std.specs.Prelude.{◌≡◌, IfOk, Some};
 ghost use Rattle.band_mail.specs.Mails.{IsPutterOf};
 ghost use Rattle.frame_params.specs.BoardSteps.{IsToldIn};
 ghost use Rattle.frame_params.specs.Tasks.{game_of};
-ghost use Rattle.run_worker.specs.Turns.{IsTurnIn, IsWorkIn};
+ghost use Rattle.run_worker.specs.Own.{IsNextIn, IsWorkIn};
 
 use crate::gate::Gate;
 use crate::putting::put_band;
@@ -32,23 +31,12 @@ pub struct Worked<'t, L: RunLedger> {
     pub ghost one_part: { share.parts ≡ 1 },
 }
 
-/// What a worker does next.
-#[derive(Drop)]
-pub enum Turn<'t> {
-    Task(Task<'t>),
-    /// The board is done or stopped.
-    Over,
-    Fault(Cause),
-}
-
-// What a refused call makes of a worker.
-fn turn_of<'t>(fault: BoardFault) -> Turn<'t>
-    ensures { (g : Game) → IsTurnIn g result }
-{
+// What a refused call makes of a worker: nothing is wrong where the board is stopped.
+fn end_of(fault: BoardFault) -> Result<(), Cause> {
     match fault {
-        BoardFault::Stopped => Turn::Over,
-        BoardFault::OutOfMemory => Turn::Fault(Cause::OutOfMemory),
-        _ => Turn::Fault(Cause::Stranger),
+        BoardFault::Stopped => Ok(()),
+        BoardFault::OutOfMemory => Err(Cause::OutOfMemory),
+        _ => Err(Cause::Stranger),
     }
 }
 
@@ -78,12 +66,9 @@ fn await_news<'h, 't, L: RunLedger, M: Ledger, R: Wait + Clock>(
 ) -> (MutexGuard<'h, SharedBoard<'t, L, M>>, bool) {
     if had_news {
         hall.waiting.unlock(board);
-        return hall.waiting.spin(
-            rt,
-            &hall.board,
-            &hall.waiting.workers,
-            hall.waiting.pace.looks(),
-        );
+        return hall
+            .waiting
+            .look_for_task(rt, &hall.board, &mut rest.patience);
     }
     let (board, is_over) = hall
         .waiting
@@ -100,20 +85,17 @@ fn begin_to_wait<'h, 't, L: RunLedger, M: Ledger, R: Wait + Clock>(
     hall: &'h Hall<'t, L, M>,
     rest: &mut Rest,
 ) -> (MutexGuard<'h, SharedBoard<'t, L, M>>, bool) {
-    if hall.waiting.may_rest() {
-        let board = hall.waiting.lock(rt, &hall.board);
-        let rests = hall.waiting.may_rest();
-        return await_news(rt, hall, rest, board, !rests);
+    if !hall.waiting.may_rest() {
+        return hall
+            .waiting
+            .look_for_task(rt, &hall.board, &mut rest.patience);
     }
-    hall.waiting.spin(
-        rt,
-        &hall.board,
-        &hall.waiting.workers,
-        hall.waiting.pace.looks(),
-    )
+    let board = hall.waiting.lock(rt, &hall.board);
+    let rests = hall.waiting.may_rest();
+    await_news(rt, hall, rest, board, !rests)
 }
 
-// Waits for a task.
+// Waits for a task. There is none where the board is done or stopped.
 fn wait_for_task<'t, L: RunLedger, M: Ledger, R: Wait + Clock>(
     rt: &R,
     session: &Session,
@@ -121,32 +103,35 @@ fn wait_for_task<'t, L: RunLedger, M: Ledger, R: Wait + Clock>(
     worker: u32,
     rest: &mut Rest,
     share: &mut Share<L>,
-) -> Turn<'t>
+    next: &mut Option<Task<'t>>,
+) -> Result<(), Cause>
     requires run { L.game ≡ Some session.now }
     requires part { share.old.parts ≡ 1 }
+    requires next { IsNextIn session.now next.old }
     ensures part { share.new.parts ≡ 1 }
-    ensures game { IsTurnIn session.now result }
+    ensures next { IsNextIn session.now next.new }
 {
     let (mut board, mut is_news) = begin_to_wait(rt, hall, rest);
     for _ in rt.forever() {
         match board.take(worker, session, share) {
             Ok(Some(task)) => {
+                *next = Some(task);
                 let_go(hall, board);
-                return Turn::Task(task);
+                return Ok(());
             }
             Ok(None) => {
                 if board.is_done() {
-                    return Turn::Over;
+                    return Ok(());
                 }
                 (board, is_news) = await_news(rt, hall, rest, board, is_news);
             }
-            Err(fault) => return turn_of(fault),
+            Err(fault) => return end_of(fault),
         }
     }
     unreachable!()
 }
 
-// Hands in what a worker's work came to, and takes its next task unless it may rest.
+// Hands in what a worker's work came to, and takes its next task unless it may rest. Whether there is one.
 fn hand_in_and_take<'t, L: RunLedger, M: Ledger>(
     board: &mut SharedBoard<'t, L, M>,
     session: &Session,
@@ -154,21 +139,25 @@ fn hand_in_and_take<'t, L: RunLedger, M: Ledger>(
     told: BoardStep<'t>,
     rests: bool,
     share: &mut Share<L>,
-) -> Result<Option<Task<'t>>, BoardFault>
+    next: &mut Option<Task<'t>>,
+) -> Result<bool, BoardFault>
     requires run { L.game ≡ Some session.now }
     requires own { IsToldIn session.now told }
     requires part { share.old.parts ≡ 1 }
+    requires next { IsNextIn session.now next.old }
     ensures part { share.new.parts ≡ 1 }
-    ensures game { IfOk result (λ task. IfSome task (λ t. game_of t ≡ session.now)) }
+    ensures next { IsNextIn session.now next.new }
 {
     if rests {
         board.hand_in(worker, session, told, share)?;
-        return Ok(None);
+        return Ok(false);
     }
-    board.next(worker, session, told, share)
+    *next = board.next(worker, session, told, share)?;
+    Ok(next.is_some())
 }
 
-// Tells the board what a worker's work came to and takes the next task, in one hold of the lock. Whoever may go on now is woken.
+// Tells the board what a worker's work came to and takes the next task, in one hold of the lock. Whether there is one. Whoever may go on now
+// is woken.
 fn tell<'t, L: RunLedger, M: Ledger, R: Wait + Clock>(
     rt: &R,
     session: &Session,
@@ -176,27 +165,29 @@ fn tell<'t, L: RunLedger, M: Ledger, R: Wait + Clock>(
     worker: u32,
     told: BoardStep<'t>,
     share: &mut Share<L>,
-) -> Result<Option<Task<'t>>, BoardFault>
+    next: &mut Option<Task<'t>>,
+) -> Result<bool, BoardFault>
     requires run { L.game ≡ Some session.now }
     requires own { IsToldIn session.now told }
     requires part { share.old.parts ≡ 1 }
+    requires next { IsNextIn session.now next.old }
     ensures part { share.new.parts ≡ 1 }
-    ensures game { IfOk result (λ task. IfSome task (λ t. game_of t ≡ session.now)) }
+    ensures next { IsNextIn session.now next.new }
 {
     let mut board = hall.waiting.lock(rt, &hall.board);
     let rests = hall.waiting.may_rest();
-    let taken = hand_in_and_take(&mut board, session, worker, told, rests, share);
-    let is_idle = matches!(&taken, Ok(None));
+    let is_given = hand_in_and_take(&mut board, session, worker, told, rests, share, next);
+    let is_idle = matches!(is_given, Ok(false));
     let shows = board.may_show() && hall.waiting.wants_printer(is_idle);
     let_go(hall, board);
     if shows {
         hall.waiting.printer.wake_one();
     }
-    taken
+    is_given
 }
 
 // Tells the board what a worker's work came to and takes the next task; where there is none, or the worker rests, waits for it.
-fn next_turn<'t, L: RunLedger, M: Ledger, R: Wait + Clock>(
+fn go_on<'t, L: RunLedger, M: Ledger, R: Wait + Clock>(
     rt: &R,
     session: &Session,
     hall: &Hall<'t, L, M>,
@@ -204,21 +195,24 @@ fn next_turn<'t, L: RunLedger, M: Ledger, R: Wait + Clock>(
     told: BoardStep<'t>,
     rest: &mut Rest,
     share: &mut Share<L>,
-) -> Turn<'t>
+    next: &mut Option<Task<'t>>,
+) -> Result<(), Cause>
     requires run { L.game ≡ Some session.now }
     requires own { IsToldIn session.now told }
     requires part { share.old.parts ≡ 1 }
+    requires next { IsNextIn session.now next.old }
     ensures part { share.new.parts ≡ 1 }
-    ensures game { IsTurnIn session.now result }
+    ensures next { IsNextIn session.now next.new }
 {
-    match tell(rt, session, hall, worker, told, share) {
-        Ok(Some(task)) => Turn::Task(task),
-        Ok(None) => wait_for_task(rt, session, hall, worker, rest, share),
-        Err(fault) => turn_of(fault),
+    match tell(rt, session, hall, worker, told, share, next) {
+        Ok(true) => Ok(()),
+        Ok(false) => wait_for_task(rt, session, hall, worker, rest, share, next),
+        Err(fault) => end_of(fault),
     }
 }
 
-// Delivers what a worker's work came to, its band first, so that all bands of a frame are in the mail before its last Draw is finished.
+// Delivers what a worker's work came to, its band first, so that all bands of a frame are in the mail before its last Draw is finished. There
+// is no next task where the board is done or stopped.
 fn deliver<'t, L: RunLedger, M: Ledger, R: Wait + Clock>(
     rt: &R,
     session: &Session,
@@ -228,14 +222,16 @@ fn deliver<'t, L: RunLedger, M: Ledger, R: Wait + Clock>(
     rest: &mut Rest,
     share: &mut Share<L>,
     putter: &mut Putter<RunBand<'t, L>>,
-) -> Turn<'t>
+    next: &mut Option<Task<'t>>,
+) -> Result<(), Cause>
     requires run { L.game ≡ Some session.now }
     requires own { IsWorkIn session.now step }
     requires part { share.old.parts ≡ 1 }
     requires putter { IsPutterOf hall.now.mail putter.old }
+    requires next { IsNextIn session.now next.old }
     ensures part { share.new.parts ≡ 1 }
     ensures putter { IsPutterOf hall.now.mail putter.new × (putter.new.worker ≡ putter.old.worker) }
-    ensures game { IsTurnIn session.now result }
+    ensures next { IsNextIn session.now next.new }
 {
     let (told, band) = step.deliver();
     let is_out = match band {
@@ -243,22 +239,22 @@ fn deliver<'t, L: RunLedger, M: Ledger, R: Wait + Clock>(
         None => true,
     };
     if is_out {
-        next_turn(rt, session, hall, worker, told, rest, share)
+        go_on(rt, session, hall, worker, told, rest, share, next)
     } else {
-        Turn::Over
+        Ok(())
     }
 }
 
-// The work of a task, between the two questions to the gate. The task is let go with the lock free.
+// The work of a task, between the two questions to the gate.
 fn work_of<'t, G: Gate>(
     alloc: Global,
     scratch: &mut Scratch,
     session: &Session,
     gate: &G,
     worker: u32,
-    task: Task<'t>,
+    task: &Task<'t>,
 ) -> Result<Step<'t>, Cause>
-    requires { game_of task ≡ session.now }
+    requires { game_of task.now ≡ session.now }
     ensures { IfOk result (IsWorkIn session.now) }
 {
     let _ = session;
@@ -266,7 +262,7 @@ fn work_of<'t, G: Gate>(
     if !gate.pass(worker, job, false) {
         return Err(Cause::GateClosed);
     }
-    let step = match scratch.work(alloc, &task) {
+    let step = match scratch.work(alloc, task) {
         Ok(step) => step,
         Err(_) => return Err(Cause::OutOfMemory),
     };
@@ -312,41 +308,39 @@ pub fn work<'t, L: RunLedger, M: Ledger, G: Gate, R: Wait + Clock>(
     let mut scratch = Scratch::new(alloc);
     let mut rest = Rest::new();
     let mut number = 0u64;
-    let mut turn = wait_for_task(rt, session, hall, worker, &mut rest, &mut share);
+    let mut next = None;
+    let mut went = wait_for_task(rt, session, hall, worker, &mut rest, &mut share, &mut next);
     for _ in rt.forever() {
-        let task = match turn {
-            Turn::Task(task) => task,
-            Turn::Over => return hand_back(share, putter, None),
-            Turn::Fault(cause) => {
-                hall.stop(rt);
-                return hand_back(share, putter, Some(cause));
-            }
+        if let Err(cause) = went {
+            hall.stop(rt);
+            return hand_back(share, putter, Some(cause));
+        }
+        let Some(task) = &next else {
+            return hand_back(share, putter, None);
         };
         let began = hall.waiting.pace.begin(rt, number);
         number = number.wrapping_add(1);
         let worked = work_of(alloc, &mut scratch, session, gate, worker, task);
         hall.waiting.pace.end(rt, began);
-        if !hall.waiting.pace.is_short() {
-            rest = Rest::new();
+        // It is let go with the lock free.
+        next = None;
+        if !hall.waiting.pace.is_brief() {
+            rest.shorten();
         }
-        match worked {
-            Ok(step) => {
-                turn = deliver(
-                    rt,
-                    session,
-                    hall,
-                    worker,
-                    step,
-                    &mut rest,
-                    &mut share,
-                    &mut putter,
-                );
-            }
-            Err(cause) => {
-                hall.stop(rt);
-                return hand_back(share, putter, Some(cause));
-            }
-        }
+        went = match worked {
+            Ok(step) => deliver(
+                rt,
+                session,
+                hall,
+                worker,
+                step,
+                &mut rest,
+                &mut share,
+                &mut putter,
+                &mut next,
+            ),
+            Err(cause) => Err(cause),
+        };
     }
     unreachable!()
 }

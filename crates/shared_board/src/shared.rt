@@ -64,14 +64,11 @@ impl<'t, L: RunLedger, M: Ledger> SharedBoard<'t, L, M> {
         ensures game { IfOk result (λ t. IfSome t (λ task. game_of task ≡ session.now)) }
     {
         let _ = session;
-        match self.board.take(worker) {
-            Ok(Some(task)) => {
-                self.named.add(mine, 1);
-                Ok(Some(task))
-            }
-            Ok(None) => Ok(None),
-            Err(fault) => Err(fault),
+        let taken = self.board.take(worker);
+        if let Ok(Some(_)) = &taken {
+            self.named.add(mine, 1);
         }
+        taken
     }
 
     /// Hands in what the work of a worker's job came to. At a Logic's beginning its thinks are spread, or it holds where

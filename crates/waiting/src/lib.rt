@@ -1,14 +1,17 @@
 //! Threads that wait: for a lock, and for something to do under it.
 #![tactic(auto)]
 
+mod elapsed;
 mod line;
 mod lock;
 mod pace;
+mod patience;
 mod rest;
 mod waiters;
 mod waiting;
 
 pub use pace::Pace;
+pub use patience::Patience;
 pub use rest::Rest;
 pub use waiters::Waiters;
 pub use waiting::Waiting;

@@ -1,29 +1,33 @@
+use crate::elapsed::nanos_since;
 use crate::line::Line;
+use crate::patience::Patience;
 use std::rt::Clock;
 use std::time::Instant;
-
-// Work that is shorter is over before a thread that is woken for it has come: nanoseconds.
-const SHORT: u64 = 3_000;
 
 // Work that is shorter takes less than to move what the lock guards from one processor to another: nanoseconds.
 const BRIEF: u64 = 1_000;
 
+// What work is taken for at first: nanoseconds.
+const FIRST: u64 = 12_000;
+
+// How long an idle worker looks for a task where several workers do more than one: nanoseconds. In most levels it is longer than what one
+// job has to end before many others begin.
+const LONG: u64 = 50_000;
+
 // Of how many tasks one is measured.
 const EVERY: u64 = 8;
 
-// How often an idle thread looks for news before it sleeps: a microsecond where work is short, and else some twenty, which is less than to be
-// woken twice.
-const FEW_LOOKS: u32 = 100;
-
-const MANY_LOOKS: u32 = 3_000;
-
-// What was known counts fifteen times, and what is new once.
+// A step towards what is new, of a sixteenth: so it comes to where half of the tasks take longer, however long the longest of them took.
 fn lately(old: u64, new: u64) -> u64 {
-    old.saturating_mul(15).saturating_add(new) / 16
+    if new > old {
+        old.saturating_add(old / 16).saturating_add(1)
+    } else {
+        old - old / 16
+    }
 }
 
-/// How long the work of a task takes of late. It says whether a worker is worth waking for a task, and nothing else: what
-/// a run writes depends on no clock.
+/// How long the work of a task takes of late: half of them take longer. It says whether several workers do more than one, and nothing else: what a
+/// run writes depends on no clock.
 pub struct Pace {
     nanos: Line,
 }
@@ -35,16 +39,11 @@ impl Drop for Pace {
 }
 
 impl Pace {
-    /// Work is taken for long until enough of it was short.
+    /// Work is taken for long until enough of it was brief.
     pub fn new() -> Pace {
         Pace {
-            nanos: Line::new(4 * SHORT),
+            nanos: Line::new(FIRST),
         }
-    }
-
-    /// Whether the work of a task is over so soon that whoever is at work had better do the next one too.
-    pub fn is_short(&self) -> bool {
-        self.nanos.load() < SHORT
     }
 
     /// Whether the work of a task is over so soon that one worker alone does more than several, who take turns at the lock.
@@ -52,12 +51,12 @@ impl Pace {
         self.nanos.load() < BRIEF
     }
 
-    /// How often an idle worker looks for a task before it sleeps.
-    pub fn looks(&self) -> u32 {
-        if self.is_short() {
-            FEW_LOOKS
+    /// How long an idle worker looks for a task before it sleeps, in nanoseconds.
+    pub fn looks(&self, patience: &Patience) -> u64 {
+        if self.is_brief() {
+            patience.length()
         } else {
-            MANY_LOOKS
+            LONG
         }
     }
 
@@ -74,11 +73,10 @@ impl Pace {
         let Some(began) = began else {
             return;
         };
-        let Ok(took) = began.elapsed(clock) else {
+        let Some(new) = nanos_since(clock, began) else {
             return;
         };
         let old = self.nanos.load();
-        let new = u64::try_from(took.as_nanos()).unwrap_or(u64::MAX);
         self.nanos.store(lately(old, new));
     }
 }

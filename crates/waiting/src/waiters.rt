@@ -1,9 +1,17 @@
+use crate::elapsed::nanos_since;
 use crate::line::Line;
 use crate::lock::{Held, lock_soon};
+use crate::patience::Patience;
 use std::hint;
 use std::rt::Clock;
 use std::sync::{Condvar, Mutex, MutexGuard, Wait};
-use std::time::Duration;
+use std::time::{Duration, Instant};
+
+// How often a thread looks for news at most, whatever the clock says.
+const LOOKS: u32 = 1_000_000;
+
+// Of how many looks one is at the clock too.
+const EVERY: u32 = 16;
 
 /// Threads that wait for something to do under a lock. Each spins a short while and then sleeps.
 ///
@@ -37,28 +45,45 @@ impl Waiters {
         }
     }
 
-    /// Looks for news, so often at most, and takes the lock. Whether there were any.
-    pub(crate) fn spin<'m, T, R: Wait>(
+    /// Looks for news, for so many nanoseconds, and takes the lock. Whether there were any.
+    pub(crate) fn spin<'m, T, R: Wait + Clock>(
         &self,
         rt: &R,
         lock: &'m Mutex<T>,
         held: &Held,
-        looks: u32,
+        patience: &mut Patience,
+        nanos: u64,
     ) -> (MutexGuard<'m, T>, bool) {
         self.spinning.add_one();
-        let is_news = self.look(looks);
+        let is_news = self.take_news() || self.wait_for_news(rt, patience, nanos);
         let guard = lock_soon(rt, lock, held);
         self.spinning.take_one();
         (guard, is_news)
     }
 
-    // Looks for news and takes them, so that nobody else goes for the lock for the same.
-    fn look(&self, looks: u32) -> bool {
-        for _ in 0..looks {
-            if self.news.load() != 0 && self.news.swap(0) != 0 {
+    // Takes the news, if there are any, so that nobody else goes for the lock for the same.
+    fn take_news(&self) -> bool {
+        self.news.load() != 0 && self.news.swap(0) != 0
+    }
+
+    fn wait_for_news<C: Clock>(&self, clock: &C, patience: &mut Patience, nanos: u64) -> bool {
+        let is_news = self.look(clock, nanos);
+        patience.learn(is_news);
+        is_news
+    }
+
+    fn look<C: Clock>(&self, clock: &C, nanos: u64) -> bool {
+        let Ok(began) = Instant::now(clock) else {
+            return false;
+        };
+        for number in 1..=LOOKS {
+            if self.take_news() {
                 return true;
             }
             hint::spin_loop();
+            if number % EVERY == 0 && nanos_since(clock, began).unwrap_or(nanos) >= nanos {
+                return false;
+            }
         }
         false
     }
@@ -92,11 +117,16 @@ impl Waiters {
         self.sleeping.load()
     }
 
-    /// Tells one of those that spin of something to do. Whether one that sleeps is to be woken. Called under the lock.
-    pub fn want_one(&self) -> bool {
+    /// Tells one of those that look for news of something to do. Called under the lock.
+    pub fn tell_one(&self) {
         if self.news.load() == 0 {
             self.news.store(1);
         }
+    }
+
+    /// Tells one of something to do. Whether one that sleeps is to be woken. Called under the lock.
+    pub fn want_one(&self) -> bool {
+        self.tell_one();
         self.spinning.load() == 0 && self.any_asleep()
     }
 

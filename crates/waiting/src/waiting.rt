@@ -1,5 +1,6 @@
 use crate::lock::{Held, lock_soon};
 use crate::pace::Pace;
+use crate::patience::Patience;
 use crate::waiters::Waiters;
 use std::rt::Clock;
 use std::sync::{Mutex, MutexGuard, Wait};
@@ -53,15 +54,26 @@ impl Waiting {
         drop(guard);
     }
 
-    /// Looks for news of these waiters, so often at most, and takes the lock. Whether there were any.
-    pub fn spin<'m, T, R: Wait>(
+    /// Looks for news of a task, and takes the lock. Whether there were any.
+    pub fn look_for_task<'m, T, R: Wait + Clock>(
         &self,
         rt: &R,
         lock: &'m Mutex<T>,
-        waiters: &Waiters,
-        looks: u32,
+        patience: &mut Patience,
     ) -> (MutexGuard<'m, T>, bool) {
-        waiters.spin(rt, lock, &self.held, looks)
+        let nanos = self.pace.looks(patience);
+        self.workers.spin(rt, lock, &self.held, patience, nanos)
+    }
+
+    /// Looks for news of a frame to show, and takes the lock. Whether there were any.
+    pub fn look_for_frame<'m, T, R: Wait + Clock>(
+        &self,
+        rt: &R,
+        lock: &'m Mutex<T>,
+        patience: &mut Patience,
+    ) -> (MutexGuard<'m, T>, bool) {
+        let nanos = patience.length();
+        self.printer.spin(rt, lock, &self.held, patience, nanos)
     }
 
     /// Gives the lock up and sleeps among these waiters until it is woken, for a while at most. Whether the while is over.
@@ -75,10 +87,10 @@ impl Waiting {
         waiters.doze(rt, guard, &self.held, most)
     }
 
-    /// Whether to wake a worker for a task that could be taken now. Called under the lock. Where the work is short, a worker
+    /// Whether to wake a worker for a task that could be taken now. Called under the lock. Where the work is brief, a worker
     /// that is awake takes it sooner.
     pub fn wants_worker(&self) -> bool {
-        if self.pace.is_short() && self.workers.sleepers() < u64::from(self.count) {
+        if self.pace.is_brief() && self.workers.sleepers() < u64::from(self.count) {
             return false;
         }
         self.workers.want_one()
@@ -90,10 +102,11 @@ impl Waiting {
         self.pace.is_brief() && self.workers.sleepers() < u64::from(self.count).saturating_sub(1)
     }
 
-    /// Whether to wake the printer for a frame that could be shown now. Called under the lock. Where the work is short, a
+    /// Whether to wake the printer for a frame that could be shown now. Called under the lock. Where the work is brief, a
     /// worker goes on first while it has a task.
     pub fn wants_printer(&self, is_idle: bool) -> bool {
-        if self.pace.is_short() && !is_idle {
+        if self.pace.is_brief() && !is_idle {
+            self.printer.tell_one();
             return false;
         }
         self.printer.want_one()
