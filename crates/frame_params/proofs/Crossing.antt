@@ -16,6 +16,11 @@ use Rattle.game_session.specs.contracts.session.Session as Session
 use Rattle.std.specs.contracts.alloc.Global as Global
 use Rattle.std_heap.specs.contracts.GlobalAllocator.TheImpl.{ghosts}
 use Rattle.bt_tick.specs.contracts.tick.Pending as Pending
+use Rattle.frame_params.specs.contracts.place_distances.PlaceDistances as PlaceDistances
+use Rattle.frame_params.specs.contracts.kept_distances.KeptDistances as KeptDistances
+use Rattle.frame_params.specs.contracts.known.Known as Known
+use Rattle.frame_params.specs.contracts.frame_start.FrameStart as FrameStart
+use Rattle.frame_params.specs.contracts.gathered.Gathered as Gathered
 use Rattle.frame_params.specs.contracts.way.Way as Way
 use Rattle.frame_params.specs.contracts.parked.Parked as Parked
 use Rattle.frame_params.specs.contracts.thought.Thought as Thought
@@ -42,16 +47,42 @@ ruleset of_ticks = (both_send-Node, both_sync-Node, send-Node, sync-Node)
 pub session : IsSync Session.the_row
 session = search (of_parts, of_knots, sendable, crosses) depth 40
 
+-- ---- what tasks and results share
+
+pub place_distances_send : (κ : NamedLft) → IsSend (PlaceDistances.the_row κ)
+place_distances_send κ = search (session, of_parts, sendable, crosses) depth 40
+
+pub place_distances_sync : (κ : NamedLft) → IsSync (PlaceDistances.the_row κ)
+place_distances_sync κ = search (session, of_parts, sendable, crosses) depth 40
+
+pub kept_distances_send : (κ : NamedLft) → IsSend (KeptDistances.the_row κ)
+kept_distances_send κ = search (place_distances_send, place_distances_sync, sendable, crosses) depth 40
+
+pub kept_distances_sync : (κ : NamedLft) → IsSync (KeptDistances.the_row κ)
+kept_distances_sync κ = search (place_distances_send, place_distances_sync, sendable, crosses) depth 40
+
+pub known : (κ : NamedLft) → IsSend (Known.the_row κ)
+known κ = search (session, of_parts, kept_distances_send, kept_distances_sync, sendable, crosses) depth 40
+
+pub frame_start_send : (κ : NamedLft) → IsSend (FrameStart.the_row κ)
+frame_start_send κ = search (session, of_parts, sendable, crosses) depth 40
+
+pub frame_start_sync : (κ : NamedLft) → IsSync (FrameStart.the_row κ)
+frame_start_sync κ = search (session, of_parts, sendable, crosses) depth 40
+
+pub gathered : (κ : NamedLft) → IsSend (Gathered.the_row κ)
+gathered κ = search (of_parts, known, frame_start_send, frame_start_sync, sendable, crosses) depth 40
+
 -- ---- results
 
 pub way : (κ : NamedLft) → IsSend (Way.the_row κ)
-way κ = search (session, of_parts, sendable, crosses) depth 40
+way κ = search (session, of_parts, kept_distances_send, sendable, crosses) depth 40
 
 pub thought : (κ : NamedLft) → IsSend (Thought.the_row κ)
 thought κ = search (session, of_parts, sendable, crosses) depth 40
 
 pub turn : (κ : NamedLft) → IsSend (Turn.the_row κ)
-turn κ = search (session, of_parts, sendable, crosses) depth 40
+turn κ = search (session, of_parts, known, sendable, crosses) depth 40
 
 pub band_out : (κ : NamedLft) → IsSend (BandOut.the_row κ)
 band_out κ = search (session, of_parts, sendable, crosses) depth 40
@@ -85,16 +116,16 @@ pub pending_sync : (κ : NamedLft) → IsSync (Pending.the_row κ Global.the_row
 pending_sync κ = search (of_parts, of_ticks, sendable, crosses) depth 40 fits 100000
 
 pub think_task : (κ : NamedLft) → IsSend (ThinkTask.the_row κ)
-think_task κ = search (session, of_parts, pending_send, pending_sync, sendable, crosses) depth 40 fits 100000
+think_task κ = search (frame_start_send, frame_start_sync, of_parts, pending_send, pending_sync, sendable, crosses) depth 40 fits 100000
 
 pub path_task : (κ : NamedLft) → IsSend (PathTask.the_row κ)
-path_task κ = search (session, of_parts, sendable, crosses) depth 40
+path_task κ = search (frame_start_send, frame_start_sync, of_parts, kept_distances_send, sendable, crosses) depth 40
 
 pub draw_task : (κ : NamedLft) → IsSend (DrawTask.the_row κ)
 draw_task κ = search (session, of_parts, sendable, crosses) depth 40
 
 pub logic_task : (κ : NamedLft) → IsSend (LogicTask.the_row κ)
-logic_task κ = search (session, of_parts, sendable, crosses) depth 40 fits 100000
+logic_task κ = search (session, gathered, sendable, crosses) depth 40
 
 pub task : (κ : NamedLft) → IsSend (Task.the_row κ)
 task κ = search (logic_task, think_task, path_task, draw_task, sendable, crosses) depth 40
@@ -106,7 +137,7 @@ task_field κ = search (logic_task, think_task, path_task, draw_task, sendable, 
 -- ---- what tasks are made of
 
 pub params : (κ : NamedLft) → IsSend (FrameParams.the_row κ)
-params κ = search (session, of_parts, sendable, crosses) depth 40
+params κ = search (frame_start_send, frame_start_sync, known, sendable, crosses) depth 40
 
 pub slots : (κ : NamedLft) → IsSend (Slots.the_row κ)
 slots κ = search (params, sendable, crosses) depth 40

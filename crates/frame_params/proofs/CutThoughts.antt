@@ -21,7 +21,8 @@ use Rattle.bt_tick.specs.declared.tick.Pending.{Pending}
 use Rattle.bt_tick.specs.declared.tick.Outcome.{Outcome}
 use Rattle.bt_tick.specs.declared.tick.Outcome.TheVariants.{Ended, Asks}
 use Rattle.bt_tick.proofs.CutTicks.{asks_now, still_asks, ended_asks, thinking_ended}
-use Rattle.frame_params.specs.Contents.{world_after, memories_after, signals_in, IsAfter, seen, memory_before, thought_in, questions_in, ways_in, place_in, way_in}
+use Rattle.frame_params.specs.Names.{FrameOf}
+use Rattle.frame_params.specs.Contents.{world_after, memories_after, signals_in, seen, memory_before, thought_in, questions_in, ways_in, place_in, way_in}
 use Rattle.frame_params.specs.Thinks.{Sees, ThinksTo, StandsAt, AsksFor, IsWayOf, GoesOn}
 
 -- what an agent sees
@@ -74,14 +75,15 @@ asked_is g (suc f) a h =
 
 -- ---- what tasks keep
 
-pub sees_of : (g h : Game) (f k a : ℕ) (world : Grid) (memories : List (List ℕ)) (on : List Bool) → g ≡ h → f ≡ k → a < length g.trees → on ≡ signals_in h k
-    → IsAfter h (k - 1) world memories → Sees g f a world on
-sees_of g h f k a world memories on game frame there signals_are before = record {
-  there = there;
-  agents = before.agents ∙ ap (λ x. length x.trees) (sym game);
-  world_is = before.world_is ∙ ap (λ x. world_after x (k - 1)) (sym game) ∙ ap (λ n. world_after g (n - 1)) (sym frame);
-  signals_are = signals_are ∙ ap (λ x. signals_in x k) (sym game) ∙ ap (signals_in g) (sym frame);
-}
+-- a tick stands in its frame, by whatever name that is given
+pub stands_in : (p : FrameOf) (g : Game) (f a i : ℕ) (q : Pending Global Global) → g ≡ p.game → f ≡ p.frame → StandsAt g f a i q → StandsAt p.game p.frame a i q
+stands_in p g f a i q game frame stands =
+    subst (λ (k : ℕ). StandsAt p.game k a i q) frame (subst (λ (h : Game). StandsAt h f a i q) game stands)
+
+-- what an agent sees at a frame's start
+pub sees_start : (p : FrameOf) (a : ℕ) (world : Grid) (on : List Bool) → a < length p.game.trees → length world.agents ≡ length p.game.trees
+    → world ≡ world_after p.game (p.frame - 1) → on ≡ signals_in p.game p.frame → Sees p.game p.frame a world on
+sees_start p a world on there agents was signals_are = record { there = there; agents = agents; world_is = was; signals_are = signals_are }
 
 module _ (g : Game) (f a : ℕ) (world : Grid) (on : List Bool) (sees : Sees g f a world on) where
   pub way_answers : (i place : ℕ) (x : Answer) → AsksFor g f a i place → x ≡ way world on (cell_of (view on world a)) place → IsWayOf g f a i x

@@ -1,10 +1,11 @@
 -- What all agents think, and what comes of it.
 use Rattle.std.proofs.Common.{get_or, subst, zero-add, ◌≡◌, ◌<◌, ℕ, zero, suc, ◌+◌, ◌-◌, List, [], ◌∷◌, length, map, refl, sym, ap, ap₂, ◌∙◌, Bool, arith}
 use Rattle.std.specs.Prelude.{slice_index_or}
-use Rattle.std.specs.Arc.{arc_value}
 use Rattle.std.proofs.lemmas.List.{length-map, get_or_default}
 use Rattle.grid_world.specs.Grid.{Grid}
 use Rattle.grid_world.specs.Intents.{apply_all}
+use Rattle.grid_world.specs.declared.cell.Intent.{Intent}
+use Rattle.bt_nodes.specs.declared.node.Status.{Status}
 use Rattle.grid_world.specs.Map.{count_up}
 use Rattle.grid_world.proofs.CountUp.{get_or-map-count_up, length-map-count_up}
 use Rattle.bt_nodes.specs.Plain.{Plain, Does, Carries}
@@ -15,8 +16,8 @@ use Rattle.game_rules.specs.Play.{play, thoughts, thoughts_from}
 use Rattle.game_jobs.specs.Instance.{tree_of, view}
 use Rattle.frame_params.specs.Names.{FrameOf, PartOf, part_of, AreOfAllAgents}
 use Rattle.frame_params.specs.Contents.{world_after, memories_after, signals_in, statuses_in, intents_in, seen, memory_before, thought_in, thought_for, bands_in, AllFit, IsAfter}
-use Rattle.frame_params.specs.Logic.{IsGathered, AllFitOwn}
-use Rattle.frame_params.specs.declared.gathered.Gathered.{Gathered}
+use Rattle.frame_params.specs.Distances.{KnownOf}
+use Rattle.frame_params.specs.Logic.{AreGathered, AllFitOwn}
 use Rattle.frame_params.proofs.Ground.{play_ground}
 use Rattle.draw_list.specs.Bands.{band_count}
 
@@ -120,24 +121,26 @@ turned g (suc f) h =
     let n : suc f - 1 ≡ f = omega arith in
     ap (λ k. apply_all (play g k).world (signals g.changes (suc f)) 0 (map (λ t. t.intent) (thoughts g (suc f) (play g k)))) n
 
-module _ (g : Game) (f : ℕ) (x : Gathered) (is : IsGathered g f x) where
-  pub an_intent_each : length x.intents.items ≡ length (arc_value x.world).agents
-  an_intent_each = ap length is.intents ∙ as_many_intents g f ∙ sym is.agents
+module _ (p : FrameOf) (intents : List Intent) (statuses : List Status) (memories : List (List ℕ)) (known : KnownOf)
+  (are : AreGathered p intents statuses memories known) where
+  pub an_intent_each : length intents ≡ length p.game.trees
+  an_intent_each = ap length are.intents_are ∙ as_many_intents p.game p.frame
 
   -- what is gathered comes to the turn
-  pub is_after : (world : Grid) → world ≡ apply_all (arc_value x.world) x.signals 0 x.intents.items → IsAfter g f world (arc_value x.memories).items
+  pub is_after : (before world : Grid) (on : List Bool) → 0 < p.frame → before ≡ world_after p.game (p.frame - 1) → length before.agents ≡ length p.game.trees
+      → on ≡ signals_in p.game p.frame → world ≡ apply_all before on 0 intents → IsAfter p.game p.frame world memories
   unfolding world_after
-  is_after world e =
-      let there : world ≡ world_after g f =
-      e ∙ ap (λ w. apply_all w x.signals 0 x.intents.items) is.world ∙ ap (λ on. apply_all (world_after g (f - 1)) on 0 x.intents.items) is.signals
-      ∙ ap (apply_all (world_after g (f - 1)) (signals_in g f) 0) is.intents ∙ turned g f is.later in
+  is_after before world on later was agents seen_on e =
+      let there : world ≡ world_after p.game p.frame =
+      e ∙ ap (λ w. apply_all w on 0 intents) was ∙ ap (λ l. apply_all (world_after p.game (p.frame - 1)) l 0 intents) seen_on
+      ∙ ap (apply_all (world_after p.game (p.frame - 1)) (signals_in p.game p.frame) 0) are.intents_are ∙ turned p.game p.frame later in
       record {
         world_is = there;
-        memories_are = is.memories;
+        memories_are = are.memories_are later;
         agents =
-            ap (λ w. length w.agents) there ∙ (play_ground g f).agents ∙ sym (play_ground g (f - 1)).agents
-            ∙ sym (ap (λ w. length w.agents) is.world) ∙ is.agents;
-        all_fit = is.fit;
+            ap (λ w. length w.agents) there ∙ (play_ground p.game p.frame).agents ∙ sym (play_ground p.game (p.frame - 1)).agents
+            ∙ sym (ap (λ w. length w.agents) was) ∙ agents;
+        all_fit = are.fit;
       }
 
 -- ---- bands

@@ -1,30 +1,27 @@
 -- What a frame's logic has when all agents have thought, and what comes of its work.
-use Rattle.std.specs.Prelude.{ℕ, ◌≡◌, ◌<◌, ◌-◌, true, false, List, [], length, slice_index_or, Option, Some, None}
-use Rattle.std.specs.Arc.{arc_value}
+use Rattle.std.specs.Prelude.{ℕ, ◌≡◌, ◌<◌, true, false, List, [], length, slice_index_or, Option, Some, None, Box, box_value}
+use Rattle.std.specs.declared.alloc.Global.{Global}
+use Rattle.grid_world.specs.declared.cell.Intent.{Intent}
+use Rattle.bt_nodes.specs.declared.node.Status.{Status}
 use Rattle.bt_nodes.specs.Bounds.{Fits}
-use Rattle.game_rules.specs.Game.{Game}
 use Rattle.game_jobs.specs.Instance.{tree_of}
-use Rattle.frame_params.specs.Names.{PartOf, LogicOf, frame_of}
-use Rattle.frame_params.specs.Contents.{signals_in, world_after, memories_after, intents_in, statuses_in, AllFit}
-use Rattle.frame_params.specs.declared.gathered.Gathered.{Gathered}
+use Rattle.frame_params.specs.Names.{FrameOf, PartOf, LogicOf, frame_of}
+use Rattle.frame_params.specs.Contents.{memories_after, intents_in, statuses_in, AllFit}
+use Rattle.frame_params.specs.Distances.{KnownOf}
 use Rattle.frame_params.specs.declared.logic_step.LogicStep.{LogicStep}
 use Rattle.frame_params.specs.declared.logic_step.LogicStep.TheVariants.{Begins, Turned}
 
--- the world before, and what all agents want to do and come to in it
-pub record IsGathered (g : Game) (f : ℕ) (x : Gathered) : Type 0 where
-  pub later : 0 < f
-  pub world : arc_value x.world ≡ world_after g (f - 1)
-  pub agents : length (arc_value x.world).agents ≡ length g.trees
-  pub signals : x.signals ≡ signals_in g f
-  pub intents : x.intents.items ≡ intents_in g f
-  pub statuses : (arc_value x.statuses).items ≡ statuses_in g f
-  pub memories : (arc_value x.memories).items ≡ memories_after g f
-  pub fit : AllFit g.trees (arc_value x.memories).items
-  pub known : x.known.game ≡ g
+-- what all agents want to do and come to in a frame, and distances on the game's ground
+pub record AreGathered (p : FrameOf) (intents : List Intent) (statuses : List Status) (memories : List (List ℕ)) (known : KnownOf) : Type 0 where
+  pub intents_are : intents ≡ intents_in p.game p.frame
+  pub statuses_are : statuses ≡ statuses_in p.game p.frame
+  pub memories_are : 0 < p.frame → memories ≡ memories_after p.game p.frame
+  pub fit : AllFit p.game.trees memories
+  pub known_is : known.game ≡ p.game
 
-abbrev pub IsGatheredIf : Game → ℕ → Option Gathered → Type 0
-IsGatheredIf g f None = Unit {0}
-IsGatheredIf g f (Some x) = IsGathered g f x
+abbrev pub AreGatheredIf : FrameOf → Option (Box FrameOf Global) → Type 0
+AreGatheredIf p None = Unit {0}
+AreGatheredIf p (Some x) = box_value x ≡ p
 
 -- each memory fits the tree of the thought at its place
 abbrev pub AllFitOwn : List PartOf → List (List ℕ) → Type 0

@@ -12,7 +12,7 @@ use Rattle.bt_tick.specs.declared.tick.Pending.{Pending}
 use Rattle.bt_tick.specs.declared.tick.Outcome.{Outcome}
 use Rattle.bt_tick.specs.declared.tick.Outcome.TheVariants.{Asks}
 use Rattle.frame_params.specs.Names.{ThinkOf, part_of, question_of}
-use Rattle.frame_params.specs.Contents.{signals_in, world_after, memories_after, seen, memory_before, questions_in, place_in, way_in, AllFit}
+use Rattle.frame_params.specs.Contents.{signals_in, world_after, seen, memory_before, questions_in, place_in, way_in}
 use Rattle.frame_params.specs.declared.stand.Stand.{Stand}
 use Rattle.frame_params.specs.declared.stand.Stand.TheVariants.{Start, Answered}
 use Rattle.frame_params.specs.declared.think_step.ThinkStep.{ThinkStep}
@@ -52,12 +52,12 @@ pub record GoesOn (g : Game) (f a i : ℕ) (p : Pending Global Global) (answer :
 
 -- a task's tick stands at its start, or at a question to which it has the answer
 abbrev pub IsStand : Game → ℕ → ℕ → Stand → Type 0
-IsStand g f a (Start memories) = ((arc_value memories).items ≡ memories_after g (f - 1)) × AllFit g.trees (arc_value memories).items
+IsStand g f a Start = Unit {0}
 IsStand g f a (Answered i pending answer) = GoesOn g f a i (arc_value pending) answer
 
 -- how many questions are answered
 abbrev pub answered_at : Stand → ℕ
-answered_at (Start memories) = 0
+answered_at Start = 0
 answered_at (Answered i pending answer) = i + 1
 
 -- it ends exactly where all its questions are answered, and else it asks the first of the others

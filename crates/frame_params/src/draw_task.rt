@@ -6,7 +6,7 @@ use crate::band_out::BandOut;
 use crate::turn::Turn;
 use draw_list::{DrawFault, draw_band};
 use game_session::Session;
-use grid_world::{Signals, World};
+use grid_world::World;
 use job_core::names::JobName;
 use std::alloc::{AllocError, Global};
 use std::marker::Model;
@@ -17,7 +17,6 @@ pub struct DrawTask<'t> {
     session: &'t Session,
     frame: u32,
     band: u32,
-    signals: Signals,
     world: Arc<World>,
 }
 
@@ -27,7 +26,6 @@ impl<'t> Drop for DrawTask<'t> {
             session: _,
             frame: _,
             band: _,
-            signals: _,
             world: _,
         } = self;
     }
@@ -38,7 +36,7 @@ impl<'t> Model for DrawTask<'t> {
     ghost use Rattle.std.specs.Arc.{arc_value};
     ghost use Rattle.draw_list.specs.Bands.{band_count};
     ghost use Rattle.frame_params.specs.Names.{PartOf, part_code};
-    ghost use Rattle.frame_params.specs.Contents.{signals_in, world_after};
+    ghost use Rattle.frame_params.specs.Contents.{world_after};
 
     ghost Value = { PartOf };
 
@@ -46,8 +44,7 @@ impl<'t> Model for DrawTask<'t> {
 
     ghost view = { λ t. record { game = t.session.now; frame = t.frame; number = t.band } };
 
-    ghost invariant = { λ t. (t.signals ≡ signals_in t.session.now t.frame)
-        × (arc_value t.world ≡ world_after t.session.now t.frame)
+    ghost invariant = { λ t. (arc_value t.world ≡ world_after t.session.now t.frame)
         × (t.band < band_count (arc_value t.world).height) };
 }
 
@@ -61,7 +58,6 @@ impl<'t> DrawTask<'t> {
             session: turn.session,
             frame: turn.frame,
             band,
-            signals: turn.session.script().signals(turn.frame),
             world: Arc::try_clone(&turn.world)?,
         })
     }
@@ -97,7 +93,8 @@ impl<'t> DrawTask<'t> {
     pub fn work(&self, alloc: Global) -> Result<BandOut<'t>, AllocError>
         ensures { IfOk result (λ band. band ≡ self.now) }
     {
-        match draw_band(alloc, &self.world, self.signals, self.band) {
+        let signals = self.session.script().signals(self.frame);
+        match draw_band(alloc, &self.world, signals, self.band) {
             Ok(band) => Ok(BandOut {
                 session: self.session,
                 frame: self.frame,

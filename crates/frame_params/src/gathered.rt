@@ -1,25 +1,88 @@
-ghost use Rattle.std.specs.Prelude.{◌≡◌, IfOk, length};
+ghost use Rattle.std.specs.Prelude.{◌≡◌, IfOk, length, map};
 ghost use Rattle.grid_world.specs.Intents.{apply_all};
-ghost use Rattle.frame_params.specs.Logic.{IsGathered};
+ghost use Rattle.frame_params.specs.Names.{AreOfAllAgents};
+ghost use Rattle.frame_params.specs.Contents.{thought_for};
+ghost use Rattle.frame_params.specs.Logic.{AllFitOwn};
 
+use crate::frame_start::FrameStart;
 use crate::kept_memory::KeptMemory;
 use crate::known::Known;
+use crate::params::FrameParams;
+use crate::thought::Thought;
 use crate::turn::Turn;
 use bt_nodes::Status;
-use game_session::Session;
 use grid_world::{Intent, ResolveFault, Signals, World, resolve};
 use std::alloc::{AllocError, Global};
+use std::marker::Model;
 use std::sync::Arc;
 
-// What a turn is made of: the world before it, and what all agents came to in that world, by agent number.
-#[derive(Drop)]
+// What a turn is made of: what its frame starts from, and what all agents came to there, by agent number.
 pub(crate) struct Gathered<'t> {
-    pub(crate) world: Arc<World>,
-    pub(crate) signals: Signals,
-    pub(crate) intents: Vec<Intent>,
-    pub(crate) statuses: Arc<Vec<Status>>,
-    pub(crate) memories: Arc<Vec<KeptMemory>>,
-    pub(crate) known: Known<'t>,
+    start: Arc<FrameStart<'t>>,
+    intents: Vec<Intent>,
+    statuses: Arc<Vec<Status>>,
+    memories: Arc<Vec<KeptMemory>>,
+    known: Known<'t>,
+}
+
+impl<'t> Drop for Gathered<'t> {
+    fn drop(self) {
+        let Self {
+            start: _,
+            intents: _,
+            statuses: _,
+            memories: _,
+            known: _,
+        } = self;
+    }
+}
+
+impl<'t> Model for Gathered<'t> {
+    ghost use Rattle.std.specs.Arc.{arc_value};
+    ghost use Rattle.frame_params.specs.Names.{FrameOf, frame_code};
+    ghost use Rattle.frame_params.specs.Logic.{AreGathered};
+
+    ghost Value = { FrameOf };
+
+    ghost coded = { frame_code };
+
+    ghost view = { λ x. arc_value x.start };
+
+    ghost invariant = { λ x. AreGathered (arc_value x.start) x.intents.items (arc_value x.statuses).items (arc_value x.memories).items x.known };
+}
+
+// What each agent wants to do.
+fn intents_of(alloc: Global, thoughts: &[Thought]) -> Result<Vec<Intent>, AllocError>
+    ensures { IfOk result (λ v. v.items ≡ map (λ p. (thought_for p).intent) thoughts.now) }
+{
+    let mut intents = Vec::with_capacity(alloc, thoughts.len())?;
+    'thoughts: for thought in thoughts {
+        intents.push(thought.intent())?;
+    }
+    Ok(intents)
+}
+
+// Each tick's answer.
+fn statuses_of(alloc: Global, thoughts: &[Thought]) -> Result<Vec<Status>, AllocError>
+    ensures { IfOk result (λ v. v.items ≡ map (λ p. (thought_for p).status) thoughts.now) }
+{
+    let mut statuses = Vec::with_capacity(alloc, thoughts.len())?;
+    'thoughts: for thought in thoughts {
+        statuses.push(thought.status())?;
+    }
+    Ok(statuses)
+}
+
+// Each agent's memory.
+fn memories_of(alloc: Global, thoughts: &[Thought]) -> Result<Vec<KeptMemory>, AllocError>
+    ensures value { IfOk result (λ v. v.items ≡ map (λ p. (thought_for p).memory) thoughts.now) }
+    ensures fit { IfOk result (λ v. AllFitOwn thoughts.now v.items) }
+{
+    let mut memories = Vec::with_capacity(alloc, thoughts.len())?;
+    'thoughts: for thought in thoughts {
+        memories.push(thought.memory().share()?)?;
+    }
+    Ok(memories)
 }
 
 // The world after an intent of each agent.
@@ -40,19 +103,35 @@ fn resolved(
 }
 
 impl<'t> Gathered<'t> {
-    pub(crate) fn turn(
-        &self,
+    // The thoughts of all agents in a frame, in order; it shares their memories.
+    pub(crate) fn of(
         alloc: Global,
-        session: &'t Session,
-        frame: u32,
-    ) -> Result<Turn<'t>, AllocError>
-        requires { IsGathered session.now frame self.now }
-        ensures { IfOk result (λ turn. turn ≡ record { game = session.now; frame = frame }) }
+        params: &FrameParams<'t>,
+        thoughts: &[Thought<'t>],
+    ) -> Result<Gathered<'t>, AllocError>
+        requires { AreOfAllAgents params.now thoughts.now }
+        ensures { IfOk result (λ gathered. gathered ≡ params.now) }
     {
-        let world = resolved(alloc, &self.world, self.signals, &self.intents)?;
+        let memories = memories_of(alloc, thoughts)?;
+        let statuses = statuses_of(alloc, thoughts)?;
+        Ok(Gathered {
+            start: params.share()?,
+            intents: intents_of(alloc, thoughts)?,
+            statuses: Arc::new(alloc, statuses)?,
+            memories: Arc::new(alloc, memories)?,
+            known: params.known.share()?,
+        })
+    }
+
+    // What all agents want to do, applied by agent number.
+    pub(crate) fn turn(&self, alloc: Global) -> Result<Turn<'t>, AllocError>
+        ensures { IfOk result (λ turn. turn ≡ self.now) }
+    {
+        let start: &FrameStart<'t> = &self.start;
+        let world = resolved(alloc, start.world(), start.signals(), &self.intents)?;
         Ok(Turn {
-            session,
-            frame,
+            session: start.session(),
+            frame: start.frame(),
             world: Arc::new(alloc, world)?,
             memories: Arc::try_clone(&self.memories)?,
             statuses: Arc::try_clone(&self.statuses)?,

@@ -3,45 +3,33 @@ ghost use Rattle.grid_world.specs.Grid.{is_on_map, place_of};
 ghost use Rattle.grid_world.specs.Way.{way};
 ghost use Rattle.grid_world.specs.World.{point};
 
+use crate::place_distances::PlaceDistances;
 use game_session::Session;
-use grid_path::{Distances, PathFault};
 use grid_world::{Answer, Place, Signals};
 use std::alloc::{AllocError, Allocator, Global};
 use std::marker::Model;
 use std::sync::Arc;
 
-// The distances to a place on the ground of a session while the doors of these signals are open. All that read them share
-// them.
+// The distances to a place, which all that read them share.
 pub(crate) struct KeptDistances<'t> {
-    session: &'t Session,
-    signals: Signals,
-    place: Place,
-    distances: Arc<Distances>,
+    shared: Arc<PlaceDistances<'t>>,
 }
 
 impl<'t> Drop for KeptDistances<'t> {
     fn drop(self) {
-        let Self {
-            session: _,
-            signals: _,
-            place: _,
-            distances: _,
-        } = self;
+        let Self { shared: _ } = self;
     }
 }
 
 impl<'t> Model for KeptDistances<'t> {
     ghost use Rattle.std.specs.Arc.{arc_value};
-    ghost use Rattle.grid_path.specs.Distances.{AreDistances};
     ghost use Rattle.frame_params.specs.Distances.{DistancesOf, distances_code};
 
     ghost Value = { DistancesOf };
 
     ghost coded = { distances_code };
 
-    ghost view = { λ d. record { game = d.session.now; signals = d.signals; place = d.place } };
-
-    ghost invariant = { λ d. AreDistances d.session.now.world d.signals d.place (arc_value d.distances) };
+    ghost view = { λ d. arc_value d.shared };
 }
 
 impl<'t> KeptDistances<'t> {
@@ -58,15 +46,11 @@ impl<'t> KeptDistances<'t> {
         ensures { IfOk result (λ made. MatchOption made (place_of session.now.world place ≡ None)
             (λ d. d ≡ distances_of session.now signals place)) }
     {
-        match Distances::to(alloc, scratch, session.world(), signals, place) {
-            Ok(distances) => Ok(Some(KeptDistances {
-                session,
-                signals,
-                place,
-                distances: Arc::new(alloc, distances)?,
+        match PlaceDistances::to(alloc, scratch, session, signals, place)? {
+            None => Ok(None),
+            Some(distances) => Ok(Some(KeptDistances {
+                shared: Arc::new(alloc, distances)?,
             })),
-            Err(PathFault::OffMap) => Ok(None),
-            Err(PathFault::OutOfMemory) => Err(AllocError),
         }
     }
 
@@ -75,17 +59,14 @@ impl<'t> KeptDistances<'t> {
         ensures { IfOk result (λ d. d ≡ self.now) }
     {
         Ok(KeptDistances {
-            session: self.session,
-            signals: self.signals,
-            place: self.place,
-            distances: Arc::try_clone(&self.distances)?,
+            shared: Arc::try_clone(&self.shared)?,
         })
     }
 
     pub(crate) fn place(&self) -> Place
         ensures { result ≡ self.now.place }
     {
-        self.place
+        self.shared.place()
     }
 
     // The way to the place from a cell of the map.
@@ -93,6 +74,6 @@ impl<'t> KeptDistances<'t> {
         requires { is_on_map self.now.game.world (point from.0 from.1) ≡ true }
         ensures { result ≡ way self.now.game.world self.now.signals (point from.0 from.1) self.now.place }
     {
-        self.distances.way(self.session.world(), self.place, from)
+        self.shared.way(from)
     }
 }

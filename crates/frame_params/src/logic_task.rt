@@ -1,26 +1,21 @@
-ghost use Rattle.std.specs.Prelude.{◌≡◌, ◌<◌, IfOk, IsOk, true, false, map};
+ghost use Rattle.std.specs.Prelude.{◌≡◌, IfOk, IsOk, true, false};
 ghost use Rattle.frame_params.specs.Names.{AreOfAllAgents};
-ghost use Rattle.frame_params.specs.Contents.{thought_for};
-ghost use Rattle.frame_params.specs.Logic.{AllFitOwn, IsLogicStep};
+ghost use Rattle.frame_params.specs.Logic.{IsLogicStep};
 
 use crate::gathered::Gathered;
-use crate::kept_memory::KeptMemory;
 use crate::logic_step::LogicStep;
 use crate::params::FrameParams;
 use crate::thought::Thought;
-use bt_nodes::Status;
 use game_session::Session;
-use grid_world::Intent;
 use job_core::names::JobName;
 use std::alloc::{AllocError, Global};
 use std::marker::Model;
-use std::sync::Arc;
 
 /// A frame's logic, at its start or with the thoughts of all agents.
 pub struct LogicTask<'t> {
     session: &'t Session,
     frame: u32,
-    gathered: Option<Gathered<'t>>,
+    gathered: Option<Box<Gathered<'t>>>,
 }
 
 impl<'t> Drop for LogicTask<'t> {
@@ -35,51 +30,17 @@ impl<'t> Drop for LogicTask<'t> {
 
 impl<'t> Model for LogicTask<'t> {
     ghost use Rattle.std.specs.Prelude.{is_some};
-    ghost use Rattle.frame_params.specs.Names.{LogicOf, logic_code};
+    ghost use Rattle.frame_params.specs.Names.{LogicOf, frame_of, logic_code};
 
     ghost Value = { LogicOf };
 
     ghost coded = { logic_code };
 
-    ghost use Rattle.frame_params.specs.Logic.{IsGatheredIf};
+    ghost use Rattle.frame_params.specs.Logic.{AreGatheredIf};
 
     ghost view = { λ t. record { game = t.session.now; frame = t.frame; has_spread = is_some t.gathered } };
 
-    ghost invariant = { λ t. IsGatheredIf t.session.now t.frame t.gathered };
-}
-
-// What each agent wants to do.
-fn intents_of(alloc: Global, thoughts: &[Thought]) -> Result<Vec<Intent>, AllocError>
-    ensures { IfOk result (λ v. v.items ≡ map (λ p. (thought_for p).intent) thoughts.now) }
-{
-    let mut intents = Vec::with_capacity(alloc, thoughts.len())?;
-    'thoughts: for thought in thoughts {
-        intents.push(thought.intent())?;
-    }
-    Ok(intents)
-}
-
-// Each tick's answer.
-fn statuses_of(alloc: Global, thoughts: &[Thought]) -> Result<Vec<Status>, AllocError>
-    ensures { IfOk result (λ v. v.items ≡ map (λ p. (thought_for p).status) thoughts.now) }
-{
-    let mut statuses = Vec::with_capacity(alloc, thoughts.len())?;
-    'thoughts: for thought in thoughts {
-        statuses.push(thought.status())?;
-    }
-    Ok(statuses)
-}
-
-// Each agent's memory.
-fn memories_of(alloc: Global, thoughts: &[Thought]) -> Result<Vec<KeptMemory>, AllocError>
-    ensures value { IfOk result (λ v. v.items ≡ map (λ p. (thought_for p).memory) thoughts.now) }
-    ensures fit { IfOk result (λ v. AllFitOwn thoughts.now v.items) }
-{
-    let mut memories = Vec::with_capacity(alloc, thoughts.len())?;
-    'thoughts: for thought in thoughts {
-        memories.push(thought.memory().share()?)?;
-    }
-    Ok(memories)
+    ghost invariant = { λ t. AreGatheredIf (frame_of t.session.now t.frame) t.gathered };
 }
 
 impl<'t> LogicTask<'t> {
@@ -100,7 +61,7 @@ impl<'t> LogicTask<'t> {
     }
 
     /// The logic of a frame after all its thinks. The thoughts are those of all agents, in order; it shares their
-    /// memories, and takes memory five times at most, however many they are.
+    /// memories, and takes memory six times at most, however many they are.
     pub fn turn(
         alloc: Global,
         params: &FrameParams<'t>,
@@ -109,20 +70,11 @@ impl<'t> LogicTask<'t> {
         requires { AreOfAllAgents params.now thoughts.now }
         ensures { IfOk result (λ t. t ≡ record { game = params.now.game; frame = params.now.frame; has_spread = true }) }
     {
-        let memories = memories_of(alloc, thoughts)?;
-        let statuses = statuses_of(alloc, thoughts)?;
-        let gathered = Gathered {
-            world: Arc::try_clone(&params.world)?,
-            signals: params.signals,
-            intents: intents_of(alloc, thoughts)?,
-            statuses: Arc::new(alloc, statuses)?,
-            memories: Arc::new(alloc, memories)?,
-            known: params.known.share()?,
-        };
+        let gathered = Gathered::of(alloc, params, thoughts)?;
         Ok(LogicTask {
-            session: params.session,
-            frame: params.frame,
-            gathered: Some(gathered),
+            session: params.session(),
+            frame: params.frame(),
+            gathered: Some(Box::new(alloc, gathered)?),
         })
     }
 
@@ -146,7 +98,7 @@ impl<'t> LogicTask<'t> {
         match &self.gathered {
             None => Ok(LogicStep::Begins),
             Some(gathered) => {
-                let turn = gathered.turn(alloc, self.session, self.frame)?;
+                let turn = gathered.turn(alloc)?;
                 Ok(LogicStep::Turned(turn))
             }
         }

@@ -1,9 +1,10 @@
-ghost use Rattle.std.specs.Prelude.{◌≡◌, ◌+◌, ◌-◌, ◌^◌, ◌<◌, IfOk, map, length};
-ghost use Rattle.bt_nodes.specs.Bounds.{zero_memory, Fits};
+ghost use Rattle.std.specs.Prelude.{◌≡◌, ◌+◌, ◌-◌, ◌^◌, ◌<◌, IfOk, length};
+ghost use Rattle.std.specs.Arc.{arc_value};
+ghost use Rattle.bt_nodes.specs.Bounds.{Fits};
 ghost use Rattle.game_jobs.specs.Instance.{tree_of};
-ghost use Rattle.frame_params.specs.Contents.{signals_in, world_after, memory_before, AllFit};
+ghost use Rattle.frame_params.specs.Contents.{signals_in, world_after, memory_before};
 
-use crate::kept_memory::KeptMemory;
+use crate::frame_start::FrameStart;
 use crate::known::Known;
 use crate::turn::Turn;
 use crate::way::Way;
@@ -17,75 +18,42 @@ use std::sync::Arc;
 /// What the jobs of a frame read: the frame's signals, the world and the memories of the frame before, and the distances
 /// that were found so far under these signals. The tasks that are made of it share these with it.
 pub struct FrameParams<'t> {
-    pub(crate) session: &'t Session,
-    pub(crate) frame: u32,
-    pub(crate) signals: Signals,
-    pub(crate) world: Arc<World>,
-    pub(crate) memories: Arc<Vec<KeptMemory>>,
+    start: Arc<FrameStart<'t>>,
     pub(crate) known: Known<'t>,
 }
 
 impl<'t> Drop for FrameParams<'t> {
     fn drop(self) {
-        let Self {
-            session: _,
-            frame: _,
-            signals: _,
-            world: _,
-            memories: _,
-            known: _,
-        } = self;
+        let Self { start: _, known: _ } = self;
     }
 }
 
 impl<'t> Model for FrameParams<'t> {
-    ghost use Rattle.std.specs.Prelude.{◌≡◌, ◌<◌, ◌-◌};
+    ghost use Rattle.std.specs.Prelude.{◌≡◌};
     ghost use Rattle.std.specs.Arc.{arc_value};
     ghost use Rattle.frame_params.specs.Names.{FrameOf, frame_code};
-    ghost use Rattle.frame_params.specs.Contents.{signals_in, IsAfter};
+    ghost use Rattle.frame_params.specs.Contents.{signals_in};
     ghost use Rattle.frame_params.specs.Distances.{known_of};
 
     ghost Value = { FrameOf };
 
     ghost coded = { frame_code };
 
-    ghost view = { λ p. record { game = p.session.now; frame = p.frame } };
+    ghost view = { λ p. arc_value p.start };
 
-    ghost invariant = { λ p. (0 < p.frame) × (p.signals ≡ signals_in p.session.now p.frame)
-        × IsAfter p.session.now (p.frame - 1) (arc_value p.world) (arc_value p.memories).items
-        × (p.known ≡ known_of p.session.now p.signals) };
-}
-
-// A memory of zeros for each agent.
-fn zero_memories(alloc: Global, session: &Session) -> Result<Vec<KeptMemory>, AllocError>
-    ensures zeros { IfOk result (λ memories. memories.items ≡ map zero_memory session.now.trees) }
-    ensures fit { IfOk result (λ memories. AllFit session.now.trees memories.items) }
-{
-    let count = session.world().agents().len();
-    let mut memories = Vec::with_capacity(alloc, count)?;
-    'agents: for agent in 0..count as u32 {
-        let zero = Memory::zero(alloc, session.tree_of(agent))?;
-        memories.push(KeptMemory::new(alloc, zero)?)?;
-    }
-    Ok(memories)
+    ghost invariant = { λ p. p.known ≡ known_of (arc_value p.start).game (signals_in (arc_value p.start).game (arc_value p.start).frame) };
 }
 
 impl<'t> FrameParams<'t> {
-    #[tactic(auto, unfolding(crate::specs::Contents::world_after, crate::specs::Contents::memories_after))]
     /// Those of frame 1: the session's world, and memories of zeros.
     pub fn first(alloc: Global, session: &'t Session) -> Result<FrameParams<'t>, AllocError>
         ensures { IfOk result (λ p. p ≡ record { game = session.now; frame = 1 }) }
     {
-        let world = session.world().copy(alloc)?;
-        let memories = zero_memories(alloc, session)?;
-        let signals = session.script().signals(1);
+        let start = FrameStart::first(alloc, session)?;
+        let known = Known::none(alloc, session, start.signals())?;
         Ok(FrameParams {
-            session,
-            frame: 1,
-            signals,
-            world: Arc::new(alloc, world)?,
-            memories: Arc::new(alloc, memories)?,
-            known: Known::none(alloc, session, signals)?,
+            start: Arc::new(alloc, start)?,
+            known,
         })
     }
 
@@ -95,22 +63,18 @@ impl<'t> FrameParams<'t> {
         requires { turn.now.frame + 1 < 2 ^ 32 }
         ensures { IfOk result (λ p. p ≡ record { game = turn.now.game; frame = turn.now.frame + 1 }) }
     {
-        let frame = turn.frame + 1;
-        let signals = turn.session.script().signals(frame);
+        let start = FrameStart::after(turn)?;
+        let known = turn.known.under(alloc, start.signals())?;
         Ok(FrameParams {
-            session: turn.session,
-            frame,
-            signals,
-            world: Arc::try_clone(&turn.world)?,
-            memories: Arc::try_clone(&turn.memories)?,
-            known: turn.known.under(alloc, signals)?,
+            start: Arc::new(alloc, start)?,
+            known,
         })
     }
 
     pub fn session(&self) -> &'t Session
         ensures { result.now ≡ self.now.game }
     {
-        self.session
+        self.start.session()
     }
 
     /// Frames count from 1.
@@ -118,14 +82,14 @@ impl<'t> FrameParams<'t> {
         ensures value { result ≡ self.now.frame }
         ensures positive { 0 < result }
     {
-        self.frame
+        self.start.frame()
     }
 
     /// The signals of the frame.
     pub fn signals(&self) -> Signals
         ensures { result ≡ signals_in self.now.game self.now.frame }
     {
-        self.signals
+        self.start.signals()
     }
 
     /// The world after the frame before.
@@ -133,7 +97,7 @@ impl<'t> FrameParams<'t> {
         ensures value { result.now ≡ world_after self.now.game (self.now.frame - 1) }
         ensures agents { length result.now.agents ≡ length self.now.game.trees }
     {
-        &self.world
+        self.start.world()
     }
 
     /// An agent's memory after the frame before.
@@ -142,7 +106,14 @@ impl<'t> FrameParams<'t> {
         ensures value { result.now ≡ memory_before self.now.game self.now.frame agent }
         ensures fits { Fits (tree_of self.now.game agent) result.now }
     {
-        self.memories[agent as usize].memory()
+        self.start.memory_of(agent)
+    }
+
+    // What the frame starts from, once more; nothing is copied.
+    pub(crate) fn share(&self) -> Result<Arc<FrameStart<'t>>, AllocError>
+        ensures { IfOk result (λ start. arc_value start ≡ self.now) }
+    {
+        Ok(Arc::try_clone(&self.start)?)
     }
 
     /// Keeps the distances that the search for a way of the frame found, for the tasks that are made later and for the

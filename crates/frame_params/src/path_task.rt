@@ -4,12 +4,13 @@ ghost use Rattle.grid_world.specs.World.{point};
 ghost use Rattle.frame_params.specs.Contents.{signals_in, way_in};
 ghost use Rattle.frame_params.specs.Distances.{IsUnderIf};
 
+use crate::frame_start::FrameStart;
 use crate::kept_distances::KeptDistances;
 use crate::params::FrameParams;
 use crate::parked::Parked;
 use crate::way::Way;
 use game_session::Session;
-use grid_world::{Answer, Place, Signals, World};
+use grid_world::{Answer, Place, World};
 use job_core::names::JobName;
 use std::alloc::{AllocError, Allocator, Global};
 use std::marker::Model;
@@ -17,13 +18,10 @@ use std::sync::Arc;
 
 /// A path question of an agent in a frame that is to be answered.
 pub struct PathTask<'t> {
-    session: &'t Session,
-    frame: u32,
+    start: Arc<FrameStart<'t>>,
     agent: u32,
     question: u32,
     place: Place,
-    signals: Signals,
-    world: Arc<World>,
     // The distances to the place, where they are known.
     known: Option<KeptDistances<'t>>,
 }
@@ -31,19 +29,17 @@ pub struct PathTask<'t> {
 impl<'t> Drop for PathTask<'t> {
     fn drop(self) {
         let Self {
-            session: _,
-            frame: _,
+            start: _,
             agent: _,
             question: _,
             place: _,
-            signals: _,
-            world: _,
             known: _,
         } = self;
     }
 }
 
 impl<'t> Model for PathTask<'t> {
+    ghost use Rattle.std.specs.Prelude.{◌<◌, length};
     ghost use Rattle.std.specs.Arc.{arc_value};
     ghost use Rattle.frame_params.specs.Names.{QuestionOf, question_code};
 
@@ -51,14 +47,20 @@ impl<'t> Model for PathTask<'t> {
 
     ghost coded = { question_code };
 
-    ghost use Rattle.frame_params.specs.Thinks.{Sees, AsksFor};
+    ghost use Rattle.frame_params.specs.Contents.{signals_in};
+    ghost use Rattle.frame_params.specs.Thinks.{AsksFor};
     ghost use Rattle.frame_params.specs.Distances.{IsGivenIf};
 
-    ghost view = { λ t. record { game = t.session.now; frame = t.frame; agent = t.agent; question = t.question } };
+    ghost view = { λ t. record {
+      game = (arc_value t.start).game;
+      frame = (arc_value t.start).frame;
+      agent = t.agent;
+      question = t.question;
+    } };
 
-    ghost invariant = { λ t. Sees t.session.now t.frame t.agent (arc_value t.world) t.signals
-        × AsksFor t.session.now t.frame t.agent t.question t.place
-        × IsGivenIf t.session.now t.signals t.place t.known };
+    ghost invariant = { λ t. (t.agent < length (arc_value t.start).game.trees)
+        × AsksFor (arc_value t.start).game (arc_value t.start).frame t.agent t.question t.place
+        × IsGivenIf (arc_value t.start).game (signals_in (arc_value t.start).game (arc_value t.start).frame) t.place t.known };
 }
 
 // The cell of an agent.
@@ -72,8 +74,8 @@ fn cell_of(world: &World, agent: u32) -> (u32, u32)
 }
 
 impl<'t> PathTask<'t> {
-    /// The search for the way to the place that a parked tick of the frame asks for. The world is the frame's own, and so are
-    /// the distances to the place where they are known; nothing is copied.
+    /// The search for the way to the place that a parked tick of the frame asks for. What it reads is the frame's own, and so
+    /// are the distances to the place where they are known; nothing is copied.
     pub fn of(
         _alloc: Global,
         params: &FrameParams<'t>,
@@ -86,13 +88,10 @@ impl<'t> PathTask<'t> {
         let place = parked.pending.place();
         let known = params.known.shared_to(place)?;
         Ok(PathTask {
-            session: parked.session,
-            frame: parked.frame,
+            start: params.share()?,
             agent: parked.agent,
             question: parked.question,
             place,
-            signals: params.signals,
-            world: Arc::try_clone(&params.world)?,
             known,
         })
     }
@@ -100,14 +99,14 @@ impl<'t> PathTask<'t> {
     pub fn session(&self) -> &'t Session
         ensures { result.now ≡ self.now.game }
     {
-        self.session
+        self.start.session()
     }
 
     pub fn name(&self) -> JobName
         ensures { result ≡ JobName.Path self.now.frame self.now.agent self.now.question }
     {
         JobName::Path {
-            frame: self.frame,
+            frame: self.start.frame(),
             agent: self.agent,
             question: self.question,
         }
@@ -122,11 +121,18 @@ impl<'t> PathTask<'t> {
         ensures way { IfOk result (λ parts. parts.0 ≡ way_in self.now.game self.now.frame self.now.agent self.now.question) }
         ensures found { IfOk result (λ parts. IsUnderIf self.now.game (signals_in self.now.game self.now.frame) parts.1) }
     {
-        let from = cell_of(&self.world, self.agent);
+        let start: &FrameStart<'t> = &self.start;
+        let from = cell_of(start.world(), self.agent);
         if let Some(known) = &self.known {
             return Ok((known.way(from), None));
         }
-        match KeptDistances::to(alloc, scratch, self.session, self.signals, self.place)? {
+        match KeptDistances::to(
+            alloc,
+            scratch,
+            start.session(),
+            start.signals(),
+            self.place,
+        )? {
             None => Ok((Answer::NoWay, None)),
             Some(found) => Ok((found.way(from), Some(found))),
         }
@@ -151,8 +157,8 @@ impl<'t> PathTask<'t> {
     {
         let (answer, found) = self.answered(alloc, scratch)?;
         Ok(Way {
-            session: self.session,
-            frame: self.frame,
+            session: self.start.session(),
+            frame: self.start.frame(),
             agent: self.agent,
             question: self.question,
             answer,

@@ -58,7 +58,7 @@ impl<'t> Slots<'t> {
         requires { is_free self.old params.frame ≡ true }
         ensures { self.new ≡ slice_set self.old (slot_of self.old params.entry.frame) (Some params.entry) }
     {
-        let at = params.frame as usize % self.places.len();
+        let at = params.frame() as usize % self.places.len();
         self.places[at] = Some(params);
     }
 
@@ -68,7 +68,7 @@ impl<'t> Slots<'t> {
     {
         match &self.places[frame as usize % self.places.len()] {
             Some(params) => {
-                if params.frame == frame {
+                if params.frame() == frame {
                     Some(params)
                 } else {
                     None
@@ -95,7 +95,7 @@ impl<'t> Slots<'t> {
     {
         let at = way.frame as usize % self.places.len();
         if let Some(params) = &mut self.places[at] {
-            if params.frame == way.frame {
+            if params.frame() == way.frame {
                 params.learn(alloc, way);
             }
         }

@@ -9,6 +9,7 @@ ghost use Rattle.bt_tick.specs.Outcome.{place_of};
 ghost use Rattle.bt_tick.specs.Thinking.{Thinking};
 ghost use Rattle.bt_tick.specs.declared.tick.Outcome.TheVariants.{Asks};
 
+use crate::frame_start::FrameStart;
 use crate::kept_memory::KeptMemory;
 use crate::params::FrameParams;
 use crate::parked::Parked;
@@ -18,7 +19,7 @@ use crate::thought::Thought;
 use crate::way::Way;
 use bt_tick::{Memory, Outcome, Pending, View, begin, resume};
 use game_session::Session;
-use grid_world::{Answer, Signals, World};
+use grid_world::Answer;
 use job_core::names::JobName;
 use std::alloc::{AllocError, Allocator, Global};
 use std::marker::Model;
@@ -26,28 +27,23 @@ use std::sync::Arc;
 
 /// An agent's thought in a frame, at its start or with the answer to the question at which it stood.
 pub struct ThinkTask<'t> {
-    session: &'t Session,
-    frame: u32,
+    start: Arc<FrameStart<'t>>,
     agent: u32,
-    signals: Signals,
-    world: Arc<World>,
     stand: Stand<'t>,
 }
 
 impl<'t> Drop for ThinkTask<'t> {
     fn drop(self) {
         let Self {
-            session: _,
-            frame: _,
+            start: _,
             agent: _,
-            signals: _,
-            world: _,
             stand: _,
         } = self;
     }
 }
 
 impl<'t> Model for ThinkTask<'t> {
+    ghost use Rattle.std.specs.Prelude.{◌<◌, length};
     ghost use Rattle.std.specs.Arc.{arc_value};
     ghost use Rattle.frame_params.specs.Names.{ThinkOf, think_code};
 
@@ -55,12 +51,17 @@ impl<'t> Model for ThinkTask<'t> {
 
     ghost coded = { think_code };
 
-    ghost use Rattle.frame_params.specs.Thinks.{Sees, IsStand, answered_at};
+    ghost use Rattle.frame_params.specs.Thinks.{IsStand, answered_at};
 
-    ghost view = { λ t. record { game = t.session.now; frame = t.frame; agent = t.agent; answered = answered_at t.stand } };
+    ghost view = { λ t. record {
+      game = (arc_value t.start).game;
+      frame = (arc_value t.start).frame;
+      agent = t.agent;
+      answered = answered_at t.stand;
+    } };
 
-    ghost invariant = { λ t. Sees t.session.now t.frame t.agent (arc_value t.world) t.signals
-        × IsStand t.session.now t.frame t.agent t.stand };
+    ghost invariant = { λ t. (t.agent < length (arc_value t.start).game.trees)
+        × IsStand (arc_value t.start).game (arc_value t.start).frame t.agent t.stand };
 }
 
 // Begins the tick of the view's agent, with a copy of its memory. The nodes that it has open lie in `scratch`.
@@ -106,7 +107,7 @@ fn resumed<'t, A: Allocator + Clone>(
 impl<'t> ThinkTask<'t> {
     ghost use Rattle.frame_params.specs.Thinks.{ThinksTo, IsThinkStep};
 
-    /// An agent's thought in a frame at its start. The world and the memories are the frame's own, so nothing is copied.
+    /// An agent's thought in a frame at its start. What it reads is the frame's own, so nothing is copied.
     pub fn start(
         _alloc: Global,
         params: &FrameParams<'t>,
@@ -115,14 +116,10 @@ impl<'t> ThinkTask<'t> {
         requires { agent < length params.now.game.trees }
         ensures { IfOk result (λ t. t ≡ record { game = params.now.game; frame = params.now.frame; agent = agent; answered = 0 }) }
     {
-        let memories = Arc::try_clone(&params.memories)?;
         Ok(ThinkTask {
-            session: params.session,
-            frame: params.frame,
+            start: params.share()?,
             agent,
-            signals: params.signals,
-            world: Arc::try_clone(&params.world)?,
-            stand: Stand::Start { memories },
+            stand: Stand::Start,
         })
     }
 
@@ -141,13 +138,11 @@ impl<'t> ThinkTask<'t> {
         // A tick asks at most as often as its tree has nodes.
         let nodes = parked.session.tree_of(parked.agent).size();
         prove!(u64::from(parked.question) < nodes);
+        let start = params.share()?;
         let pending = Arc::try_clone(&parked.pending)?;
         Ok(ThinkTask {
-            session: parked.session,
-            frame: parked.frame,
+            start,
             agent: parked.agent,
-            signals: params.signals,
-            world: Arc::try_clone(&params.world)?,
             stand: Stand::Answered {
                 question: parked.question,
                 pending,
@@ -159,16 +154,22 @@ impl<'t> ThinkTask<'t> {
     pub fn session(&self) -> &'t Session
         ensures { result.now ≡ self.now.game }
     {
-        self.session
+        self.start.session()
     }
 
     pub fn name(&self) -> JobName
         ensures { result ≡ JobName.Think self.now.frame self.now.agent }
     {
         JobName::Think {
-            frame: self.frame,
+            frame: self.frame(),
             agent: self.agent,
         }
+    }
+
+    fn frame(&self) -> u32
+        ensures { result ≡ self.now.frame }
+    {
+        self.start.frame()
     }
 
     // How many of its questions are answered.
@@ -176,7 +177,7 @@ impl<'t> ThinkTask<'t> {
         ensures { result ≡ self.now.answered }
     {
         match &self.stand {
-            Stand::Start { memories: _ } => 0,
+            Stand::Start => 0,
             Stand::Answered { question, .. } => *question + 1,
         }
     }
@@ -190,18 +191,19 @@ impl<'t> ThinkTask<'t> {
         ensures there { self.now.agent < length self.now.game.trees }
         ensures thinks { IfOk result (λ o. ThinksTo self.now.game self.now.frame self.now.agent self.now.answered o) }
     {
+        let start: &FrameStart<'t> = &self.start;
         let view = View {
-            world: &self.world,
-            signals: self.signals,
+            world: start.world(),
+            signals: start.signals(),
             agent: self.agent,
         };
         match &self.stand {
-            Stand::Start { memories } => Ok(begun(
+            Stand::Start => Ok(begun(
                 alloc,
                 scratch,
-                self.session,
+                start.session(),
                 &view,
-                memories[self.agent as usize].memory(),
+                start.memory_of(self.agent),
             )?),
             Stand::Answered {
                 question: _,
@@ -221,8 +223,8 @@ impl<'t> ThinkTask<'t> {
         ensures { IfOk result (λ p. p ≡ record { game = self.now.game; frame = self.now.frame; agent = self.now.agent; question = self.now.answered }) }
     {
         Ok(Parked {
-            session: self.session,
-            frame: self.frame,
+            session: self.session(),
+            frame: self.frame(),
             agent: self.agent,
             question: self.answered(),
             pending: Arc::new(alloc, pending.copy_in(alloc)?)?,
@@ -253,8 +255,8 @@ impl<'t> ThinkTask<'t> {
                 memory,
                 intent,
             } => Ok(ThinkStep::Ended(Thought {
-                session: self.session,
-                frame: self.frame,
+                session: self.session(),
+                frame: self.frame(),
                 agent: self.agent,
                 questions: self.answered(),
                 status,

@@ -1,6 +1,5 @@
-use Rattle.std.proofs.Common.{◌∙◌, ◌<◌, ap, sym, subst}
+use Rattle.std.proofs.Common.{◌∙◌, ◌<◌, sym, subst}
 use Rattle.std.specs.Arc.{arc_value}
-use Rattle.game_rules.specs.Game.{signals}
 use Rattle.frame_params.specs.Names.{FrameOf}
 use Rattle.frame_params.specs.Contents.{bands_in}
 use Rattle.frame_params.proofs.Turning.{is_there}
@@ -11,7 +10,6 @@ invariant_of-result c =
     let g = c.turn.inside.session.now in
     let f = c.turn.inside.frame in
     let world = c.in_ok-try_clone.ensures ∙ c.turn.invariant.1.world_is in (
-      c.signals.ensures ∙ ap (λ x. signals x f) c.script.ensures,
       world,
       is_there g f (arc_value c.in_ok-try_clone.field-0) c.args.band world
           (subst (λ (p : FrameOf). c.args.band < bands_in p.game) (sym c.turn.view_is) c.requires),

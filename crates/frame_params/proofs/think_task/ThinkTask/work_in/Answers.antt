@@ -20,19 +20,26 @@ invariant_of-result g c =
     let x : ThinkOf = c.args.self.now in
     let it : Thought = record { status = c.in-Ended.status; memory = c.in-Ended.memory; intent = c.in-Ended.intent } in
     let t = thinks_same x.game x.frame x.agent x.answered c.in-Ended.is c.in_ok-status.ensures.thinks in
-    subst (λ (m : List ℕ). Keeps c.self.inside.session.now c.self.inside.frame c.self.inside.agent it.status m it.intent c.answered.result) (sym c.in_ok-new-in-Ended.ensures)
-    (subst (λ (y : ThinkOf). Keeps y.game y.frame y.agent it.status it.memory it.intent c.answered.result) (sym c.self.view_is) (
+    let agent : c.self.inside.agent ≡ x.agent = ap (λ (y : ThinkOf). y.agent) c.self.view_is in
+    subst (λ (m : List ℕ). Keeps c.session.result.now c.frame.result c.self.inside.agent it.status m it.intent c.answered.result) (sym c.in_ok-new-in-Ended.ensures)
+    (subst (λ (g : Game). Keeps g c.frame.result c.self.inside.agent it.status it.memory it.intent c.answered.result) (sym c.session.ensures)
+    (subst (λ (f : ℕ). Keeps x.game f c.self.inside.agent it.status it.memory it.intent c.answered.result) (sym c.frame.ensures)
+    (subst (λ (a : ℕ). Keeps x.game x.frame a it.status it.memory it.intent c.answered.result) (sym agent) (
       ended_thought x.game x.frame x.agent x.answered it.status it.memory it.intent t,
       c.answered.ensures ∙ ended_all x.game x.frame x.agent x.answered it.status it.memory it.intent t,
       t.tree,
-    ))
+    ))))
 
 pub returns-in_ok-new-in-Ended : goal.returns-in_ok-new-in-Ended
 returns-in_ok-new-in-Ended g c =
     let x : ThinkOf = c.args.self.now in
     let it : Thought = record { status = c.in-Ended.status; memory = c.in-Ended.memory; intent = c.in-Ended.intent } in
     let t = thinks_same x.game x.frame x.agent x.answered c.in-Ended.is c.in_ok-status.ensures.thinks in
-    (ended_all x.game x.frame x.agent x.answered it.status it.memory it.intent t, ap (λ (y : ThinkOf). part_of y.game y.frame y.agent) c.self.view_is)
+    (
+      ended_all x.game x.frame x.agent x.answered it.status it.memory it.intent t,
+      ap (λ (g : Game). part_of g c.frame.result c.self.inside.agent) c.session.ensures ∙ ap (λ (f : ℕ). part_of x.game f c.self.inside.agent) c.frame.ensures
+          ∙ ap (λ (y : ThinkOf). part_of x.game x.frame y.agent) c.self.view_is,
+    )
 
 pub returns-in_ok-parked-in-Asks : goal.returns-in_ok-parked-in-Asks
 returns-in_ok-parked-in-Asks g c =

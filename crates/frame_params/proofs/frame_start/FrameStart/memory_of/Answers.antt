@@ -1,7 +1,7 @@
 use Rattle.std.proofs.Common.{arith}
 use Rattle.std.proofs.lemmas.Grind.{common_steps}
 use Rattle.frame_params.specs.Contents.{memory_before}
-use Rattle.frame_params.proofs.params.FrameParams.memory_of.Goals as goal
+use Rattle.frame_params.proofs.frame_start.FrameStart.memory_of.Goals as goal
 
 pub returns-clause-value : goal.returns-clause-value
 unfolding memory_before

@@ -2,7 +2,7 @@ use Rattle.std.proofs.Common.{◌≡◌, ◌++◌, map, drop, length}
 use Rattle.game_jobs.specs.Instance.{tree_of}
 use Rattle.frame_params.specs.Contents.{thought_for}
 use Rattle.frame_params.proofs.Fitting.{FitSoFar}
-use Rattle.frame_params.proofs.logic_task.memories_of.Given as goal
+use Rattle.frame_params.proofs.gathered.memories_of.Given as goal
 
 abbrev pub invariant-thoughts : goal.invariant-thoughts
 invariant-thoughts l = record {

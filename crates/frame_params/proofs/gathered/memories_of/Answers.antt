@@ -5,7 +5,7 @@ use Rattle.bt_nodes.specs.Bounds.{Fits}
 use Rattle.game_jobs.specs.Instance.{tree_of}
 use Rattle.frame_params.specs.Names.{PartOf}
 use Rattle.frame_params.proofs.Fitting.{FitSoFar, fit_more}
-use Rattle.frame_params.proofs.logic_task.memories_of.Goals as goal
+use Rattle.frame_params.proofs.gathered.memories_of.Goals as goal
 
 pub thoughts-preserved : goal.thoughts-preserved
 thoughts-preserved c =

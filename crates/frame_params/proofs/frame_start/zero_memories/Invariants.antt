@@ -1,7 +1,7 @@
 use Rattle.std.proofs.Common.{◌≡◌, map, take, length}
 use Rattle.bt_nodes.specs.Bounds.{zero_memory}
 use Rattle.frame_params.proofs.Fitting.{FitSoFar}
-use Rattle.frame_params.proofs.params.zero_memories.Given as goal
+use Rattle.frame_params.proofs.frame_start.zero_memories.Given as goal
 
 abbrev pub invariant-agents : goal.invariant-agents
 invariant-agents l = record {

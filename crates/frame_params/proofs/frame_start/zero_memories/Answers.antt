@@ -4,7 +4,7 @@ use Rattle.bt_nodes.specs.Bounds.{Fits, zero_memory}
 use Rattle.bt_nodes.specs.Trees.{plain_of}
 use Rattle.std.proofs.lemmas.List.{get_or_default}
 use Rattle.frame_params.proofs.Fitting.{FitSoFar, fit_more, zero_more}
-use Rattle.frame_params.proofs.params.zero_memories.Goals as goal
+use Rattle.frame_params.proofs.frame_start.zero_memories.Goals as goal
 
 pub agents-preserved : goal.agents-preserved
 agents-preserved c =

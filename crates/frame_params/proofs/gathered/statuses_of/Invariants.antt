@@ -1,6 +1,6 @@
 use Rattle.std.proofs.Common.{◌≡◌, ◌++◌, map, drop}
 use Rattle.frame_params.specs.Contents.{thought_for}
-use Rattle.frame_params.proofs.logic_task.statuses_of.Given as goal
+use Rattle.frame_params.proofs.gathered.statuses_of.Given as goal
 
 abbrev pub invariant-thoughts : goal.invariant-thoughts
 invariant-thoughts l =

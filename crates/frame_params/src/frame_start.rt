@@ -1,0 +1,136 @@
+ghost use Rattle.std.specs.Prelude.{◌≡◌, ◌+◌, ◌-◌, ◌^◌, ◌<◌, IfOk, map, length};
+ghost use Rattle.bt_nodes.specs.Bounds.{zero_memory, Fits};
+ghost use Rattle.game_jobs.specs.Instance.{tree_of};
+ghost use Rattle.frame_params.specs.Contents.{signals_in, world_after, memory_before, AllFit};
+
+use crate::kept_memory::KeptMemory;
+use crate::turn::Turn;
+use bt_tick::Memory;
+use game_session::Session;
+use grid_world::{Signals, World};
+use std::alloc::{AllocError, Global};
+use std::marker::Model;
+use std::sync::Arc;
+
+// What a frame starts from: its signals, and the world and the memories of the frame before. All tasks of the frame share
+// one. The world lies apart from it, so that who counts the shares disturbs nobody who reads the world.
+pub(crate) struct FrameStart<'t> {
+    session: &'t Session,
+    frame: u32,
+    signals: Signals,
+    world: Arc<World>,
+    memories: Arc<Vec<KeptMemory>>,
+}
+
+impl<'t> Drop for FrameStart<'t> {
+    fn drop(self) {
+        let Self {
+            session: _,
+            frame: _,
+            signals: _,
+            world: _,
+            memories: _,
+        } = self;
+    }
+}
+
+impl<'t> Model for FrameStart<'t> {
+    ghost use Rattle.std.specs.Prelude.{◌≡◌, ◌<◌, ◌-◌};
+    ghost use Rattle.std.specs.Arc.{arc_value};
+    ghost use Rattle.frame_params.specs.Names.{FrameOf, frame_code};
+    ghost use Rattle.frame_params.specs.Contents.{signals_in, IsAfter};
+
+    ghost Value = { FrameOf };
+
+    ghost coded = { frame_code };
+
+    ghost view = { λ s. record { game = s.session.now; frame = s.frame } };
+
+    ghost invariant = { λ s. (0 < s.frame) × (s.signals ≡ signals_in s.session.now s.frame)
+        × IsAfter s.session.now (s.frame - 1) (arc_value s.world) (arc_value s.memories).items };
+}
+
+// A memory of zeros for each agent.
+fn zero_memories(alloc: Global, session: &Session) -> Result<Vec<KeptMemory>, AllocError>
+    ensures zeros { IfOk result (λ memories. memories.items ≡ map zero_memory session.now.trees) }
+    ensures fit { IfOk result (λ memories. AllFit session.now.trees memories.items) }
+{
+    let count = session.world().agents().len();
+    let mut memories = Vec::with_capacity(alloc, count)?;
+    'agents: for agent in 0..count as u32 {
+        let zero = Memory::zero(alloc, session.tree_of(agent))?;
+        memories.push(KeptMemory::new(alloc, zero)?)?;
+    }
+    Ok(memories)
+}
+
+impl<'t> FrameStart<'t> {
+    #[tactic(auto, unfolding(crate::specs::Contents::world_after, crate::specs::Contents::memories_after))]
+    // That of frame 1: the session's world, and memories of zeros.
+    pub(crate) fn first(alloc: Global, session: &'t Session) -> Result<FrameStart<'t>, AllocError>
+        ensures { IfOk result (λ s. s ≡ record { game = session.now; frame = 1 }) }
+    {
+        let world = session.world().copy(alloc)?;
+        let memories = zero_memories(alloc, session)?;
+        Ok(FrameStart {
+            session,
+            frame: 1,
+            signals: session.script().signals(1),
+            world: Arc::new(alloc, world)?,
+            memories: Arc::new(alloc, memories)?,
+        })
+    }
+
+    // That of the frame after a turn's. The world and the memories are the turn's own, so nothing is copied.
+    pub(crate) fn after(turn: &Turn<'t>) -> Result<FrameStart<'t>, AllocError>
+        requires { turn.now.frame + 1 < 2 ^ 32 }
+        ensures { IfOk result (λ s. s ≡ record { game = turn.now.game; frame = turn.now.frame + 1 }) }
+    {
+        let frame = turn.frame + 1;
+        Ok(FrameStart {
+            session: turn.session,
+            frame,
+            signals: turn.session.script().signals(frame),
+            world: Arc::try_clone(&turn.world)?,
+            memories: Arc::try_clone(&turn.memories)?,
+        })
+    }
+
+    pub(crate) fn session(&self) -> &'t Session
+        ensures { result.now ≡ self.now.game }
+    {
+        self.session
+    }
+
+    // Frames count from 1.
+    pub(crate) fn frame(&self) -> u32
+        ensures value { result ≡ self.now.frame }
+        ensures positive { 0 < result }
+    {
+        self.frame
+    }
+
+    // The signals of the frame.
+    pub(crate) fn signals(&self) -> Signals
+        ensures { result ≡ signals_in self.now.game self.now.frame }
+    {
+        self.signals
+    }
+
+    // The world after the frame before.
+    pub(crate) fn world(&self) -> &World
+        ensures value { result.now ≡ world_after self.now.game (self.now.frame - 1) }
+        ensures agents { length result.now.agents ≡ length self.now.game.trees }
+    {
+        &self.world
+    }
+
+    // An agent's memory after the frame before.
+    pub(crate) fn memory_of(&self, agent: u32) -> &Memory
+        requires { agent < length self.now.game.trees }
+        ensures value { result.now ≡ memory_before self.now.game self.now.frame agent }
+        ensures fits { Fits (tree_of self.now.game agent) result.now }
+    {
+        self.memories[agent as usize].memory()
+    }
+}

@@ -1,0 +1,83 @@
+ghost use Rattle.std.specs.Prelude.{◌≡◌, true, IfOk, MatchOption, None};
+ghost use Rattle.grid_world.specs.Grid.{is_on_map, place_of};
+ghost use Rattle.grid_world.specs.Way.{way};
+ghost use Rattle.grid_world.specs.World.{point};
+
+use game_session::Session;
+use grid_path::{Distances, PathFault};
+use grid_world::{Answer, Place, Signals};
+use std::alloc::{AllocError, Allocator, Global};
+use std::marker::Model;
+
+// The distances to a place on the ground of a session while the doors of these signals are open.
+pub(crate) struct PlaceDistances<'t> {
+    session: &'t Session,
+    signals: Signals,
+    place: Place,
+    distances: Distances,
+}
+
+impl<'t> Drop for PlaceDistances<'t> {
+    fn drop(self) {
+        let Self {
+            session: _,
+            signals: _,
+            place: _,
+            distances: _,
+        } = self;
+    }
+}
+
+impl<'t> Model for PlaceDistances<'t> {
+    ghost use Rattle.grid_path.specs.Distances.{AreDistances};
+    ghost use Rattle.frame_params.specs.Distances.{DistancesOf, distances_code};
+
+    ghost Value = { DistancesOf };
+
+    ghost coded = { distances_code };
+
+    ghost view = { λ d. record { game = d.session.now; signals = d.signals; place = d.place } };
+
+    ghost invariant = { λ d. AreDistances d.session.now.world d.signals d.place d.distances };
+}
+
+impl<'t> PlaceDistances<'t> {
+    ghost use Rattle.frame_params.specs.Distances.{distances_of};
+
+    // None where the place is not on the map.
+    pub(crate) fn to<A: Allocator + Clone>(
+        alloc: Global,
+        scratch: A,
+        session: &'t Session,
+        signals: Signals,
+        place: Place,
+    ) -> Result<Option<PlaceDistances<'t>>, AllocError>
+        ensures { IfOk result (λ made. MatchOption made (place_of session.now.world place ≡ None)
+            (λ d. d ≡ distances_of session.now signals place)) }
+    {
+        match Distances::to(alloc, scratch, session.world(), signals, place) {
+            Ok(distances) => Ok(Some(PlaceDistances {
+                session,
+                signals,
+                place,
+                distances,
+            })),
+            Err(PathFault::OffMap) => Ok(None),
+            Err(PathFault::OutOfMemory) => Err(AllocError),
+        }
+    }
+
+    pub(crate) fn place(&self) -> Place
+        ensures { result ≡ self.now.place }
+    {
+        self.place
+    }
+
+    // The way to the place from a cell of the map.
+    pub(crate) fn way(&self, from: (u32, u32)) -> Answer
+        requires { is_on_map self.now.game.world (point from.0 from.1) ≡ true }
+        ensures { result ≡ way self.now.game.world self.now.signals (point from.0 from.1) self.now.place }
+    {
+        self.distances.way(self.session.world(), self.place, from)
+    }
+}
