@@ -14,8 +14,8 @@ use std::sync::{MutexGuard, Wait};
 use task_board::{BoardFault, Settings, Shown};
 use waiting::Rest;
 
-// Waits until the next frame may be there. Where the mail has bands they are taken in place of sleeping, so a worker that finds no room there
-// is never left waiting.
+// Waits until the next frame may be there. Where the mail has bands they are taken in place of sleeping, so a worker
+// that finds no room there is never left waiting.
 fn wait_for_frame<'m, 't, L: RunLedger, M: Ledger, R: Wait + Clock>(
     rt: &R,
     hall: &'m Hall<'t, L, M>,
@@ -44,8 +44,8 @@ fn wait_for_frame<'m, 't, L: RunLedger, M: Ledger, R: Wait + Clock>(
     board
 }
 
-// Shows the next frame, once all of it is drawn. The workers are told: a Logic may have waited for the frame's slot, and
-// after the last frame they end.
+// Shows the next frame, once all of it is drawn. The workers are told: a Logic may have waited for the frame's slot,
+// and after the last frame they end.
 fn emit<'t, L: RunLedger, M: Ledger, R: Wait + Clock>(
     rt: &R,
     session: &Session,
@@ -95,8 +95,8 @@ fn emit<'t, L: RunLedger, M: Ledger, R: Wait + Clock>(
     unreachable!()
 }
 
-/// The text of the next frame, once all of it is drawn. A band was put into the mail before its Draw was finished, so behind the showing all
-/// bands of the frame are in the mail or in the table.
+/// The text of the next frame, once all of it is drawn. A band was put into the mail before its Draw was finished, so
+/// behind the showing all bands of the frame are in the mail or in the table.
 pub fn next_text<'t, L: RunLedger, M: Ledger, R: Wait + Clock>(
     rt: &R,
     alloc: Global,

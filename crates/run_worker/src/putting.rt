@@ -12,11 +12,11 @@ use std::sync::ledger::Ledger;
 // How often a full queue is tried again before its worker sleeps: some microseconds.
 const TRIES: u32 = 100;
 
-/// Puts a band into the worker's queue of the mail, and waits for room where it is full. False, and the band is let go, where the board is
-/// stopped meanwhile.
+/// Puts a band into the worker's queue of the mail, and waits for room where it is full. False, and the band is let go,
+/// where the board is stopped meanwhile.
 ///
-/// It tries once more under the lock before it sleeps: the printer takes the lock behind each time that it has taken bands, so it either
-/// takes before that try or sees who sleeps.
+/// It tries once more under the lock before it sleeps: the printer takes the lock behind each time that it has taken
+/// bands, so it either takes before that try or sees who sleeps.
 pub fn put_band<'t, L: RunLedger, M: Ledger, R: Wait>(
     rt: &R,
     hall: &Hall<'t, L, M>,

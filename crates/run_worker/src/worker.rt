@@ -156,8 +156,8 @@ fn hand_in_and_take<'t, L: RunLedger, M: Ledger>(
     Ok(next.is_some())
 }
 
-// Tells the board what a worker's work came to and takes the next task, in one hold of the lock. Whether there is one. Whoever may go on now
-// is woken.
+// Tells the board what a worker's work came to and takes the next task, in one hold of the lock. Whether there is one.
+// Whoever may go on now is woken.
 fn tell<'t, L: RunLedger, M: Ledger, R: Wait + Clock>(
     rt: &R,
     session: &Session,
@@ -186,7 +186,8 @@ fn tell<'t, L: RunLedger, M: Ledger, R: Wait + Clock>(
     is_given
 }
 
-// Tells the board what a worker's work came to and takes the next task; where there is none, or the worker rests, waits for it.
+// Tells the board what a worker's work came to and takes the next task; where there is none, or the worker rests, waits
+// for it.
 fn go_on<'t, L: RunLedger, M: Ledger, R: Wait + Clock>(
     rt: &R,
     session: &Session,
@@ -211,8 +212,8 @@ fn go_on<'t, L: RunLedger, M: Ledger, R: Wait + Clock>(
     }
 }
 
-// Delivers what a worker's work came to, its band first, so that all bands of a frame are in the mail before its last Draw is finished. There
-// is no next task where the board is done or stopped.
+// Delivers what a worker's work came to, its band first, so that all bands of a frame are in the mail before its last
+// Draw is finished. There is no next task where the board is done or stopped.
 fn deliver<'t, L: RunLedger, M: Ledger, R: Wait + Clock>(
     rt: &R,
     session: &Session,

@@ -1,7 +1,7 @@
 use std::sync::atomic::{AtomicU64, Ordering};
 
-/// A number that many threads read and write, with room on both sides: no other one lies on the same line of a cache, so who uses its
-/// neighbours is not disturbed.
+/// A number that many threads read and write, with room on both sides: no other one lies on the same line of a cache,
+/// so who uses its neighbours is not disturbed.
 pub(crate) struct Line {
     before: [u64; 8],
     number: AtomicU64,

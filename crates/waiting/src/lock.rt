@@ -2,8 +2,8 @@ use crate::line::Line;
 use std::hint;
 use std::sync::{Mutex, MutexGuard, Wait};
 
-// How often a thread looks whether a lock is free before it sleeps for it, and how long it looks away between two looks: some twenty
-// microseconds in all.
+// How often a thread looks whether a lock is free before it sleeps for it, and how long it looks away between two
+// looks: some twenty microseconds in all.
 const LOOKS: u32 = 600;
 
 const LOOKS_AWAY: u32 = 6;
@@ -11,8 +11,9 @@ const LOOKS_AWAY: u32 = 6;
 // Of how many looks one is a try, whatever is said of the lock.
 const EVERY: u32 = 16;
 
-/// What is said of a lock by those who take it and give it up: whether it is held. A try for a held lock takes its memory, and what lies
-/// beside it, from the core of the holder, so the others look here. It is a hint: where it is wrong, the lock is tried a little later.
+/// What is said of a lock by those who take it and give it up: whether it is held. A try for a held lock takes its
+/// memory, and what lies beside it, from the core of the holder, so the others look here. It is a hint: where it is
+/// wrong, the lock is tried a little later.
 pub(crate) struct Held {
     held: Line,
 }
@@ -45,7 +46,8 @@ impl Held {
 
 /// Takes a lock that is held for less than a microsecond at a time.
 ///
-/// A thread that sleeps for a lock makes each that gives it up wake one, which takes longer than many holds; so it looks for a while first.
+/// A thread that sleeps for a lock makes each that gives it up wake one, which takes longer than many holds; so it
+/// looks for a while first.
 pub(crate) fn lock_soon<'m, T, R: Wait>(
     rt: &R,
     lock: &'m Mutex<T>,

@@ -10,14 +10,15 @@ const BRIEF: u64 = 1_000;
 // What work is taken for at first: nanoseconds.
 const FIRST: u64 = 12_000;
 
-// How long an idle worker looks for a task where several workers do more than one: nanoseconds. In most levels it is longer than what one
-// job has to end before many others begin.
+// How long an idle worker looks for a task where several workers do more than one: nanoseconds. In most levels it is
+// longer than what one job has to end before many others begin.
 const LONG: u64 = 50_000;
 
 // Of how many tasks one is measured.
 const EVERY: u64 = 8;
 
-// A step towards what is new, of a sixteenth: so it comes to where half of the tasks take longer, however long the longest of them took.
+// A step towards what is new, of a sixteenth: so it comes to where half of the tasks take longer, however long the
+// longest of them took.
 fn lately(old: u64, new: u64) -> u64 {
     if new > old {
         old.saturating_add(old / 16).saturating_add(1)
@@ -26,8 +27,8 @@ fn lately(old: u64, new: u64) -> u64 {
     }
 }
 
-/// How long the work of a task takes of late: half of them take longer. It says whether several workers do more than one, and nothing else: what a
-/// run writes depends on no clock.
+/// How long the work of a task takes of late: half of them take longer. It says whether several workers do more than
+/// one, and nothing else: what a run writes depends on no clock.
 pub struct Pace {
     nanos: Line,
 }
@@ -46,7 +47,8 @@ impl Pace {
         }
     }
 
-    /// Whether the work of a task is over so soon that one worker alone does more than several, who take turns at the lock.
+    /// Whether the work of a task is over so soon that one worker alone does more than several, who take turns at the
+    /// lock.
     pub fn is_brief(&self) -> bool {
         self.nanos.load() < BRIEF
     }

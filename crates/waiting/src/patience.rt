@@ -6,7 +6,8 @@ const MUCH: u64 = 15_000;
 // Of how many waits one is long in any case.
 const EVERY: u32 = 64;
 
-/// How long a thread looks for news before it sleeps: for long while it finds them so, and now and then to see whether it would.
+/// How long a thread looks for news before it sleeps: for long while it finds them so, and now and then to see whether
+/// it would.
 #[derive(Drop)]
 pub struct Patience {
     finds: bool,

@@ -6,8 +6,8 @@ const SHORTEST: u64 = 1;
 
 const LONGEST: u64 = 1_000;
 
-/// How long an idle thread looks for something to do before it sleeps, and how long it sleeps before it looks for what nobody woke it for. Where
-/// there was nothing, the next sleep is twice as long.
+/// How long an idle thread looks for something to do before it sleeps, and how long it sleeps before it looks for what
+/// nobody woke it for. Where there was nothing, the next sleep is twice as long.
 #[derive(Drop)]
 pub struct Rest {
     millis: u64,

@@ -15,8 +15,9 @@ const EVERY: u32 = 16;
 
 /// Threads that wait for something to do under a lock. Each spins a short while and then sleeps.
 ///
-/// Whoever makes something possible asks `want_one` under the lock, and calls `wake_one` behind it where that says so. Of those that spin one
-/// takes the news and goes for the lock. A thread that spins looks under the lock in any case before it sleeps, so it need not be woken.
+/// Whoever makes something possible asks `want_one` under the lock, and calls `wake_one` behind it where that says so.
+/// Of those that spin one takes the news and goes for the lock. A thread that spins looks under the lock in any case
+/// before it sleeps, so it need not be woken.
 pub struct Waiters {
     news: Line,
     spinning: Line,

@@ -6,8 +6,8 @@ use std::rt::Clock;
 use std::sync::{Mutex, MutexGuard, Wait};
 use std::time::Duration;
 
-/// Those who wait beside the lock of a run's board: the workers for a task or for room in the mail, and the printer for a frame. The lock
-/// itself is handed to each call, and is always the same one.
+/// Those who wait beside the lock of a run's board: the workers for a task or for room in the mail, and the printer for
+/// a frame. The lock itself is handed to each call, and is always the same one.
 pub struct Waiting {
     held: Held,
     pub workers: Waiters,
@@ -76,7 +76,8 @@ impl Waiting {
         self.printer.spin(rt, lock, &self.held, patience, nanos)
     }
 
-    /// Gives the lock up and sleeps among these waiters until it is woken, for a while at most. Whether the while is over.
+    /// Gives the lock up and sleeps among these waiters until it is woken, for a while at most. Whether the while is
+    /// over.
     pub fn doze<'m, T, R: Wait + Clock>(
         &self,
         rt: &R,
@@ -87,8 +88,8 @@ impl Waiting {
         waiters.doze(rt, guard, &self.held, most)
     }
 
-    /// Whether to wake a worker for a task that could be taken now. Called under the lock. Where the work is brief, a worker
-    /// that is awake takes it sooner.
+    /// Whether to wake a worker for a task that could be taken now. Called under the lock. Where the work is brief, a
+    /// worker that is awake takes it sooner.
     pub fn wants_worker(&self) -> bool {
         if self.pace.is_brief() && self.workers.sleepers() < u64::from(self.count) {
             return false;
@@ -96,14 +97,14 @@ impl Waiting {
         self.workers.want_one()
     }
 
-    /// Whether a worker had better rest than take a task: the work is brief, and another worker is awake. Under the lock it
-    /// is exact, so the last worker that is awake goes on.
+    /// Whether a worker had better rest than take a task: the work is brief, and another worker is awake. Under the
+    /// lock it is exact, so the last worker that is awake goes on.
     pub fn may_rest(&self) -> bool {
         self.pace.is_brief() && self.workers.sleepers() < u64::from(self.count).saturating_sub(1)
     }
 
-    /// Whether to wake the printer for a frame that could be shown now. Called under the lock. Where the work is brief, a
-    /// worker goes on first while it has a task.
+    /// Whether to wake the printer for a frame that could be shown now. Called under the lock. Where the work is brief,
+    /// a worker goes on first while it has a task.
     pub fn wants_printer(&self, is_idle: bool) -> bool {
         if self.pace.is_brief() && !is_idle {
             self.printer.tell_one();
