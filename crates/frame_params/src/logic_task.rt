@@ -90,6 +90,11 @@ impl<'t> LogicTask<'t> {
         JobName::Logic { frame: self.frame }
     }
 
+    // Whether its thinks are not spread yet.
+    pub(crate) fn is_at_start(&self) -> bool {
+        self.gathered.is_none()
+    }
+
     /// Begins the frame, or applies what all agents want to do, by agent number. At its start it takes no memory.
     pub fn work(&self, alloc: Global) -> Result<LogicStep<'t>, AllocError>
         ensures step { IfOk result (λ step. IsLogicStep self.now step) }

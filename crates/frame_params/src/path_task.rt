@@ -112,6 +112,11 @@ impl<'t> PathTask<'t> {
         }
     }
 
+    // Whether the distances to the place are known.
+    pub(crate) fn is_known(&self) -> bool {
+        self.known.is_some()
+    }
+
     // The way, and the distances if they were not known.
     fn answered<A: Allocator + Clone>(
         &self,

@@ -43,6 +43,16 @@ impl<'t> Task<'t> {
         }
     }
 
+    /// Whether there is next to nothing to do, and no memory to take: a frame's logic at its start, or a path question whose
+    /// distances are known.
+    pub fn is_at_hand(&self) -> bool {
+        match self {
+            Task::Logic(task) => task.is_at_start(),
+            Task::Path(task) => task.is_known(),
+            Task::Think(_) | Task::Draw(_) => false,
+        }
+    }
+
     /// Does the work. The only fault is want of memory; the task is as it was, and may be worked again.
     pub fn work(&self, alloc: Global) -> Result<Step<'t>, AllocError>
         ensures step { IfOk result (λ step. IsStepOf self.now step) }

@@ -4,6 +4,12 @@ use task_board::JobName;
 /// asked with the board's lock free, so it may wait until other workers have come. A run whose gate answers false ends.
 pub trait Gate: Sync {
     fn pass(&self, worker: u32, job: JobName, worked: bool) -> bool;
+
+    /// Whether it lets every job pass, and need not be asked. Then a worker does what is at hand without giving the lock up
+    /// in between.
+    fn is_open(&self) -> bool {
+        false
+    }
 }
 
 /// A gate that is always open.
@@ -12,6 +18,10 @@ pub struct EveryJob;
 
 impl Gate for EveryJob {
     fn pass(&self, _worker: u32, _job: JobName, _worked: bool) -> bool {
+        true
+    }
+
+    fn is_open(&self) -> bool {
         true
     }
 }

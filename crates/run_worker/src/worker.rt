@@ -4,6 +4,7 @@ ghost use Rattle.frame_params.specs.BoardSteps.{IsToldIn};
 ghost use Rattle.frame_params.specs.Tasks.{game_of};
 ghost use Rattle.run_worker.specs.Own.{IsNextIn, IsWorkIn};
 
+use crate::at_hand::work_at_hand;
 use crate::gate::Gate;
 use crate::putting::put_band;
 use crate::scratch::Scratch;
@@ -95,11 +96,33 @@ fn begin_to_wait<'h, 't, L: RunLedger, M: Ledger, R: Wait + Clock>(
     await_news(rt, hall, rest, board, !rests)
 }
 
+// Takes a task for an idle worker, and works what is at hand. Whether there is a next one.
+fn take<'t, L: RunLedger, M: Ledger, G: Gate>(
+    alloc: Global,
+    session: &Session,
+    gate: &G,
+    board: &mut SharedBoard<'t, L, M>,
+    worker: u32,
+    share: &mut Share<L>,
+    next: &mut Option<Task<'t>>,
+) -> Result<bool, BoardFault>
+    requires run { L.game ≡ Some session.now }
+    requires part { share.old.parts ≡ 1 }
+    requires next { IsNextIn session.now next.old }
+    ensures part { share.new.parts ≡ 1 }
+    ensures next { IsNextIn session.now next.new }
+{
+    *next = board.take(worker, session, share)?;
+    work_at_hand(alloc, session, gate, board, worker, share, next)
+}
+
 // Waits for a task. There is none where the board is done or stopped.
-fn wait_for_task<'t, L: RunLedger, M: Ledger, R: Wait + Clock>(
+fn wait_for_task<'t, L: RunLedger, M: Ledger, G: Gate, R: Wait + Clock>(
     rt: &R,
+    alloc: Global,
     session: &Session,
     hall: &Hall<'t, L, M>,
+    gate: &G,
     worker: u32,
     rest: &mut Rest,
     share: &mut Share<L>,
@@ -113,13 +136,12 @@ fn wait_for_task<'t, L: RunLedger, M: Ledger, R: Wait + Clock>(
 {
     let (mut board, mut is_news) = begin_to_wait(rt, hall, rest);
     for _ in rt.forever() {
-        match board.take(worker, session, share) {
-            Ok(Some(task)) => {
-                *next = Some(task);
+        match take(alloc, session, gate, &mut board, worker, share, next) {
+            Ok(true) => {
                 let_go(hall, board);
                 return Ok(());
             }
-            Ok(None) => {
+            Ok(false) => {
                 if board.is_done() {
                     return Ok(());
                 }
@@ -132,9 +154,11 @@ fn wait_for_task<'t, L: RunLedger, M: Ledger, R: Wait + Clock>(
 }
 
 // Hands in what a worker's work came to, and takes its next task unless it may rest. Whether there is one.
-fn hand_in_and_take<'t, L: RunLedger, M: Ledger>(
-    board: &mut SharedBoard<'t, L, M>,
+fn hand_in_and_take<'t, L: RunLedger, M: Ledger, G: Gate>(
+    alloc: Global,
     session: &Session,
+    gate: &G,
+    board: &mut SharedBoard<'t, L, M>,
     worker: u32,
     told: BoardStep<'t>,
     rests: bool,
@@ -153,15 +177,17 @@ fn hand_in_and_take<'t, L: RunLedger, M: Ledger>(
         return Ok(false);
     }
     *next = board.next(worker, session, told, share)?;
-    Ok(next.is_some())
+    work_at_hand(alloc, session, gate, board, worker, share, next)
 }
 
 // Tells the board what a worker's work came to and takes the next task, in one hold of the lock. Whether there is one.
 // Whoever may go on now is woken.
-fn tell<'t, L: RunLedger, M: Ledger, R: Wait + Clock>(
+fn tell<'t, L: RunLedger, M: Ledger, G: Gate, R: Wait + Clock>(
     rt: &R,
+    alloc: Global,
     session: &Session,
     hall: &Hall<'t, L, M>,
+    gate: &G,
     worker: u32,
     told: BoardStep<'t>,
     share: &mut Share<L>,
@@ -176,7 +202,9 @@ fn tell<'t, L: RunLedger, M: Ledger, R: Wait + Clock>(
 {
     let mut board = hall.waiting.lock(rt, &hall.board);
     let rests = hall.waiting.may_rest();
-    let is_given = hand_in_and_take(&mut board, session, worker, told, rests, share, next);
+    let is_given = hand_in_and_take(
+        alloc, session, gate, &mut board, worker, told, rests, share, next,
+    );
     let is_idle = matches!(is_given, Ok(false));
     let shows = board.may_show() && hall.waiting.wants_printer(is_idle);
     let_go(hall, board);
@@ -188,10 +216,12 @@ fn tell<'t, L: RunLedger, M: Ledger, R: Wait + Clock>(
 
 // Tells the board what a worker's work came to and takes the next task; where there is none, or the worker rests, waits
 // for it.
-fn go_on<'t, L: RunLedger, M: Ledger, R: Wait + Clock>(
+fn go_on<'t, L: RunLedger, M: Ledger, G: Gate, R: Wait + Clock>(
     rt: &R,
+    alloc: Global,
     session: &Session,
     hall: &Hall<'t, L, M>,
+    gate: &G,
     worker: u32,
     told: BoardStep<'t>,
     rest: &mut Rest,
@@ -205,19 +235,21 @@ fn go_on<'t, L: RunLedger, M: Ledger, R: Wait + Clock>(
     ensures part { share.new.parts ≡ 1 }
     ensures next { IsNextIn session.now next.new }
 {
-    match tell(rt, session, hall, worker, told, share, next) {
+    match tell(rt, alloc, session, hall, gate, worker, told, share, next) {
         Ok(true) => Ok(()),
-        Ok(false) => wait_for_task(rt, session, hall, worker, rest, share, next),
+        Ok(false) => wait_for_task(rt, alloc, session, hall, gate, worker, rest, share, next),
         Err(fault) => end_of(fault),
     }
 }
 
 // Delivers what a worker's work came to, its band first, so that all bands of a frame are in the mail before its last
 // Draw is finished. There is no next task where the board is done or stopped.
-fn deliver<'t, L: RunLedger, M: Ledger, R: Wait + Clock>(
+fn deliver<'t, L: RunLedger, M: Ledger, G: Gate, R: Wait + Clock>(
     rt: &R,
+    alloc: Global,
     session: &Session,
     hall: &Hall<'t, L, M>,
+    gate: &G,
     worker: u32,
     step: Step<'t>,
     rest: &mut Rest,
@@ -240,7 +272,7 @@ fn deliver<'t, L: RunLedger, M: Ledger, R: Wait + Clock>(
         None => true,
     };
     if is_out {
-        go_on(rt, session, hall, worker, told, rest, share, next)
+        go_on(rt, alloc, session, hall, gate, worker, told, rest, share, next)
     } else {
         Ok(())
     }
@@ -310,7 +342,9 @@ pub fn work<'t, L: RunLedger, M: Ledger, G: Gate, R: Wait + Clock>(
     let mut rest = Rest::new();
     let mut number = 0u64;
     let mut next = None;
-    let mut went = wait_for_task(rt, session, hall, worker, &mut rest, &mut share, &mut next);
+    let mut went = wait_for_task(
+        rt, alloc, session, hall, gate, worker, &mut rest, &mut share, &mut next,
+    );
     for _ in rt.forever() {
         if let Err(cause) = went {
             hall.stop(rt);
@@ -331,8 +365,10 @@ pub fn work<'t, L: RunLedger, M: Ledger, G: Gate, R: Wait + Clock>(
         went = match worked {
             Ok(step) => deliver(
                 rt,
+                alloc,
                 session,
                 hall,
+                gate,
                 worker,
                 step,
                 &mut rest,
