@@ -3,4 +3,4 @@ use Rattle.run_worker.specs.Own.{IsNextIn}
 use Rattle.run_worker.proofs.at_hand.work_at_hand.Given as goal
 
 abbrev pub invariant-tasks : goal.invariant-tasks
-invariant-tasks l = (l.share.parts ≡ 1) × IsNextIn l.session l.next
+invariant-tasks g l = (l.share.parts ≡ 1) × IsNextIn l.session l.next
