@@ -18,7 +18,7 @@ abbrev pub IsMade : Game → List Bool → ℕ → Option DistancesOf → Type 0
 IsMade g on place made = MatchOption made (place_of g.world place ≡ None) (λ (d : DistancesOf). d ≡ distances_of g on place)
 
 module _ (s : FrameOf) (a : ℕ) (world : Grid) (there : a < length s.game.trees) (agents : length world.agents ≡ length s.game.trees)
-  (was : world ≡ world_after s.game (s.frame - 1)) where
+    (was : world ≡ world_after s.game (s.frame - 1)) where
   abbrev on : List Bool
   on = signals_in s.game s.frame
 

@@ -122,7 +122,7 @@ turned g (suc f) h =
     ap (λ k. apply_all (play g k).world (signals g.changes (suc f)) 0 (map (λ t. t.intent) (thoughts g (suc f) (play g k)))) n
 
 module _ (p : FrameOf) (intents : List Intent) (statuses : List Status) (memories : List (List ℕ)) (known : KnownOf)
-  (are : AreGathered p intents statuses memories known) where
+    (are : AreGathered p intents statuses memories known) where
   pub an_intent_each : length intents ≡ length p.game.trees
   an_intent_each = ap length are.intents_are ∙ as_many_intents p.game p.frame
 

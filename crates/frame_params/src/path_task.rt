@@ -131,13 +131,7 @@ impl<'t> PathTask<'t> {
         if let Some(known) = &self.known {
             return Ok((known.way(from), None));
         }
-        match KeptDistances::to(
-            alloc,
-            scratch,
-            start.session(),
-            start.signals(),
-            self.place,
-        )? {
+        match KeptDistances::to(alloc, scratch, start.session(), start.signals(), self.place)? {
             None => Ok((Answer::NoWay, None)),
             Some(found) => Ok((found.way(from), Some(found))),
         }

@@ -272,7 +272,9 @@ fn deliver<'t, L: RunLedger, M: Ledger, G: Gate, R: Wait + Clock>(
         None => true,
     };
     if is_out {
-        go_on(rt, alloc, session, hall, gate, worker, told, rest, share, next)
+        go_on(
+            rt, alloc, session, hall, gate, worker, told, rest, share, next,
+        )
     } else {
         Ok(())
     }

@@ -36,8 +36,7 @@ invariant_of-result c =
     let after =
     is_after p x.intents.items statuses memories x.known are c.world.result.now (arc_value c.in_ok-new.field-0) c.signals.result later c.world.ensures.value
     c.world.ensures.agents c.signals.ensures world in
-    let kept : Keeps p.game p.frame (arc_value c.in_ok-new.field-0) (arc_value c.in_ok-try_clone.field-0).items (arc_value c.in_ok-try_clone-2.field-0).items c.in_ok-share.field-0.game =
-    (
+    let kept : Keeps p.game p.frame (arc_value c.in_ok-new.field-0) (arc_value c.in_ok-try_clone.field-0).items (arc_value c.in_ok-try_clone-2.field-0).items c.in_ok-share.field-0.game = (
       later,
       subst (λ (v : Vec KeptMemory Global). IsAfter p.game p.frame (arc_value c.in_ok-new.field-0) v.items) (sym c.in_ok-try_clone.ensures) after,
       ap (λ (v : Vec Status Global). v.items) c.in_ok-try_clone-2.ensures ∙ are.statuses_are,

@@ -1,4 +1,4 @@
-use Rattle.std.proofs.Common.{◌≡◌, ◌<◌, ◌∙◌, ◌+◌, ap, sym, subst, length, ℕ, List}
+use Rattle.std.proofs.Common.{◌<◌, ◌∙◌, ◌+◌, ap, sym, subst, length, ℕ, List}
 use Rattle.std.specs.Arc.{arc_value}
 use Rattle.std.specs.declared.alloc.Global.{Global}
 use Rattle.grid_world.specs.Way.{way}

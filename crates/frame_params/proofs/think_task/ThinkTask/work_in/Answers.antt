@@ -34,8 +34,7 @@ pub returns-in_ok-new-in-Ended : goal.returns-in_ok-new-in-Ended
 returns-in_ok-new-in-Ended g c =
     let x : ThinkOf = c.args.self.now in
     let it : Thought = record { status = c.in-Ended.status; memory = c.in-Ended.memory; intent = c.in-Ended.intent } in
-    let t = thinks_same x.game x.frame x.agent x.answered c.in-Ended.is c.in_ok-status.ensures.thinks in
-    (
+    let t = thinks_same x.game x.frame x.agent x.answered c.in-Ended.is c.in_ok-status.ensures.thinks in (
       ended_all x.game x.frame x.agent x.answered it.status it.memory it.intent t,
       ap (λ (g : Game). part_of g c.frame.result c.self.inside.agent) c.session.ensures ∙ ap (λ (f : ℕ). part_of x.game f c.self.inside.agent) c.frame.ensures
           ∙ ap (λ (y : ThinkOf). part_of x.game x.frame y.agent) c.self.view_is,
