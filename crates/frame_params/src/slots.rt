@@ -78,14 +78,16 @@ impl<'t> Slots<'t> {
         }
     }
 
-    /// Frees the place of a frame, where it holds that frame's parameters.
-    pub fn clear(&mut self, frame: u32)
-        ensures { self.new ≡ cleared self.old frame }
+    /// Takes the parameters of a frame out of its place, where they stand there.
+    pub fn take(&mut self, frame: u32) -> Option<FrameParams<'t>>
+        ensures taken { result ≡ held_at self.old frame }
+        ensures place { self.new ≡ cleared self.old frame }
     {
-        if self.at(frame).is_some() {
-            let at = frame as usize % self.places.len();
-            self.places[at] = None;
+        if self.at(frame).is_none() {
+            return None;
         }
+        let at = frame as usize % self.places.len();
+        self.places[at].take()
     }
 
     /// Keeps the distances that a way's search found with the parameters of its frame, where they stand in its place.

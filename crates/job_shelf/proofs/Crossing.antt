@@ -18,9 +18,9 @@ pub done_field : (κ : NamedLft) → IsSend (Done.the_field κ).row
 done_field κ = search (way, thought, turn, band_mark, sendable, crosses) depth 60 fits 20000
 
 pub shown : (κ : NamedLft) → IsSend (Shown.the_row κ)
-shown κ = search (turn, sendable, crosses) depth 40
+shown κ = search (turn, params, sendable, crosses) depth 40
 
-asking : (κ : NamedLft) → IsSend (Asking.the_row κ)
+pub asking : (κ : NamedLft) → IsSend (Asking.the_row κ)
 asking κ = search (session, parked, way, sendable, crosses) depth 40
 
 thoughts : (κ : NamedLft) → IsSend (Thoughts.the_row κ)

@@ -6,9 +6,10 @@ ghost use Rattle.frame_params.specs.Names.{question_of};
 use frame_params::{Parked, Way};
 use game_session::Session;
 use std::marker::Model;
+use std::mem;
 
 /// The question at which an agent's thought stands in the frame under way, and the answer to it.
-pub(crate) struct Asking<'t> {
+pub struct Asking<'t> {
     session: &'t Session,
     parked: Option<Parked<'t>>,
     way: Option<Way<'t>>,
@@ -49,12 +50,17 @@ impl<'t> Asking<'t> {
         }
     }
 
-    pub(crate) fn park(&mut self, parked: Parked<'t>)
+    /// Keeps a thought that stands at a question, and gives out the question before it.
+    pub(crate) fn park(&mut self, parked: Parked<'t>) -> Asking<'t>
         requires { parked.game ≡ self.old.game }
         ensures { self.new ≡ record self.old { asked = Some (asked parked.entry.frame parked.entry.agent parked.entry.question false) } }
     {
-        self.parked = Some(parked);
-        self.way = None;
+        let next = Asking {
+            session: self.session,
+            parked: Some(parked),
+            way: None,
+        };
+        mem::replace(self, next)
     }
 
     /// Keeps the answer to the question.

@@ -8,6 +8,7 @@ mod shelf;
 mod shown;
 mod thoughts;
 
+pub use asking::Asking;
 pub use done::Done;
 pub use drawn::Drawn;
 pub use shelf::{Shelf, next_of};

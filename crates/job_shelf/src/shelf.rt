@@ -36,6 +36,8 @@ pub struct Shelf<'t> {
     thoughts: Thoughts<'t>,
     // Of the frames in the slots.
     drawn: Vec<Drawn<'t>>,
+    // The question that an agent asked before the one that was parked last.
+    spent: Option<Asking<'t>>,
 }
 
 impl<'t> Drop for Shelf<'t> {
@@ -47,6 +49,7 @@ impl<'t> Drop for Shelf<'t> {
             asking: _,
             thoughts: _,
             drawn: _,
+            spent: _,
         } = self;
     }
 }
@@ -127,6 +130,7 @@ impl<'t> Shelf<'t> {
             asking: no_questions(alloc, session, agents)?,
             thoughts: Thoughts::new(alloc, session, agents)?,
             drawn: nothing_drawn(alloc, session, slots, bands)?,
+            spent: None,
         })
     }
 
@@ -209,7 +213,15 @@ impl<'t> Shelf<'t> {
         requires agent { (agent ≡ parked.agent) × (agent < length self.old.stored.asking) }
         ensures { self.new ≡ record self.old { stored = record self.old.stored { asking = slice_set self.old.stored.asking agent (Some (asked parked.entry.frame agent parked.entry.question false)) } } }
     {
-        self.asking[agent as usize].park(parked);
+        self.spent = Some(self.asking[agent as usize].park(parked));
+    }
+
+    /// Takes out the question that the agent which was parked last asked before, of which nothing is made any more: to let
+    /// it go takes longer than to move it, so whoever drives a board behind a lock does that with the lock free.
+    pub fn take_spent(&mut self) -> Option<Asking<'t>>
+        ensures { self.new ≡ self.old }
+    {
+        self.spent.take()
     }
 
     /// Keeps what a job came to, for the tasks that are made of it.
@@ -274,8 +286,8 @@ impl<'t> Shelf<'t> {
         ensures shown { result ≡ frame_of self.old.game frame }
         ensures stored { (st : State) → Stores self.old self.new st (Emit frame) }
     {
-        self.slots.clear(frame);
+        let params = self.slots.take(frame);
         let at = frame as usize % self.drawn.len();
-        mem::replace(&mut self.drawn[at], empty).into_shown(frame)
+        mem::replace(&mut self.drawn[at], empty).into_shown(frame, params)
     }
 }

@@ -205,6 +205,8 @@ fn tell<'t, L: RunLedger, M: Ledger, G: Gate, R: Wait + Clock>(
     let is_given = hand_in_and_take(
         alloc, session, gate, &mut board, worker, told, rests, share, next,
     );
+    // It is let go at the end of this, with the lock free.
+    let _spent = board.take_spent();
     let is_idle = matches!(is_given, Ok(false));
     let shows = board.may_show() && hall.waiting.wants_printer(is_idle);
     let_go(hall, board);

@@ -12,7 +12,7 @@ use frame_params::{BoardStep, Task};
 use game_session::Session;
 use run_ledger::RunLedger;
 use std::sync::ledger::{Book, Ledger, Share};
-use task_board::{BoardFault, Event, Settings, Shown, TaskBoard};
+use task_board::{Asking, BoardFault, Event, Settings, Shown, TaskBoard};
 
 /// A board with two books: one of its events that name a worker, one of those that show a frame. A thread that makes
 /// such an event happen adds one to its share of the book.
@@ -118,6 +118,11 @@ impl<'t, L: RunLedger, M: Ledger> SharedBoard<'t, L, M> {
             Ok(()) => self.take(worker, session, mine),
             Err(fault) => Err(fault),
         }
+    }
+
+    /// Takes out what the last `hand_in` has left over, to be let go with the lock free.
+    pub fn take_spent(&mut self) -> Option<Asking<'t>> {
+        self.board.take_spent()
     }
 
     /// Shows the next frame. Whoever holds the whole share of frames knows which one that is.

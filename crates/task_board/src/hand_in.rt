@@ -9,7 +9,7 @@ use super::board::TaskBoard;
 use super::refused::Refused;
 use frame_params::{BoardStep, LogicStep, ThinkStep};
 use job_log::BoardFault;
-use job_shelf::Done;
+use job_shelf::{Asking, Done};
 
 impl<'t> TaskBoard<'t> {
     /// Hands in what a worker's task came to: a frame that begins is spread, or held where it has no slot; a Think that
@@ -50,6 +50,13 @@ impl<'t> TaskBoard<'t> {
             BoardStep::Path(way) => self.hand_in_end(worker, Done::Way(way)),
             BoardStep::Draw(mark) => self.hand_in_end(worker, Done::Drawn(mark)),
         }
+    }
+
+    /// Takes out the question that the agent which was parked last asked before: it is let go sooner outside a lock.
+    pub fn take_spent(&mut self) -> Option<Asking<'t>>
+        ensures { self.new ≡ self.old }
+    {
+        self.shelf.take_spent()
     }
 
     // The worker's frame begins: its thinks are queued, or it waits for its slot.

@@ -22,8 +22,8 @@ pub invariant_of-self : goal.invariant_of-self
 invariant_of-self c =
     let slot = rw (← c.self.view_is) at c.requires.slot in
     let empty = rw (← c.self.view_is) at c.requires.empty in
-    let freed = c.clear.ensures ∙ cleared_is c.self.inside.slots c.self.inside.session.now c.args.frame c.self.invariant.slots_are slot in
-    let long : length c.clear.new.self ≡ length c.self.inside.slots = ap length freed ∙ length_set c.self.inside.slots (c.args.frame % length c.self.inside.slots) None in
+    let freed = c.take-params.ensures.place ∙ cleared_is c.self.inside.slots c.self.inside.session.now c.args.frame c.self.invariant.slots_are slot in
+    let long : length c.take-params.new.self ≡ length c.self.inside.slots = ap length freed ∙ length_set c.self.inside.slots (c.args.frame % length c.self.inside.slots) None in
     let wide = length_set c.self.inside.drawn.items (c.args.frame % c.len.result) c.replace.new.dest in
     let places = c.self.invariant.places in
     let some = c.self.invariant.some in
@@ -43,6 +43,6 @@ returns-clause-stored c = λ st.
     let slot = rw (← c.self.view_is) at c.requires.slot in
     let long = map_length frame_name c.self.inside.slots in
     let many : c.len.result ≡ length (map frame_name c.self.inside.slots) = search rules in
-    let freed = c.clear.ensures ∙ cleared_is c.self.inside.slots c.self.inside.session.now c.args.frame c.self.invariant.slots_are slot in
+    let freed = c.take-params.ensures.place ∙ cleared_is c.self.inside.slots c.self.inside.session.now c.args.frame c.self.invariant.slots_are slot in
     let out = ap (λ (d : DrawnOf). d.drawn) (c.replace.ensures.after ∙ c.requires.empty) in
     rw (← c.self.view_is, freed) (shown c.self.inside.session.now c.self.inside.next c.self.inside.slots c.self.inside.asking.items c.self.inside.thoughts c.self.inside.drawn.items (c.args.frame % length c.self.inside.slots) (c.args.frame % c.len.result) (c.args.frame % length (map frame_name c.self.inside.slots)) c.replace.new.dest nothing (ap (λ n. c.args.frame % n) (sym long)) (ap (λ n. c.args.frame % n) many) out)
