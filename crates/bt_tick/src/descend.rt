@@ -4,7 +4,7 @@ ghost use Rattle.std.specs.Prelude.{◌≡◌, ◌<◌, ◌≤◌, ◌+◌, ◌*
 ghost use Rattle.bt_nodes.specs.Plain.{plain};
 ghost use Rattle.bt_nodes.specs.Sizes.{size};
 ghost use Rattle.game_rules.specs.Tick.{tick};
-ghost use Rattle.bt_tick.specs.Kinds.{is_move};
+ghost use Rattle.bt_tick.specs.Kinds.{is_move, is_near_condition};
 ghost use Rattle.bt_tick.specs.Places.{Sits, Nested, weight_all};
 ghost use Rattle.bt_tick.specs.Machine.{opens, Keeps, whole_of, Placed, weight};
 ghost use Rattle.bt_tick.specs.Views.{view_of, IsInWorld};
@@ -17,7 +17,7 @@ use grid_world::Intent;
 use std::alloc::{AllocError, Allocator};
 
 // The status of a condition.
-fn status_of(holds: bool) -> Status
+pub(crate) fn status_of(holds: bool) -> Status
     ensures { result ≡ (if holds then Status.Success else Status.Failure) }
 {
     if holds {
@@ -40,7 +40,7 @@ impl<'t, T: Allocator, A: Allocator + Clone> Machine<'t, T, A> {
         Ok(())
     }
 
-    // Ticks a node other than a `Move`: opens it and begins a child, or takes its status at once.
+    // Ticks a node other than a `Move` or a `Near`: opens it and begins a child, or takes its status at once.
     #[inline(always)]
     pub(crate) fn descend(
         &mut self,
@@ -50,6 +50,7 @@ impl<'t, T: Allocator, A: Allocator + Clone> Machine<'t, T, A> {
     ) -> Result<Mode<'t, T>, AllocError>
         requires view { IsInWorld view.now }
         requires no_move { is_move (plain node.now) ≡ false }
+        requires no_near { is_near_condition (plain node.now) ≡ false }
         requires sits { Sits (whole_of self.old) number (plain node.now) }
         requires deep { length self.old.stack ≤ number }
         requires nested { Nested (whole_of self.old) (number + size (plain node.now)) (opens self.old.stack) }
@@ -137,8 +138,7 @@ impl<'t, T: Allocator, A: Allocator + Clone> Machine<'t, T, A> {
             Node::Carrying => Ok(Mode::Up(status_of(view.carries()), after)),
             Node::Item => Ok(Mode::Up(status_of(view.is_on_item()), after)),
             Node::Signal(signal) => Ok(Mode::Up(status_of(view.has_signal(*signal)), after)),
-            Node::Near(within) => Ok(Mode::Up(status_of(view.is_near(*within)), after)),
-            Node::Move(_) => unreachable!(),
+            Node::Near(_) | Node::Move(_) => unreachable!(),
         }
     }
 }

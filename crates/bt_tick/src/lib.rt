@@ -8,6 +8,7 @@ mod fits;
 mod frames;
 mod machine;
 mod memory;
+mod nearest;
 mod open;
 mod pending;
 mod run;

@@ -10,9 +10,11 @@ ghost use Rattle.bt_tick.specs.Views.{view_of, IsInWorld};
 ghost use Rattle.bt_tick.specs.Machine.{Placed, with_parts};
 ghost use Rattle.bt_tick.specs.Outcome.{means, place_of, tree_of, machine_left, ComesTo, IsOutcome, IsOfTree};
 
+use crate::descend::status_of;
 use crate::fault::TickFault;
 use crate::machine::{Machine, Mode};
 use crate::memory::Memory;
+use crate::nearest::Nearest;
 use crate::tick::{Outcome, Pending};
 use crate::view::View;
 use bt_nodes::{Node, Status, Tree};
@@ -76,10 +78,11 @@ fn run<'t, T: Allocator, A: Allocator + Clone>(
 {
     let mut machine = begun;
     let mut mode = start;
+    let mut nearest = Nearest::Unknown;
     loop {
         match mode {
-            Mode::Down(node, number) => {
-                if let Node::Move(place) = node {
+            Mode::Down(node, number) => match node {
+                Node::Move(place) => {
                     let place = *place;
                     let after = number + 1;
                     return Ok(Outcome::Asks {
@@ -91,8 +94,12 @@ fn run<'t, T: Allocator, A: Allocator + Clone>(
                         },
                     });
                 }
-                mode = machine.descend(view, node, number)?;
-            }
+                Node::Near(within) => {
+                    let after = number + 1;
+                    mode = Mode::Up(status_of(nearest.is_near(view, *within)), after);
+                }
+                _ => mode = machine.descend(view, node, number)?,
+            },
             Mode::Up(status, at) => match machine.innermost() {
                 None => {
                     let intent = first_want(&machine.wants);

@@ -3,6 +3,7 @@ ghost use Rattle.grid_world.specs.Grid.{is_spot};
 ghost use Rattle.grid_world.specs.World.{IsStanding};
 ghost use Rattle.game_rules.specs.View.{self_of, gap};
 
+use crate::nearest::Nearest;
 use grid_world::{Agent, Cell, Place, Signal, Signals, World};
 
 /// What an agent sees in a frame: the world of the frame before, the signals of the frame, and its own number.
@@ -30,8 +31,8 @@ fn is_spot(place: Place, cell: Cell) -> bool
 }
 
 impl View<'_> {
-    ghost use Rattle.bt_tick.specs.Views.{view_of, IsInWorld};
-    ghost use Rattle.game_rules.specs.View.{carries, is_on_item, stands_on, has_signal, is_near};
+    ghost use Rattle.bt_tick.specs.Views.{view_of, IsInWorld, Tells};
+    ghost use Rattle.game_rules.specs.View.{carries, is_on_item, stands_on, has_signal};
 
     fn itself(&self) -> Agent
         requires { IsInWorld self.now }
@@ -73,16 +74,18 @@ impl View<'_> {
         self.signals.is_on(signal)
     }
 
-    pub(crate) fn is_near(&self, within: u64) -> bool
+    // How far away the nearest other agent is.
+    pub(crate) fn nearest(&self) -> Nearest
         requires { IsInWorld self.now }
-        ensures { result ≡ is_near (view_of self.now) within }
+        ensures { Tells (view_of self.now) result }
     {
         let me = self.itself();
-        for (number, other) in self.world.agents().iter().enumerate() {
-            if number as u64 != u64::from(self.agent) && distance(me, *other) <= within {
-                return true;
+        let mut nearest = Nearest::Alone;
+        'agents: for (number, other) in self.world.agents().iter().enumerate() {
+            if number as u64 != u64::from(self.agent) {
+                nearest = nearest.or(distance(me, *other));
             }
         }
-        false
+        nearest
     }
 }

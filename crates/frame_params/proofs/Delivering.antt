@@ -1,9 +1,9 @@
 -- What is told of a task's work, and the band that it drew, are of the task's game.
-use Rattle.std.proofs.Common.{◌≡◌, ap}
-use Rattle.std.specs.Prelude.{IfSome}
+use Rattle.std.proofs.Common.{◌≡◌, refl, ap}
+use Rattle.std.specs.Prelude.{IfSome, None}
 use Rattle.frame_params.specs.Names.{FrameOf, PartOf, QuestionOf}
 use Rattle.frame_params.specs.BoardSteps.{IsToldOf, IsToldIn, band_drawn}
-use Rattle.frame_params.specs.Tasks.{game_of, IsStepOf}
+use Rattle.frame_params.specs.Tasks.{game_of, IsStepOf, IsAtHand}
 use Rattle.frame_params.specs.declared.task.Task.{Task}
 use Rattle.frame_params.specs.declared.task.Task.TheVariants.{Logic as LogicTask, Think as ThinkTask, Path as PathTask, Draw as DrawTask}
 use Rattle.frame_params.specs.declared.logic_step.LogicStep.TheVariants.{Begins, Turned}
@@ -41,3 +41,12 @@ drawn_of (DrawTask d) (DrawStep band) h = ap (λ (p : PartOf). p.game) h
 drawn_of (LogicTask l) (DrawStep band) h = absurd h
 drawn_of (ThinkTask t) (DrawStep band) h = absurd h
 drawn_of (PathTask q) (DrawStep band) h = absurd h
+
+pub no_band : (t : Task) (step : Step) → IsAtHand t → IsStepOf t step → band_drawn step ≡ None
+no_band t (LogicStep step) hand h = refl
+no_band t (ThinkStep step) hand h = refl
+no_band t (PathStep way) hand h = refl
+no_band (LogicTask l) (DrawStep band) hand h = absurd h
+no_band (ThinkTask t) (DrawStep band) hand h = absurd hand
+no_band (PathTask q) (DrawStep band) hand h = absurd h
+no_band (DrawTask d) (DrawStep band) hand h = absurd hand

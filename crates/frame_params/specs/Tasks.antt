@@ -38,3 +38,9 @@ IsStepOf task step = IsToldOf task (told step)
 abbrev pub IsBeginning : Task → Type 0
 IsBeginning (LogicTask l) = l.has_spread ≡ false
 IsBeginning task = ⊥
+
+-- what may be at hand: a Logic at its start, and a Path
+abbrev pub IsAtHand : Task → Type 0
+IsAtHand (LogicTask l) = l.has_spread ≡ false
+IsAtHand (PathTask q) = Unit {0}
+IsAtHand task = ⊥

@@ -1,4 +1,4 @@
-ghost use Rattle.std.specs.Prelude.{◌≡◌, IfOk, IsOk, true, false};
+ghost use Rattle.std.specs.Prelude.{◌≡◌, IfOk, IsOk, not, true, false};
 ghost use Rattle.frame_params.specs.Names.{AreOfAllAgents};
 ghost use Rattle.frame_params.specs.Logic.{IsLogicStep};
 
@@ -91,7 +91,9 @@ impl<'t> LogicTask<'t> {
     }
 
     // Whether its thinks are not spread yet.
-    pub(crate) fn is_at_start(&self) -> bool {
+    pub(crate) fn is_at_start(&self) -> bool
+        ensures { result ≡ not self.now.has_spread }
+    {
         self.gathered.is_none()
     }
 

@@ -1,5 +1,5 @@
-ghost use Rattle.std.specs.Prelude.{◌≡◌, IfOk, IsOk};
-ghost use Rattle.frame_params.specs.Tasks.{game_of, job_of, IsStepOf, IsBeginning};
+ghost use Rattle.std.specs.Prelude.{◌≡◌, IfOk, IsOk, true};
+ghost use Rattle.frame_params.specs.Tasks.{game_of, job_of, IsStepOf, IsBeginning, IsAtHand};
 
 use crate::draw_task::DrawTask;
 use crate::logic_task::LogicTask;
@@ -45,7 +45,10 @@ impl<'t> Task<'t> {
 
     /// Whether there is next to nothing to do, and no memory to take: a frame's logic at its start, or a path question whose
     /// distances are known.
-    pub fn is_at_hand(&self) -> bool {
+    pub fn is_at_hand(&self) -> bool
+        ensures yes { result ≡ true → IsAtHand self.now }
+        ensures begins { IsBeginning self.now → result ≡ true }
+    {
         match self {
             Task::Logic(task) => task.is_at_start(),
             Task::Path(task) => task.is_known(),

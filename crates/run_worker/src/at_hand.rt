@@ -44,7 +44,10 @@ pub(crate) fn work_at_hand<'t, L: RunLedger, M: Ledger, G: Gate>(
         let Ok(step) = task.work(alloc) else {
             return Err(BoardFault::OutOfMemory);
         };
-        let (told, _) = step.deliver();
+        // Nothing that is at hand is a drawing, so no band goes astray.
+        let (told, None) = step.deliver() else {
+            unreachable!();
+        };
         *next = board.next(worker, session, told, share)?;
     }
     Ok(next.is_some())

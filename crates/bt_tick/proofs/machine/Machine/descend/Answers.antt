@@ -2,7 +2,7 @@ use Rattle.std.proofs.Common.{◌+◌, ◌*◌, ◌<◌, ap, sym, ◌∙◌, sub
 use Rattle.std.proofs.lemmas.List.{length-map}
 use Rattle.grid_world.specs.declared.cell.Intent.TheVariants.{Take, Drop}
 use Rattle.bt_nodes.specs.declared.node.Status.TheVariants.{Success, Failure, Running}
-use Rattle.bt_nodes.specs.Plain.{Sequence, Fallback, CompositeStar, Does, AtPlace, Carries, OnItem, SignalOn, NearOther, none, tree, plain, plains}
+use Rattle.bt_nodes.specs.Plain.{Sequence, Fallback, CompositeStar, Does, AtPlace, Carries, OnItem, SignalOn, none, tree, plain, plains}
 use Rattle.bt_nodes.specs.Sizes.{size}
 use Rattle.bt_nodes.specs.Bounds.{bounds}
 use Rattle.bt_nodes.proofs.Views.{plain-Seq, plain-Fallback, plain-Par, plain-SeqStar, plain-FallbackStar, plain-Not, plain-Tries, plain-Ticks}
@@ -17,7 +17,7 @@ use Rattle.bt_tick.proofs.Trees.{size-children}
 use Rattle.bt_tick.proofs.Nests.{room}
 use Rattle.bt_tick.proofs.Numbers.{number_within, sat_wrote, zero_wrote}
 use Rattle.bt_tick.proofs.Opening.{if_ok, first_rests, only_stands, placed_by}
-use Rattle.bt_tick.proofs.Beginning.{plain-Wait, plain-Take, plain-Drop, plain-At, plain-Carrying, plain-Item, plain-Signal, plain-Near, line_begins, all_begins, not_begins, tries_begins, tries_over, ticks_begins, ticks_over, waits, waited, takes, takes_none, drops, drops_none, holds, answered_nested, answered_falls, number_below, wanted_keeps}
+use Rattle.bt_tick.proofs.Beginning.{plain-Wait, plain-Take, plain-Drop, plain-At, plain-Carrying, plain-Item, plain-Signal, line_begins, all_begins, not_begins, tries_begins, tries_over, ticks_begins, ticks_over, waits, waited, takes, takes_none, drops, drops_none, holds, answered_nested, answered_falls, number_below, wanted_keeps}
 use Rattle.bt_tick.proofs.machine.Machine.descend.Goals as goal
 
 pub overflow_add-after : goal.overflow_add-after
@@ -329,15 +329,6 @@ returns-in-Signal g c =
     record {
       keeps = λ s. ap (unwind (view_of c.args.view.now) (opens c.args.self.now.stack)) (holds (view_of c.args.view.now) (plain c.args.node.now) c.args.number (with_parts c.args.self.now.memory c.args.self.now.wants.items s) (Does (SignalOn c.in-Signal.signal)) c.has_signal.result _ c.status_of-in-Signal.result (ap plain c.in-Signal.is ∙ plain-Signal _ c.in-Signal.signal) refl c.status_of-in-Signal.ensures c.has_signal.ensures);
       placed = placed_by c.args.self.now _ _ c.args.self.now.stack refl refl (answered_nested (whole_of c.args.self.now) _ c.args.number (plain c.args.node.now) (opens c.args.self.now.stack) (omega (arith, ap size (ap plain c.in-Signal.is ∙ plain-Signal _ c.in-Signal.signal))) c.requires.nested) tt;
-      falls = answered_falls (plain c.args.node.now) (weight_all (opens c.args.self.now.stack));
-      tree = refl;
-    }
-
-pub returns-in-Near : goal.returns-in-Near
-returns-in-Near g c =
-    record {
-      keeps = λ s. ap (unwind (view_of c.args.view.now) (opens c.args.self.now.stack)) (holds (view_of c.args.view.now) (plain c.args.node.now) c.args.number (with_parts c.args.self.now.memory c.args.self.now.wants.items s) (Does (NearOther c.in-Near.within)) c.is_near.result _ c.status_of-in-Near.result (ap plain c.in-Near.is ∙ plain-Near _ c.in-Near.within) refl c.status_of-in-Near.ensures c.is_near.ensures);
-      placed = placed_by c.args.self.now _ _ c.args.self.now.stack refl refl (answered_nested (whole_of c.args.self.now) _ c.args.number (plain c.args.node.now) (opens c.args.self.now.stack) (omega (arith, ap size (ap plain c.in-Near.is ∙ plain-Near _ c.in-Near.within))) c.requires.nested) tt;
       falls = answered_falls (plain c.args.node.now) (weight_all (opens c.args.self.now.stack));
       tree = refl;
     }
