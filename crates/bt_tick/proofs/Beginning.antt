@@ -7,10 +7,11 @@ use Rattle.grid_world.specs.declared.cell.Intent.TheVariants.{Take, Drop}
 use Rattle.bt_nodes.specs.declared.node.Node.{Wait as WaitNode, Take as TakeNode, Drop as DropNode, At, Carrying, Item, Signal, Near, the_lemmas}
 use Rattle.bt_nodes.specs.declared.node.Status.{Status}
 use Rattle.bt_nodes.specs.declared.node.Status.TheVariants.{Success, Failure, Running}
-use Rattle.bt_nodes.specs.Plain.{Plain, Kind, Composite, Parallel, Invert, Tries, Ticks, Wait, Does, Forest, TakeItem, DropItem, AtPlace, Carries, OnItem, SignalOn, NearOther, plain}
+use Rattle.bt_nodes.specs.Plain.{Plain, Kind, Leaf, Composite, Parallel, Invert, Tries, Ticks, Wait, Does, Forest, TakeItem, DropItem, AtPlace, Carries, OnItem, SignalOn, NearOther, plain}
 use Rattle.bt_nodes.specs.Sizes.{size}
 use Rattle.game_rules.specs.View.{View, carries, is_on_item}
-use Rattle.game_rules.specs.Tick.{State, gives, put, want, number_of, test, tick}
+use Rattle.game_rules.specs.Tick.{State, gives, put, want, number_of, test, does, tick}
+use Rattle.bt_tick.specs.Conditions.{Tests}
 use Rattle.bt_tick.specs.Suspended.{Open, go_on, close_at, unwind}
 use Rattle.bt_tick.specs.Places.{Sits, Nested}
 use Rattle.bt_tick.specs.Machine.{opens, with_parts}
@@ -125,8 +126,11 @@ module _ (v : View) (p : Plain) (n : ℕ) (s : State) where
   drops_none is a = drops false (is_on_item v) is a refl
 
   -- a condition
-  pub holds : (q : Plain) (b b' : Bool) (st : Status) → p ≡ q → tick v q n s ≡ test b' s → st ≡ (if b then Success else Failure) → b ≡ b' → gives st s ≡ tick v p n s
-  holds q b b' st is t e same = tested s b st e ∙ ap (λ x. test x s) same ∙ sym t ∙ ticks_as q is
+  pub answers : (b : Bool) (st : Status) → Tests v p b → st ≡ (if b then Success else Failure) → gives st s ≡ tick v p n s
+  answers b st (one, t) e = tested s b st e ∙ sym (t n s)
+
+pub tests_as : (v : View) (p : Plain) (leaf : Leaf) (b : Bool) → p ≡ Does leaf → ((s : State) → does leaf v s ≡ test b s) → Tests v p b
+tests_as v p leaf b is t = (ap size is, λ n s. ap (λ x. tick v x n s) is ∙ t s)
 
 -- ---- where it stands, and how many steps are left
 

@@ -6,6 +6,7 @@ pub mod Nests
 pub mod Leaving
 pub mod Handing
 pub mod Numbers
+pub mod SmallNumbers
 pub mod Opening
 pub mod Beginning
 pub mod Outcomes

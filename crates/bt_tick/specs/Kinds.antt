@@ -1,6 +1,6 @@
 -- Kinds of nodes.
 use Rattle.std.specs.Prelude.{◌≡◌, Bool, true, false}
-use Rattle.bt_nodes.specs.Plain.{Plain, Kind, Composite, CompositeStar, Parallel, MoveTo, Does, NearOther, Forest}
+use Rattle.bt_nodes.specs.Plain.{Plain, Kind, Composite, CompositeStar, Parallel, MoveTo, Does, AtPlace, Carries, OnItem, SignalOn, NearOther, Forest}
 
 abbrev pub HasList : Plain → Type 0
 HasList (Composite kind cs) = Unit {0}
@@ -15,6 +15,10 @@ abbrev pub is_move : Plain → Bool
 is_move (MoveTo p) = true
 is_move _ = false
 
-abbrev pub is_near_condition : Plain → Bool
-is_near_condition (Does (NearOther n)) = true
-is_near_condition _ = false
+abbrev pub is_condition : Plain → Bool
+is_condition (Does (AtPlace p)) = true
+is_condition (Does Carries) = true
+is_condition (Does OnItem) = true
+is_condition (Does (SignalOn a)) = true
+is_condition (Does (NearOther n)) = true
+is_condition _ = false

@@ -1,10 +1,10 @@
 // What a node does when it is ticked.
 
-ghost use Rattle.std.specs.Prelude.{◌≡◌, ◌<◌, ◌≤◌, ◌+◌, ◌*◌, ◌++◌, ◌∷◌, [], false, length, IfOk, if◌then◌else◌};
+ghost use Rattle.std.specs.Prelude.{◌≡◌, ◌<◌, ◌≤◌, ◌+◌, ◌*◌, ◌++◌, ◌∷◌, [], false, length, IfOk};
 ghost use Rattle.bt_nodes.specs.Plain.{plain};
 ghost use Rattle.bt_nodes.specs.Sizes.{size};
 ghost use Rattle.game_rules.specs.Tick.{tick};
-ghost use Rattle.bt_tick.specs.Kinds.{is_move, is_near_condition};
+ghost use Rattle.bt_tick.specs.Kinds.{is_move, is_condition};
 ghost use Rattle.bt_tick.specs.Places.{Sits, Nested, weight_all};
 ghost use Rattle.bt_tick.specs.Machine.{opens, Keeps, whole_of, Placed, weight};
 ghost use Rattle.bt_tick.specs.Views.{view_of, IsInWorld};
@@ -15,17 +15,6 @@ use bt_nodes::{Node, Status};
 use fiber_stack::Frame;
 use grid_world::Intent;
 use std::alloc::{AllocError, Allocator};
-
-// The status of a condition.
-pub(crate) fn status_of(holds: bool) -> Status
-    ensures { result ≡ (if holds then Status.Success else Status.Failure) }
-{
-    if holds {
-        Status::Success
-    } else {
-        Status::Failure
-    }
-}
 
 impl<'t, T: Allocator, A: Allocator + Clone> Machine<'t, T, A> {
     // Adds a want to those of the tick.
@@ -40,7 +29,7 @@ impl<'t, T: Allocator, A: Allocator + Clone> Machine<'t, T, A> {
         Ok(())
     }
 
-    // Ticks a node other than a `Move` or a `Near`: opens it and begins a child, or takes its status at once.
+    // Ticks a node other than a `Move` or a condition: opens it and begins a child, or takes its status at once.
     #[inline(always)]
     pub(crate) fn descend(
         &mut self,
@@ -50,7 +39,7 @@ impl<'t, T: Allocator, A: Allocator + Clone> Machine<'t, T, A> {
     ) -> Result<Mode<'t, T>, AllocError>
         requires view { IsInWorld view.now }
         requires no_move { is_move (plain node.now) ≡ false }
-        requires no_near { is_near_condition (plain node.now) ≡ false }
+        requires no_condition { is_condition (plain node.now) ≡ false }
         requires sits { Sits (whole_of self.old) number (plain node.now) }
         requires deep { length self.old.stack ≤ number }
         requires nested { Nested (whole_of self.old) (number + size (plain node.now)) (opens self.old.stack) }
@@ -134,11 +123,12 @@ impl<'t, T: Allocator, A: Allocator + Clone> Machine<'t, T, A> {
                 self.want(Intent::Drop)?;
                 Ok(Mode::Up(Status::Running, after))
             }
-            Node::At(place) => Ok(Mode::Up(status_of(view.stands_on(*place)), after)),
-            Node::Carrying => Ok(Mode::Up(status_of(view.carries()), after)),
-            Node::Item => Ok(Mode::Up(status_of(view.is_on_item()), after)),
-            Node::Signal(signal) => Ok(Mode::Up(status_of(view.has_signal(*signal)), after)),
-            Node::Near(_) | Node::Move(_) => unreachable!(),
+            Node::At(_)
+            | Node::Carrying
+            | Node::Item
+            | Node::Signal(_)
+            | Node::Near(_)
+            | Node::Move(_) => unreachable!(),
         }
     }
 }

@@ -23,14 +23,14 @@ fn is_below<T: Allocator>(node: &Node<T>, number: u64) -> bool
 
 // The numbers that are left behind those of a node and of the nodes below it, if each of these is below its bound.
 #[cycle(behind)]
-fn behind<'m, T: Allocator>(node: &Node<T>, numbers: &'m [u64]) -> Option<&'m [u64]>
+fn behind<'m, T: Allocator>(node: &Node<T>, numbers: &'m [u16]) -> Option<&'m [u16]>
     ensures { MatchOption result (behind (bounds (plain node.now)) numbers.now ≡ None)
         (λ rest. behind (bounds (plain node.now)) numbers.now ≡ Some rest.now) }
 {
     let Some((own, rest)) = numbers.split_first() else {
         return None;
     };
-    if !is_below(node, *own) {
+    if !is_below(node, u64::from(*own)) {
         return None;
     }
     match node.decorated() {
@@ -40,7 +40,7 @@ fn behind<'m, T: Allocator>(node: &Node<T>, numbers: &'m [u64]) -> Option<&'m [u
 }
 
 #[cycle(behind)]
-fn behind_all<'m, T: Allocator>(nodes: &[Node<T>], numbers: &'m [u64]) -> Option<&'m [u64]>
+fn behind_all<'m, T: Allocator>(nodes: &[Node<T>], numbers: &'m [u16]) -> Option<&'m [u16]>
     ensures { MatchOption result (behind (bounds_all (plains nodes.now)) numbers.now ≡ None)
         (λ rest. behind (bounds_all (plains nodes.now)) numbers.now ≡ Some rest.now) }
 {

@@ -2,6 +2,7 @@
 #![tactic(auto)]
 
 mod ascend;
+mod condition;
 mod descend;
 mod fault;
 mod fits;

@@ -1,4 +1,4 @@
-ghost use Rattle.std.specs.Prelude.{◌≡◌, ℕ, ◌<◌, List, length, slice_index, slice_set, slice_get, IfOk};
+ghost use Rattle.std.specs.Prelude.{◌≡◌, ℕ, ◌<◌, ◌^◌, List, length, slice_index, slice_set, slice_get, IfOk};
 ghost use Rattle.bt_nodes.specs.Bounds.{Fits, zero_memory};
 ghost use Rattle.bt_nodes.specs.Trees.{plain_of};
 
@@ -6,9 +6,9 @@ use bt_nodes::Tree;
 use std::alloc::{AllocError, Allocator, Global};
 use std::marker::Model;
 
-/// An agent's memory of its tree: a number for each node, in preorder from 0.
+/// An agent's memory of its tree: a number for each node, in preorder from 0. A tree's limits keep each below 2^16.
 pub struct Memory {
-    pub(crate) numbers: Vec<u64>,
+    pub(crate) numbers: Vec<u16>,
 }
 
 impl Drop for Memory {
@@ -46,7 +46,10 @@ impl Memory {
     pub fn at(&self, node: u64) -> Option<u64>
         ensures { result ≡ slice_get self.now node }
     {
-        self.numbers.get(node as usize).copied()
+        match self.numbers.get(node as usize) {
+            Some(number) => Some(u64::from(*number)),
+            None => None,
+        }
     }
 
     // A copy where this memory lies.
@@ -63,14 +66,15 @@ impl Memory {
         requires { node < length self.now }
         ensures { result ≡ slice_index self.now node }
     {
-        self.numbers[node as usize]
+        u64::from(self.numbers[node as usize])
     }
 
     // Changes the number of a node.
     pub(crate) fn set(&mut self, node: u64, number: u64)
-        requires { node < length self.old }
+        requires there { node < length self.old }
+        requires small { number < 2 ^ 16 }
         ensures { self.new ≡ slice_set self.old node number }
     {
-        self.numbers[node as usize] = number;
+        self.numbers[node as usize] = number as u16;
     }
 }

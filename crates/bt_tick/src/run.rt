@@ -10,7 +10,7 @@ ghost use Rattle.bt_tick.specs.Views.{view_of, IsInWorld};
 ghost use Rattle.bt_tick.specs.Machine.{Placed, with_parts};
 ghost use Rattle.bt_tick.specs.Outcome.{means, place_of, tree_of, machine_left, ComesTo, IsOutcome, IsOfTree};
 
-use crate::descend::status_of;
+use crate::condition::{condition, status_of};
 use crate::fault::TickFault;
 use crate::machine::{Machine, Mode};
 use crate::memory::Memory;
@@ -81,8 +81,8 @@ fn run<'t, T: Allocator, A: Allocator + Clone>(
     let mut nearest = Nearest::Unknown;
     loop {
         match mode {
-            Mode::Down(node, number) => match node {
-                Node::Move(place) => {
+            Mode::Down(node, number) => {
+                if let Node::Move(place) = node {
                     let place = *place;
                     let after = number + 1;
                     return Ok(Outcome::Asks {
@@ -94,12 +94,13 @@ fn run<'t, T: Allocator, A: Allocator + Clone>(
                         },
                     });
                 }
-                Node::Near(within) => {
+                if let Some(holds) = condition(view, &mut nearest, node) {
                     let after = number + 1;
-                    mode = Mode::Up(status_of(nearest.is_near(view, *within)), after);
+                    mode = Mode::Up(status_of(holds), after);
+                } else {
+                    mode = machine.descend(view, node, number)?;
                 }
-                _ => mode = machine.descend(view, node, number)?,
-            },
+            }
             Mode::Up(status, at) => match machine.innermost() {
                 None => {
                     let intent = first_want(&machine.wants);

@@ -1,26 +1,27 @@
-use Rattle.std.proofs.Common.{◌≡◌, refl, ap, sym, subst, ◌∙◌, arith, []}
-use Rattle.bt_nodes.specs.Plain.{Does, NearOther, plain}
-use Rattle.bt_nodes.specs.Sizes.{size}
+use Rattle.std.proofs.Common.{refl, ap, sym, subst, ◌∙◌, arith, []}
+use Rattle.std.specs.Prelude.{IfSome}
+use Rattle.bt_nodes.specs.Plain.{plain}
 use Rattle.game_rules.specs.Tick.{gives}
 use Rattle.bt_tick.specs.Suspended.{unwind}
 use Rattle.bt_tick.specs.Views.{view_of}
+use Rattle.bt_tick.specs.Conditions.{Tests}
 use Rattle.bt_tick.specs.Machine.{opens, with_parts, whole_of, Placed}
 use Rattle.bt_tick.specs.declared.machine.Mode.TheVariants.{Down}
 use Rattle.bt_tick.specs.Outcome.{fresh, machine_left}
-use Rattle.bt_tick.proofs.Beginning.{plain-Near, holds, answered_nested}
+use Rattle.bt_tick.proofs.Beginning.{answers, answered_nested}
 use Rattle.bt_tick.proofs.Opening.{down_within, placed_by}
 use Rattle.bt_tick.proofs.run.run.Goals as goal
 
 pub overflow_add-after : goal.overflow_add-after
 overflow_add-after g c = omega (arith, down_within c.loop-mode.machine c.loop-mode.mode c.in-Down.node c.in-Down.number c.in-Down.is c.loop-mode.invariant.placed)
 
-pub loop-mode-preserved-in_default : goal.loop-mode-preserved-in_default
-loop-mode-preserved-in_default g c = record {
-  placed = c.in_ok-mode-in_default.ensures.placed;
-  nearest = c.loop-mode.invariant.nearest;
-  tree = c.in_ok-mode-in_default.ensures.tree ∙ c.loop-mode.invariant.tree;
+pub loop-mode-preserved-in_default-condition : goal.loop-mode-preserved-in_default-condition
+loop-mode-preserved-in_default-condition g c = record {
+  placed = c.in_ok-mode-in-Down.ensures.placed;
+  nearest = c.condition.ensures.nearest;
+  tree = c.in_ok-mode-in-Down.ensures.tree ∙ c.loop-mode.invariant.tree;
   keeps = λ more.
-      c.in_ok-mode-in_default.ensures.keeps (fresh [] [] more)
+      c.in_ok-mode-in-Down.ensures.keeps (fresh [] [] more)
       ∙ ap (λ m. machine_left (view_of c.args.view.now) c.loop-mode.machine m more) (sym c.in-Down.is) ∙ c.loop-mode.invariant.keeps more;
 }
 
@@ -34,22 +35,22 @@ loop-mode-preserved g c =
       tree = c.ascend-mode.ensures.tree ∙ c.loop-mode.invariant.tree;
       keeps = λ more.
           c.ascend-mode.ensures.keeps v (fresh [] [] more)
-          ∙ ap (λ fs. unwind v (opens fs) (gives c.in-Up.status (fresh m.memory m.wants.items more))) (sym c.in-Some.ensures)
+          ∙ ap (λ fs. unwind v (opens fs) (gives c.in-Up.status (fresh m.memory m.wants.items more))) (sym c.in-Some-innermost.ensures)
           ∙ ap (λ md. machine_left v m md more) (sym c.in-Up.is) ∙ c.loop-mode.invariant.keeps more;
     }
 
-pub loop-mode-preserved-in-Near : goal.loop-mode-preserved-in-Near
-loop-mode-preserved-in-Near g c =
+pub loop-mode-preserved-in-Some : goal.loop-mode-preserved-in-Some
+loop-mode-preserved-in-Some g c =
     let v = view_of c.args.view.now in
     let m = c.loop-mode.machine in
     let p = plain c.in-Down.node.now in
-    let is : p ≡ Does (NearOther c.in-Near.within) = ap plain c.in-Near.is ∙ plain-Near _ c.in-Near.within in
+    let tests : Tests v p c.in-Some.holds = subst (λ r. IfSome r (Tests v p)) c.in-Some.is c.condition.ensures.tests in
     let was : Placed m (Down c.in-Down.node c.in-Down.number) = subst (Placed m) c.in-Down.is c.loop-mode.invariant.placed in
     record {
-      placed = placed_by m _ _ m.stack refl refl (answered_nested (whole_of m) _ c.in-Down.number p (opens m.stack) (omega (arith, ap size is)) was.nested) tt;
-      nearest = c.is_near.ensures.nearest;
+      placed = placed_by m _ _ m.stack refl refl (answered_nested (whole_of m) _ c.in-Down.number p (opens m.stack) (omega (arith, tests.0)) was.nested) tt;
+      nearest = c.condition.ensures.nearest;
       tree = c.loop-mode.invariant.tree;
       keeps = λ more.
-          ap (unwind v (opens m.stack)) (holds v p c.in-Down.number (with_parts m.memory m.wants.items (fresh [] [] more)) (Does (NearOther c.in-Near.within)) c.is_near.result _ c.status_of.result is refl c.status_of.ensures c.is_near.ensures.near)
+          ap (unwind v (opens m.stack)) (answers v p c.in-Down.number (with_parts m.memory m.wants.items (fresh [] [] more)) c.in-Some.holds c.status_of.result tests c.status_of.ensures)
           ∙ ap (λ md. machine_left v m md more) (sym c.in-Down.is) ∙ c.loop-mode.invariant.keeps more;
     }

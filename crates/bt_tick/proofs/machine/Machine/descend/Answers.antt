@@ -2,7 +2,7 @@ use Rattle.std.proofs.Common.{◌+◌, ◌*◌, ◌<◌, ap, sym, ◌∙◌, sub
 use Rattle.std.proofs.lemmas.List.{length-map}
 use Rattle.grid_world.specs.declared.cell.Intent.TheVariants.{Take, Drop}
 use Rattle.bt_nodes.specs.declared.node.Status.TheVariants.{Success, Failure, Running}
-use Rattle.bt_nodes.specs.Plain.{Sequence, Fallback, CompositeStar, Does, AtPlace, Carries, OnItem, SignalOn, none, tree, plain, plains}
+use Rattle.bt_nodes.specs.Plain.{Sequence, Fallback, CompositeStar, none, tree, plain, plains}
 use Rattle.bt_nodes.specs.Sizes.{size}
 use Rattle.bt_nodes.specs.Bounds.{bounds}
 use Rattle.bt_nodes.proofs.Views.{plain-Seq, plain-Fallback, plain-Par, plain-SeqStar, plain-FallbackStar, plain-Not, plain-Tries, plain-Ticks}
@@ -17,7 +17,8 @@ use Rattle.bt_tick.proofs.Trees.{size-children}
 use Rattle.bt_tick.proofs.Nests.{room}
 use Rattle.bt_tick.proofs.Numbers.{number_within, sat_wrote, zero_wrote}
 use Rattle.bt_tick.proofs.Opening.{if_ok, first_rests, only_stands, placed_by}
-use Rattle.bt_tick.proofs.Beginning.{plain-Wait, plain-Take, plain-Drop, plain-At, plain-Carrying, plain-Item, plain-Signal, line_begins, all_begins, not_begins, tries_begins, tries_over, ticks_begins, ticks_over, waits, waited, takes, takes_none, drops, drops_none, holds, answered_nested, answered_falls, number_below, wanted_keeps}
+use Rattle.bt_tick.proofs.SmallNumbers.{small}
+use Rattle.bt_tick.proofs.Beginning.{plain-Wait, plain-Take, plain-Drop, line_begins, all_begins, not_begins, tries_begins, tries_over, ticks_begins, ticks_over, waits, waited, takes, takes_none, drops, drops_none, answered_nested, answered_falls, number_below, wanted_keeps}
 use Rattle.bt_tick.proofs.machine.Machine.descend.Goals as goal
 
 pub overflow_add-after : goal.overflow_add-after
@@ -162,8 +163,8 @@ pub number-past-requires : goal.number-past-requires
 number-past-requires g c =
     number_within (whole_of c.args.self.now) (plain c.args.node.now) c.args.self.now.memory c.args.number c.args.self.now.fits c.requires.sits
 
-pub set-requires : goal.set-requires
-set-requires g c =
+pub set-requires-clause-there : goal.set-requires-clause-there
+set-requires-clause-there g c =
     number_within (whole_of c.args.self.now) (plain c.args.node.now) c.args.self.now.memory c.args.number c.args.self.now.fits c.requires.sits
 
 pub invariant_of-self : goal.invariant_of-self
@@ -207,13 +208,17 @@ pub number-past-requires-in-Wait : goal.number-past-requires-in-Wait
 number-past-requires-in-Wait g c =
     number_within (whole_of c.args.self.now) (plain c.args.node.now) c.args.self.now.memory c.args.number c.args.self.now.fits c.requires.sits
 
-pub set-requires-then-past-most-2 : goal.set-requires-then-past-most-2
-set-requires-then-past-most-2 g c =
+pub set-requires-then-past-most-2-clause-there : goal.set-requires-then-past-most-2-clause-there
+set-requires-then-past-most-2-clause-there g c =
     number_within (whole_of c.args.self.now) (plain c.args.node.now) c.args.self.now.memory c.args.number c.args.self.now.fits c.requires.sits
 
-pub set-requires-in-Wait : goal.set-requires-in-Wait
-set-requires-in-Wait g c =
+pub set-requires-in-Wait-clause-there : goal.set-requires-in-Wait-clause-there
+set-requires-in-Wait-clause-there g c =
     number_within (whole_of c.args.self.now) (plain c.args.node.now) c.args.self.now.memory c.args.number c.args.self.now.fits c.requires.sits
+
+pub set-requires-then-past-most-2-clause-small : goal.set-requires-then-past-most-2-clause-small
+set-requires-then-past-most-2-clause-small g c =
+    small c.args.self.now.tree.now (plain c.args.node.now) c.args.number _ (c.number-past-in-Wait.result + 1) _ (ap bounds (ap plain c.in-Wait.is ∙ plain-Wait _ c.in-Wait.most)) c.requires.sits (omega (arith, c.if-past-most-2.true))
 
 pub invariant_of-self-then-past-most-2 : goal.invariant_of-self-then-past-most-2
 invariant_of-self-then-past-most-2 g c =
@@ -295,40 +300,4 @@ returns-in_ok-want-in-Drop g c =
       placed = placed_by c.args.self.now new _ c.args.self.now.stack c.in_ok-want-in-Drop.ensures.tree c.in_ok-want-in-Drop.ensures.stack (answered_nested (whole_of c.args.self.now) _ c.args.number (plain c.args.node.now) (opens c.args.self.now.stack) (omega (arith, ap size (ap plain c.in-Drop.is ∙ plain-Drop _))) c.requires.nested) tt;
       falls = subst (λ fs. 1 + weight_all (opens fs) < 2 * size (plain c.args.node.now) + weight_all (opens c.args.self.now.stack)) (sym c.in_ok-want-in-Drop.ensures.stack) (answered_falls (plain c.args.node.now) (weight_all (opens c.args.self.now.stack)));
       tree = c.in_ok-want-in-Drop.ensures.tree;
-    }
-
-pub returns-in-At : goal.returns-in-At
-returns-in-At g c =
-    record {
-      keeps = λ s. ap (unwind (view_of c.args.view.now) (opens c.args.self.now.stack)) (holds (view_of c.args.view.now) (plain c.args.node.now) c.args.number (with_parts c.args.self.now.memory c.args.self.now.wants.items s) (Does (AtPlace c.in-At.place)) c.stands_on.result _ c.status_of.result (ap plain c.in-At.is ∙ plain-At _ c.in-At.place) refl c.status_of.ensures c.stands_on.ensures);
-      placed = placed_by c.args.self.now _ _ c.args.self.now.stack refl refl (answered_nested (whole_of c.args.self.now) _ c.args.number (plain c.args.node.now) (opens c.args.self.now.stack) (omega (arith, ap size (ap plain c.in-At.is ∙ plain-At _ c.in-At.place))) c.requires.nested) tt;
-      falls = answered_falls (plain c.args.node.now) (weight_all (opens c.args.self.now.stack));
-      tree = refl;
-    }
-
-pub returns-in-Carrying : goal.returns-in-Carrying
-returns-in-Carrying g c =
-    record {
-      keeps = λ s. ap (unwind (view_of c.args.view.now) (opens c.args.self.now.stack)) (holds (view_of c.args.view.now) (plain c.args.node.now) c.args.number (with_parts c.args.self.now.memory c.args.self.now.wants.items s) (Does Carries) c.carries-in-Carrying.result _ c.status_of-in-Carrying.result (ap plain c.in-Carrying.is ∙ plain-Carrying _) refl c.status_of-in-Carrying.ensures c.carries-in-Carrying.ensures);
-      placed = placed_by c.args.self.now _ _ c.args.self.now.stack refl refl (answered_nested (whole_of c.args.self.now) _ c.args.number (plain c.args.node.now) (opens c.args.self.now.stack) (omega (arith, ap size (ap plain c.in-Carrying.is ∙ plain-Carrying _))) c.requires.nested) tt;
-      falls = answered_falls (plain c.args.node.now) (weight_all (opens c.args.self.now.stack));
-      tree = refl;
-    }
-
-pub returns-in-Item : goal.returns-in-Item
-returns-in-Item g c =
-    record {
-      keeps = λ s. ap (unwind (view_of c.args.view.now) (opens c.args.self.now.stack)) (holds (view_of c.args.view.now) (plain c.args.node.now) c.args.number (with_parts c.args.self.now.memory c.args.self.now.wants.items s) (Does OnItem) c.is_on_item-in-Item.result _ c.status_of-in-Item.result (ap plain c.in-Item.is ∙ plain-Item _) refl c.status_of-in-Item.ensures c.is_on_item-in-Item.ensures);
-      placed = placed_by c.args.self.now _ _ c.args.self.now.stack refl refl (answered_nested (whole_of c.args.self.now) _ c.args.number (plain c.args.node.now) (opens c.args.self.now.stack) (omega (arith, ap size (ap plain c.in-Item.is ∙ plain-Item _))) c.requires.nested) tt;
-      falls = answered_falls (plain c.args.node.now) (weight_all (opens c.args.self.now.stack));
-      tree = refl;
-    }
-
-pub returns-in-Signal : goal.returns-in-Signal
-returns-in-Signal g c =
-    record {
-      keeps = λ s. ap (unwind (view_of c.args.view.now) (opens c.args.self.now.stack)) (holds (view_of c.args.view.now) (plain c.args.node.now) c.args.number (with_parts c.args.self.now.memory c.args.self.now.wants.items s) (Does (SignalOn c.in-Signal.signal)) c.has_signal.result _ c.status_of-in-Signal.result (ap plain c.in-Signal.is ∙ plain-Signal _ c.in-Signal.signal) refl c.status_of-in-Signal.ensures c.has_signal.ensures);
-      placed = placed_by c.args.self.now _ _ c.args.self.now.stack refl refl (answered_nested (whole_of c.args.self.now) _ c.args.number (plain c.args.node.now) (opens c.args.self.now.stack) (omega (arith, ap size (ap plain c.in-Signal.is ∙ plain-Signal _ c.in-Signal.signal))) c.requires.nested) tt;
-      falls = answered_falls (plain c.args.node.now) (weight_all (opens c.args.self.now.stack));
-      tree = refl;
     }
