@@ -8,6 +8,7 @@ use Rattle.job_shelf.specs.contracts.shown.Shown as Shown
 use Rattle.job_shelf.specs.contracts.asking.Asking as Asking
 use Rattle.job_shelf.specs.contracts.thoughts.Thoughts as Thoughts
 use Rattle.job_shelf.specs.contracts.drawn.Drawn as Drawn
+use Rattle.job_shelf.specs.contracts.spent.Spent as Spent
 use Rattle.job_shelf.specs.contracts.shelf.Shelf as Shelf
 
 pub done : (κ : NamedLft) → IsSend (Done.the_row κ)
@@ -18,7 +19,7 @@ pub done_field : (κ : NamedLft) → IsSend (Done.the_field κ).row
 done_field κ = search (way, thought, turn, band_mark, sendable, crosses) depth 60 fits 20000
 
 pub shown : (κ : NamedLft) → IsSend (Shown.the_row κ)
-shown κ = search (turn, params, sendable, crosses) depth 40
+shown κ = search (turn, sendable, crosses) depth 40
 
 pub asking : (κ : NamedLft) → IsSend (Asking.the_row κ)
 asking κ = search (session, parked, way, sendable, crosses) depth 40
@@ -29,5 +30,8 @@ thoughts κ = search (session, thought, sendable, crosses) depth 40
 drawn : (κ : NamedLft) → IsSend (Drawn.the_row κ)
 drawn κ = search (session, turn, band_mark, sendable, crosses) depth 40
 
+spent : (κ : NamedLft) → IsSend (Spent.the_row κ)
+spent κ = search (params, asking, sendable, crosses) depth 40
+
 pub shelf : (κ : NamedLft) → IsSend (Shelf.the_row κ)
-shelf κ = search (session, params, slots, asking, thoughts, drawn, sendable, crosses) depth 40
+shelf κ = search (session, params, slots, asking, thoughts, drawn, spent, sendable, crosses) depth 40

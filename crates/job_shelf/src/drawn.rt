@@ -3,7 +3,7 @@ ghost use Rattle.board_law.specs.Stored.{nothing, turned, with_band, parts};
 ghost use Rattle.job_shelf.specs.Shelf.{part_name};
 
 use super::shown::Shown;
-use frame_params::{BandMark, DrawTask, FrameParams, Turn};
+use frame_params::{BandMark, DrawTask, Turn};
 use game_session::Session;
 use std::alloc::{AllocError, Global};
 use std::marker::Model;
@@ -92,14 +92,14 @@ impl<'t> Drawn<'t> {
         }
     }
 
-    /// The frame to show, with what its jobs read.
-    pub(crate) fn into_shown(self, frame: u32, params: Option<FrameParams<'t>>) -> Shown<'t>
+    /// The frame to show.
+    pub(crate) fn into_shown(self, frame: u32) -> Shown<'t>
         requires { self.drawn ≡ turned frame (parts frame (bands_in self.game)) }
         ensures { result ≡ frame_of self.entry.game frame }
     {
         let Drawn { turn, .. } = self;
         match turn {
-            Some(turn) => Shown { turn, params },
+            Some(turn) => Shown { turn },
             None => unreachable!(),
         }
     }

@@ -6,6 +6,7 @@ mod done;
 mod drawn;
 mod shelf;
 mod shown;
+mod spent;
 mod thoughts;
 
 pub use asking::Asking;
@@ -13,3 +14,4 @@ pub use done::Done;
 pub use drawn::Drawn;
 pub use shelf::{Shelf, next_of};
 pub use shown::Shown;
+pub use spent::Spent;

@@ -15,6 +15,7 @@ use super::asking::Asking;
 use super::done::Done;
 use super::drawn::Drawn;
 use super::shown::Shown;
+use super::spent::Spent;
 use super::thoughts::Thoughts;
 use frame_params::{
     BandMark, FrameParams, LogicTask, Parked, PathTask, Slots, Task, ThinkTask, Turn, Way,
@@ -36,8 +37,8 @@ pub struct Shelf<'t> {
     thoughts: Thoughts<'t>,
     // Of the frames in the slots.
     drawn: Vec<Drawn<'t>>,
-    // The question that an agent asked before the one that was parked last.
-    spent: Option<Asking<'t>>,
+    // What is left over of the last events, until somebody takes it.
+    spent: Spent<'t>,
 }
 
 impl<'t> Drop for Shelf<'t> {
@@ -130,7 +131,7 @@ impl<'t> Shelf<'t> {
             asking: no_questions(alloc, session, agents)?,
             thoughts: Thoughts::new(alloc, session, agents)?,
             drawn: nothing_drawn(alloc, session, slots, bands)?,
-            spent: None,
+            spent: Spent::nothing(),
         })
     }
 
@@ -213,15 +214,15 @@ impl<'t> Shelf<'t> {
         requires agent { (agent ≡ parked.agent) × (agent < length self.old.stored.asking) }
         ensures { self.new ≡ record self.old { stored = record self.old.stored { asking = slice_set self.old.stored.asking agent (Some (asked parked.entry.frame agent parked.entry.question false)) } } }
     {
-        self.spent = Some(self.asking[agent as usize].park(parked));
+        self.spent.asking = Some(self.asking[agent as usize].park(parked));
     }
 
-    /// Takes out the question that the agent which was parked last asked before, of which nothing is made any more: to let
-    /// it go takes longer than to move it, so whoever drives a board behind a lock does that with the lock free.
-    pub fn take_spent(&mut self) -> Option<Asking<'t>>
+    /// Takes out what the last events have left over, of which nothing is made any more: to let it go takes longer than to
+    /// move it, so whoever drives a board behind a lock does that with the lock free.
+    pub fn take_spent(&mut self) -> Spent<'t>
         ensures { self.new ≡ self.old }
     {
-        self.spent.take()
+        mem::replace(&mut self.spent, Spent::nothing())
     }
 
     /// Keeps what a job came to, for the tasks that are made of it.
@@ -288,6 +289,7 @@ impl<'t> Shelf<'t> {
     {
         let params = self.slots.take(frame);
         let at = frame as usize % self.drawn.len();
-        mem::replace(&mut self.drawn[at], empty).into_shown(frame, params)
+        self.spent.params = params;
+        mem::replace(&mut self.drawn[at], empty).into_shown(frame)
     }
 }

@@ -1,7 +1,7 @@
 ghost use Rattle.std.specs.Prelude.{◌≡◌, length};
 
 use bt_nodes::Status;
-use frame_params::{FrameParams, Turn};
+use frame_params::Turn;
 use grid_world::{Signals, World};
 use std::marker::Model;
 
@@ -9,8 +9,6 @@ use std::marker::Model;
 #[derive(Drop)]
 pub struct Shown<'t> {
     pub(crate) turn: Turn<'t>,
-    // What the jobs of the frame read. Nobody reads it any more, and it is let go with the frame, where nobody waits.
-    pub(crate) params: Option<FrameParams<'t>>,
 }
 
 impl<'t> Model for Shown<'t> {

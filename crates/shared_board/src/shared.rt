@@ -12,7 +12,7 @@ use frame_params::{BoardStep, Task};
 use game_session::Session;
 use run_ledger::RunLedger;
 use std::sync::ledger::{Book, Ledger, Share};
-use task_board::{Asking, BoardFault, Event, Settings, Shown, TaskBoard};
+use task_board::{BoardFault, Event, Settings, Shown, Spent, TaskBoard};
 
 /// A board with two books: one of its events that name a worker, one of those that show a frame. A thread that makes
 /// such an event happen adds one to its share of the book.
@@ -120,8 +120,8 @@ impl<'t, L: RunLedger, M: Ledger> SharedBoard<'t, L, M> {
         }
     }
 
-    /// Takes out what the last `hand_in` has left over, to be let go with the lock free.
-    pub fn take_spent(&mut self) -> Option<Asking<'t>> {
+    /// Takes out what the last events have left over, to be let go with the lock free.
+    pub fn take_spent(&mut self) -> Spent<'t> {
         self.board.take_spent()
     }
 

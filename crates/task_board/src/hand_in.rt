@@ -9,7 +9,7 @@ use super::board::TaskBoard;
 use super::refused::Refused;
 use frame_params::{BoardStep, LogicStep, ThinkStep};
 use job_log::BoardFault;
-use job_shelf::{Asking, Done};
+use job_shelf::{Done, Spent};
 
 impl<'t> TaskBoard<'t> {
     /// Hands in what a worker's task came to: a frame that begins is spread, or held where it has no slot; a Think that
@@ -52,8 +52,8 @@ impl<'t> TaskBoard<'t> {
         }
     }
 
-    /// Takes out the question that the agent which was parked last asked before: it is let go sooner outside a lock.
-    pub fn take_spent(&mut self) -> Option<Asking<'t>>
+    /// Takes out what the last events have left over: it is let go sooner outside a lock.
+    pub fn take_spent(&mut self) -> Spent<'t>
         ensures { self.new ≡ self.old }
     {
         self.shelf.take_spent()

@@ -13,5 +13,5 @@ pub use board::TaskBoard;
 pub use job_core::names::{Event, JobName};
 pub use job_log::BoardFault;
 pub use job_machine::{OutOfMemory, Settings, SettingsFault};
-pub use job_shelf::{Asking, Done, Shown};
+pub use job_shelf::{Done, Shown, Spent};
 pub use refused::Refused;

@@ -1,0 +1,19 @@
+use super::asking::Asking;
+use frame_params::FrameParams;
+
+/// What nobody reads any more: the question that an agent asked before the one that was parked last, and what the jobs of
+/// the frame read that was shown last.
+#[derive(Drop)]
+pub struct Spent<'t> {
+    pub(crate) asking: Option<Asking<'t>>,
+    pub(crate) params: Option<FrameParams<'t>>,
+}
+
+impl<'t> Spent<'t> {
+    pub(crate) fn nothing() -> Spent<'t> {
+        Spent {
+            asking: None,
+            params: None,
+        }
+    }
+}
