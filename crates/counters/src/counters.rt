@@ -90,6 +90,7 @@ impl Counters {
     }
 
     /// Starts a counter at a number. `Busy` where its key is in use.
+    #[inline(always)]
     pub fn start(&mut self, key: CounterKey, number: u32) -> Result<(), CounterFault>
         ensures started { OnOk result (self.new ≡ self.old ++ started (counter_of key) number ∷ []) }
         ensures ok { OnOk result (start_fault (first_row (counter_of key) self.old) ≡ None) }
@@ -135,6 +136,7 @@ impl Counters {
 
     /// Lowers a counter that is above 0 by one. At 0 it takes it out, and gives out the fibers that waited for it, in
     /// the order in which they came. It takes no memory.
+    #[inline(always)]
     pub fn lower_out(&mut self, key: CounterKey) -> Option<Vec<Fiber>>
         requires { IsSomeAnd (first_row (counter_of key) self.old) (λ row. 0 < row.left) }
         ensures lowered { self.new ≡ lower (counter_of key) self.old }
@@ -164,6 +166,7 @@ impl Counters {
     }
 
     /// Keeps a fiber until the counter reaches 0, or says that it is at 0. `NotThere` where there is no such counter.
+    #[inline(always)]
     pub fn wait(&mut self, key: CounterKey, fiber: Fiber) -> Result<Waits, CounterFault>
         ensures answer { IfOk result (λ answer. IsWaiting (counter_of key) fiber answer self.old self.new) }
         ensures ok { OnOk result (wait_fault (first_row (counter_of key) self.old) ≡ None) }

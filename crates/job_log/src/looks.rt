@@ -31,6 +31,7 @@ impl JobLog {
     }
 
     /// What an idle worker does next: the first of the highest priority that has a fiber ready or a job that may start.
+    #[inline(always)]
     pub fn given(&self, worker: u32) -> Result<Option<Next>, BoardFault>
         ensures given { Always self.now (IsGivenTo worker result) }
         ensures picked { IfOk result (λ next. (questions : ℕ → ℕ → ℕ) → IsLegalList (setup_of self.now questions) self.now.events

@@ -135,6 +135,7 @@ impl Machine {
     }
 
     /// A worker starts a job that is queued, on the lowest free fiber.
+    #[inline(always)]
     pub fn start(&mut self, worker: u32, job: JobName)
         requires queued { has (same job) (all self.old.queues.fresh) ≡ true }
         requires free { 0 < tally not self.old.seats.taken }
@@ -160,6 +161,7 @@ impl Machine {
     }
 
     /// A worker goes on with a fiber that is ready.
+    #[inline(always)]
     pub fn resume(&mut self, worker: u32, fiber: Fiber)
         requires ready { has (λ other. fiber == other) (all self.old.queues.ready) ≡ true }
         requires held { IsSome (at self.old.seats.jobs fiber) }
@@ -296,6 +298,7 @@ impl Machine {
     }
 
     // A worker's job is over: its fiber is free, and it is idle.
+    #[inline(always)]
     fn leave(&mut self, worker: u32, fiber: Fiber)
         requires taken { slice_get self.old.seats.taken fiber ≡ Some true }
         requires worker { worker < length self.old.seats.workers }
@@ -308,6 +311,7 @@ impl Machine {
         self.hold_on(worker, fiber, None);
     }
 
+    #[inline(always)]
     fn lower(&mut self, key: CounterKey)
         requires stands { IsSomeAnd (first_row (counter_of key) self.old.counters) (λ row. 0 < row.left) }
         requires room { length (all self.old.queues.ready) + length (woken (counter_of key) self.old.counters) ≤ length self.old.seats.jobs }
@@ -321,6 +325,7 @@ impl Machine {
     }
 
     /// A worker's Think, Path or Draw is over, and lowers the counter of its kind.
+    #[inline(always)]
     pub fn end(&mut self, worker: u32, key: CounterKey)
         requires runs { IsSome (on_fiber self.old.seats (at self.old.seats.workers worker)) }
         requires table { self.old.seats.taken ≡ map is_taken self.old.seats.jobs }

@@ -17,6 +17,7 @@ use job_queues::{Fiber, Pick, fibers_wanted};
 // What a board asks its machine before it does an event. None of these takes memory.
 impl Machine {
     /// What an idle worker is given, with nothing taken out.
+    #[inline(always)]
     pub fn peek(&self) -> Option<Pick>
         ensures { option_map picked result ≡ given self.now }
     {

@@ -69,6 +69,7 @@ impl Lane {
         })
     }
 
+    #[inline(always)]
     pub(crate) fn peek(&self, free: u32) -> Option<Pick>
         ensures { option_map picked result ≡ lane (may_start free) self.now.ready.items self.now.fresh.items None }
     {
@@ -155,6 +156,7 @@ impl Lane {
     }
 
     /// Takes the first entry of a new job out, and says whether there was one.
+    #[inline(always)]
     pub(crate) fn take_out(&mut self, job: JobName) -> bool
         ensures found { result ≡ has (same job) self.old.fresh.items }
         ensures fresh { self.new.fresh.items ≡ drop_first (same job) self.old.fresh.items }
@@ -176,6 +178,7 @@ impl Lane {
     }
 
     /// Takes the first entry of a ready fiber out, and says whether there was one.
+    #[inline(always)]
     pub(crate) fn take_ready(&mut self, fiber: Fiber) -> bool
         ensures found { result ≡ has (λ other. fiber == other) self.old.ready.items }
         ensures ready { self.new.ready.items ≡ drop_first (λ other. fiber == other) self.old.ready.items }

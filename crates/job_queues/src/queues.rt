@@ -81,6 +81,7 @@ impl Queues {
     }
 
     /// What `pick` would answer, with nothing taken out. It takes no memory.
+    #[inline(always)]
     pub fn peek(&self, free: u32) -> Option<Pick>
         ensures { option_map picked result ≡ pick (may_start free) self.now.queues }
     {
@@ -192,6 +193,7 @@ impl Queues {
     }
 
     /// Takes the first entry of a new job out, of the highest priority that has one.
+    #[inline(always)]
     pub fn take_out(&mut self, job: JobName) -> Result<(), QueueFault>
         ensures after { OnOk result (self.new ≡ without_job job self.old) }
         ensures there { OnOk result (has (same job) (all self.old.queues.fresh) ≡ true) }
@@ -212,6 +214,7 @@ impl Queues {
     }
 
     /// Takes the first entry of a ready fiber out, of the highest priority that has one.
+    #[inline(always)]
     pub fn take_ready(&mut self, fiber: Fiber) -> Result<(), QueueFault>
         ensures after { OnOk result (self.new ≡ without_fiber fiber self.old) }
         ensures there { OnOk result (has (λ other. fiber == other) (all self.old.queues.ready) ≡ true) }

@@ -162,6 +162,7 @@ impl<'t> Shelf<'t> {
     }
 
     /// The task of a job that stands at this step.
+    #[inline(always)]
     pub fn task(&self, alloc: Global, job: JobName, step: u32) -> Result<Task<'t>, AllocError>
         requires { HasParts (sizes self.now) self.now.stored job step }
         ensures { IfOk result (IsTaskAt self.now.game job step) }
@@ -209,6 +210,7 @@ impl<'t> Shelf<'t> {
     }
 
     /// An agent's thought stands at a question.
+    #[inline(always)]
     pub fn park(&mut self, agent: u32, parked: Parked<'t>)
         requires game { parked.game ≡ self.old.game }
         requires agent { (agent ≡ parked.agent) × (agent < length self.old.stored.asking) }
@@ -226,6 +228,7 @@ impl<'t> Shelf<'t> {
     }
 
     /// Keeps what a job came to, for the tasks that are made of it.
+    #[inline(always)]
     pub fn keep(&mut self, alloc: Global, done: Done<'t>, next: Option<FrameParams<'t>>)
         requires game { game_done done ≡ self.old.game }
         requires wanted { IsWanted self.old done }

@@ -6,6 +6,7 @@ use frame_params::BoardStep;
 use task_board::{BoardFault, TaskBoard};
 
 /// Gives a board what the work of a worker's job came to, which is of the board's game: one event happens.
+#[inline(always)]
 pub fn hand_in<'t>(
     board: &mut TaskBoard<'t>,
     worker: u32,

@@ -51,6 +51,7 @@ impl<'t, L: RunLedger, M: Ledger> SharedBoard<'t, L, M> {
     }
 
     /// Takes a task for an idle worker. None where it can neither start nor resume a job.
+    #[inline(always)]
     pub fn take(
         &mut self,
         worker: u32,
@@ -73,6 +74,7 @@ impl<'t, L: RunLedger, M: Ledger> SharedBoard<'t, L, M> {
 
     /// Hands in what the work of a worker's job came to. At a Logic's beginning its thinks are spread, or it holds where
     /// that is illegal.
+    #[inline(always)]
     pub fn hand_in(
         &mut self,
         worker: u32,
@@ -98,6 +100,7 @@ impl<'t, L: RunLedger, M: Ledger> SharedBoard<'t, L, M> {
     }
 
     /// Hands in what the work of a worker's job came to, and takes its next task.
+    #[inline(always)]
     pub fn next(
         &mut self,
         worker: u32,

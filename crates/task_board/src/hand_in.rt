@@ -15,6 +15,7 @@ impl<'t> TaskBoard<'t> {
     /// Hands in what a worker's task came to: a frame that begins is spread, or held where it has no slot; a Think that
     /// has a question asks it; every other job is over. The step is of the board's own game, as what comes of a task is
     /// that `take` gave: no sessions are compared. Of a drawn band the board gets the mark alone.
+    #[inline(always)]
     pub fn hand_in(
         &mut self,
         worker: u32,
@@ -75,6 +76,7 @@ impl<'t> TaskBoard<'t> {
     }
 
     // The worker's job is over; it comes back as the step that it was.
+    #[inline(always)]
     fn hand_in_end(&mut self, worker: u32, done: Done<'t>) -> Result<(), Refused<BoardStep<'t>>>
         requires { game_done done ≡ self.old.game }
         ensures ok { OnOk result (Happens self.old self.new (Finish worker (job_done done.entry))) }

@@ -41,6 +41,7 @@ impl<'t> TaskBoard<'t> {
     }
 
     /// The same for a tick of a task of this board, whose game is the board's: no sessions are compared.
+    #[inline(always)]
     pub fn ask_own(&mut self, worker: u32, parked: Parked<'t>) -> Result<(), Refused<Parked<'t>>>
         requires { parked.game ≡ self.old.game }
         ensures ok { OnOk result (Happens self.old self.new (Ask worker (Think parked.entry.frame parked.entry.agent))) }
@@ -73,6 +74,7 @@ impl<'t> TaskBoard<'t> {
     }
 
     /// A Think asks the question at which its tick stands; refused for memory alone.
+    #[inline(always)]
     pub fn park(&mut self, worker: u32, parked: Parked<'t>) -> Result<(), Parked<'t>>
         requires legal { IsLegal (setup_in self.old) (state_in self.old) (Ask worker (Think parked.frame parked.agent)) }
         requires runs { (state_in self.old).phase (Think parked.frame parked.agent) ≡ Runs worker parked.question }
@@ -115,6 +117,7 @@ impl<'t> TaskBoard<'t> {
     }
 
     /// The same for what came of a task of this board, whose game is the board's: no sessions are compared.
+    #[inline(always)]
     pub fn finish_own(&mut self, worker: u32, done: Done<'t>) -> Result<(), Refused<Done<'t>>>
         requires { game_done done ≡ self.old.game }
         ensures ok { OnOk result (Happens self.old self.new (Finish worker (job_done done.entry))) }
@@ -148,6 +151,7 @@ impl<'t> TaskBoard<'t> {
     }
 
     /// A job is over; refused for memory alone.
+    #[inline(always)]
     pub fn end(&mut self, worker: u32, done: Done<'t>) -> Result<(), Done<'t>>
         requires legal { IsLegal (setup_in self.old) (state_in self.old) (Finish worker (job_done done)) }
         requires game { game_done done ≡ self.old.game }

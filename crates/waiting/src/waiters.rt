@@ -22,6 +22,8 @@ pub struct Waiters {
     news: Line,
     spinning: Line,
     sleeping: Line,
+    // How many of those that sleep are woken already, and have not come to the lock yet.
+    woken: Line,
     moved: Condvar,
 }
 
@@ -31,6 +33,7 @@ impl Drop for Waiters {
             news: _,
             spinning: _,
             sleeping: _,
+            woken: _,
             moved: _,
         } = self;
     }
@@ -42,6 +45,7 @@ impl Waiters {
             news: Line::new(0),
             spinning: Line::new(0),
             sleeping: Line::new(0),
+            woken: Line::new(0),
             moved: Condvar::new(),
         }
     }
@@ -93,7 +97,7 @@ impl Waiters {
     pub fn sleep<'m, T, R: Wait>(&self, rt: &R, guard: MutexGuard<'m, T>) -> MutexGuard<'m, T> {
         self.sleeping.add_one();
         let guard = self.moved.wait(rt, guard);
-        self.sleeping.take_one();
+        self.awake();
         guard
     }
 
@@ -109,8 +113,16 @@ impl Waiters {
         held.give();
         let (guard, ended) = self.moved.wait_timeout(rt, guard, most);
         held.take();
-        self.sleeping.take_one();
+        self.awake();
         (guard, ended.timed_out())
+    }
+
+    // One that slept has the lock.
+    fn awake(&self) {
+        self.sleeping.take_one();
+        if self.woken.load() != 0 {
+            self.woken.take_one();
+        }
     }
 
     /// How many sleep. Under the lock it is exact.
@@ -125,10 +137,15 @@ impl Waiters {
         }
     }
 
-    /// Tells one of something to do. Whether one that sleeps is to be woken. Called under the lock.
+    /// Tells one of something to do. Whether one that sleeps is to be woken; then it counts as woken, and as long as it is
+    /// on its way to the lock, where it sees all that there is, no other call for it is made. Called under the lock.
     pub fn want_one(&self) -> bool {
         self.tell_one();
-        self.spinning.load() == 0 && self.any_asleep()
+        if self.spinning.load() != 0 || self.woken.load() >= self.sleeping.load() {
+            return false;
+        }
+        self.woken.add_one();
+        true
     }
 
     /// There is nothing to do. Called under the lock.
