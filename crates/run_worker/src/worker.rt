@@ -200,6 +200,8 @@ fn tell<'t, L: RunLedger, M: Ledger, G: Gate, R: Wait + Clock>(
     ensures part { share.new.parts ≡ 1 }
     ensures next { IsNextIn session.now next.new }
 {
+    // Nothing else makes a frame ready to be shown.
+    let is_drawn = matches!(told, BoardStep::Draw(_));
     let mut board = hall.waiting.lock(rt, &hall.board);
     let rests = hall.waiting.may_rest();
     let is_given = hand_in_and_take(
@@ -208,7 +210,7 @@ fn tell<'t, L: RunLedger, M: Ledger, G: Gate, R: Wait + Clock>(
     // It is let go at the end of this, with the lock free.
     let _spent = board.take_spent();
     let is_idle = matches!(is_given, Ok(false));
-    let shows = board.may_show() && hall.waiting.wants_printer(is_idle);
+    let shows = (is_drawn || is_idle) && board.may_show() && hall.waiting.wants_printer(is_idle);
     let_go(hall, board);
     if shows {
         hall.waiting.printer.wake_one();
