@@ -45,7 +45,7 @@ impl<'t, L: RunLedger, M: Ledger> Hall<'t, L, M> {
         let mut board = self.waiting.lock(rt, &self.board);
         board.stop();
         self.waiting.unlock(board);
-        self.waiting.wake_all();
+        self.waiting.call_all();
     }
 
     /// The board and the mail, once no other thread has them.

@@ -27,9 +27,12 @@ fn wait_for_frame<'m, 't, L: RunLedger, M: Ledger, R: Wait + Clock>(
     ensures { inbox.new.taker.mail ≡ hall.now.mail }
 {
     if !inbox.take_one(rt, hall) {
+        if hall.waiting.room.count() != 0 {
+            hall.waiting.room.call_all();
+        }
         let (board, is_over) = hall
             .waiting
-            .doze(rt, &hall.waiting.printer, board, rest.length());
+            .doze_for_frame(rt, &hall.board, board, rest.length());
         if is_over {
             rest.lengthen();
         }
@@ -38,8 +41,8 @@ fn wait_for_frame<'m, 't, L: RunLedger, M: Ledger, R: Wait + Clock>(
     hall.waiting.unlock(board);
     inbox.take_all(rt, hall);
     let board = hall.waiting.lock(rt, &hall.board);
-    if hall.waiting.room.any_asleep() {
-        hall.waiting.room.wake_all();
+    if hall.waiting.room.count() != 0 {
+        hall.waiting.room.call_all();
     }
     board
 }
@@ -77,13 +80,17 @@ fn emit<'t, L: RunLedger, M: Ledger, R: Wait + Clock>(
                 } else {
                     hall.waiting.printer.want_none();
                 }
-                let another = board.may_take() && hall.waiting.wants_worker();
+                let place = if board.may_take() {
+                    hall.waiting.worker_to_call()
+                } else {
+                    None
+                };
                 hall.waiting.unlock(board);
                 if is_done {
-                    hall.waiting.workers.wake_all();
+                    hall.waiting.call_workers();
                 }
-                if another {
-                    hall.waiting.workers.wake_one();
+                if let Some(place) = place {
+                    place.call_one();
                 }
                 return Ok(shown);
             }
@@ -119,10 +126,8 @@ pub fn next_text<'t, L: RunLedger, M: Ledger, R: Wait + Clock>(
         Ok(shown) => shown,
         Err(cause) => return Err(cause),
     };
-    if inbox.take_all(rt, hall) && hall.waiting.room.any_asleep() {
-        // Who counts as asleep has the lock until it sleeps.
-        drop(hall.board.lock(rt));
-        hall.waiting.room.wake_all();
+    if inbox.take_all(rt, hall) && hall.waiting.room.count() != 0 {
+        hall.waiting.room.call_all();
     }
     match inbox.table.text(alloc, session, &shown.into_turn()) {
         Ok(Some(text)) => Ok(text),

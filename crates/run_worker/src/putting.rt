@@ -6,6 +6,7 @@ use frame_print::RunBand;
 use run_hall::Hall;
 use run_ledger::RunLedger;
 use std::hint;
+use std::rt::Clock;
 use std::sync::Wait;
 use std::sync::ledger::Ledger;
 
@@ -17,7 +18,7 @@ const TRIES: u32 = 100;
 ///
 /// It tries once more under the lock before it sleeps: the printer takes the lock behind each time that it has taken
 /// bands, so it either takes before that try or sees who sleeps.
-pub fn put_band<'t, L: RunLedger, M: Ledger, R: Wait>(
+pub fn put_band<'t, L: RunLedger, M: Ledger, R: Wait + Clock>(
     rt: &R,
     hall: &Hall<'t, L, M>,
     putter: &mut Putter<RunBand<'t, L>>,
@@ -36,19 +37,23 @@ pub fn put_band<'t, L: RunLedger, M: Ledger, R: Wait>(
         }
         hint::spin_loop();
     }
-    let mut board = hall.board.lock(rt);
+    let mut board = hall.waiting.lock(rt, &hall.board);
     'waits: for _ in rt.forever() {
         if board.is_stopped() {
+            hall.waiting.unlock(board);
             return false;
         }
         match hall.mail.put(rt, putter, band) {
-            Ok(()) => return true,
+            Ok(()) => {
+                hall.waiting.unlock(board);
+                return true;
+            }
             Err(back) => band = back,
         }
         if hall.waiting.printer.want_one() {
-            hall.waiting.printer.wake_one();
+            hall.waiting.printer.asleep.call_one();
         }
-        board = hall.waiting.room.sleep(rt, board);
+        board = hall.waiting.doze_for_room(rt, &hall.board, board);
     }
     unreachable!()
 }

@@ -41,7 +41,7 @@ fn end_of(fault: BoardFault) -> Result<(), Cause> {
     }
 }
 
-// Lets the lock go. Where there are more tasks, the next worker is woken.
+// Lets the lock go. Where there are more tasks, the next worker is called.
 fn let_go<'h, 't, L: RunLedger, M: Ledger>(
     hall: &'h Hall<'t, L, M>,
     board: MutexGuard<'h, SharedBoard<'t, L, M>>,
@@ -50,10 +50,14 @@ fn let_go<'h, 't, L: RunLedger, M: Ledger>(
     if !more {
         hall.waiting.workers.want_none();
     }
-    let another = more && hall.waiting.wants_worker();
+    let place = if more {
+        hall.waiting.worker_to_call()
+    } else {
+        None
+    };
     hall.waiting.unlock(board);
-    if another {
-        hall.waiting.workers.wake_one();
+    if let Some(place) = place {
+        place.call_one();
     }
 }
 
@@ -73,7 +77,7 @@ fn await_news<'h, 't, L: RunLedger, M: Ledger, R: Wait + Clock>(
     }
     let (board, is_over) = hall
         .waiting
-        .doze(rt, &hall.waiting.workers, board, rest.length());
+        .doze_for_task(rt, &hall.board, board, rest.length());
     if is_over {
         rest.lengthen();
     }
@@ -181,7 +185,7 @@ fn hand_in_and_take<'t, L: RunLedger, M: Ledger, G: Gate>(
 }
 
 // Tells the board what a worker's work came to and takes the next task, in one hold of the lock. Whether there is one.
-// Whoever may go on now is woken.
+// Whoever may go on now is called.
 fn tell<'t, L: RunLedger, M: Ledger, G: Gate, R: Wait + Clock>(
     rt: &R,
     alloc: Global,
@@ -213,7 +217,7 @@ fn tell<'t, L: RunLedger, M: Ledger, G: Gate, R: Wait + Clock>(
     let shows = (is_drawn || is_idle) && board.may_show() && hall.waiting.wants_printer(is_idle);
     let_go(hall, board);
     if shows {
-        hall.waiting.printer.wake_one();
+        hall.waiting.printer.asleep.call_one();
     }
     is_given
 }

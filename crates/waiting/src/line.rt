@@ -1,4 +1,9 @@
+use std::sync::Wait;
 use std::sync::atomic::{AtomicU64, Ordering};
+use std::time::Duration;
+
+// The kernel compares no more of a number.
+const LOW_HALF: u64 = 0xffff_ffff;
 
 /// A number that many threads read and write, with room on both sides: no other one lies on the same line of a cache,
 /// so who uses its neighbours is not disturbed.
@@ -46,5 +51,18 @@ impl Line {
 
     pub(crate) fn take_one(&self) {
         self.number.fetch_sub(1, Ordering::SeqCst);
+    }
+
+    /// Sleeps while the low half of the number is that of `seen`, until a wake, for a while at most.
+    pub(crate) fn park<R: Wait>(&self, rt: &R, seen: u64, most: Duration) {
+        self.number.park_timeout(rt, (seen & LOW_HALF) as u32, most);
+    }
+
+    pub(crate) fn wake_one(&self) {
+        self.number.wake_one();
+    }
+
+    pub(crate) fn wake_all(&self) {
+        self.number.wake_all();
     }
 }

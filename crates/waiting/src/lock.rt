@@ -2,14 +2,11 @@ use crate::line::Line;
 use std::hint;
 use std::sync::{Mutex, MutexGuard, Wait};
 
-// How often a thread looks whether a lock is free before it sleeps for it, and how long it looks away between two
-// looks: some twenty microseconds in all.
-const LOOKS: u32 = 600;
-
-const LOOKS_AWAY: u32 = 6;
+// How often a thread looks whether a lock is free before it sleeps for it: some tens of microseconds in all.
+const LOOKS: u32 = 8_000;
 
 // Of how many looks one is a try, whatever is said of the lock.
-const EVERY: u32 = 16;
+const EVERY: u32 = 2_048;
 
 /// What is said of a lock by those who take it and give it up: whether it is held. A try for a held lock takes its
 /// memory, and what lies beside it, from the core of the holder, so the others look here. It is a hint: where it is
@@ -60,9 +57,7 @@ pub(crate) fn lock_soon<'m, T, R: Wait>(
                 return guard;
             }
         }
-        for _ in 0..LOOKS_AWAY {
-            hint::spin_loop();
-        }
+        hint::spin_loop();
     }
     let guard = lock.lock(rt);
     held.take();

@@ -1,17 +1,24 @@
 use crate::lock::{Held, lock_soon};
 use crate::pace::Pace;
 use crate::patience::Patience;
+use crate::sleepers::Sleepers;
 use crate::waiters::Waiters;
 use std::rt::Clock;
 use std::sync::{Mutex, MutexGuard, Wait};
 use std::time::Duration;
+
+// How long who has no room in the mail sleeps before it looks again, if it isn't called: milliseconds.
+const ROOM: u64 = 1_000;
 
 /// Those who wait beside the lock of a run's board: the workers for a task or for room in the mail, and the printer for
 /// a frame. The lock itself is handed to each call, and is always the same one.
 pub struct Waiting {
     held: Held,
     pub workers: Waiters,
-    pub room: Waiters,
+    // The worker that fell asleep last, while all others slept: it is called first, since the board lies in its
+    // processor's cache.
+    keeper: Sleepers,
+    pub room: Sleepers,
     pub printer: Waiters,
     pub pace: Pace,
     count: u32,
@@ -22,6 +29,7 @@ impl Drop for Waiting {
         let Self {
             held: _,
             workers: _,
+            keeper: _,
             room: _,
             printer: _,
             pace: _,
@@ -36,7 +44,8 @@ impl Waiting {
         Waiting {
             held: Held::new(),
             workers: Waiters::new(),
-            room: Waiters::new(),
+            keeper: Sleepers::new(),
+            room: Sleepers::new(),
             printer: Waiters::new(),
             pace: Pace::new(),
             count: workers,
@@ -76,47 +85,102 @@ impl Waiting {
         self.printer.spin(rt, lock, &self.held, patience, nanos)
     }
 
-    /// Gives the lock up and sleeps among these waiters until it is woken, for a while at most. Whether the while is
-    /// over.
-    pub fn doze<'m, T, R: Wait + Clock>(
+    /// Gives the lock up and sleeps until there is a task, for a while at most. Whether the while is over.
+    pub fn doze_for_task<'m, T, R: Wait + Clock>(
         &self,
         rt: &R,
-        waiters: &Waiters,
+        lock: &'m Mutex<T>,
         guard: MutexGuard<'m, T>,
         most: Duration,
     ) -> (MutexGuard<'m, T>, bool) {
-        waiters.doze(rt, guard, &self.held, most)
+        let place = if self.awake() == 1 {
+            &self.keeper
+        } else {
+            &self.workers.asleep
+        };
+        place.doze(rt, lock, &self.held, guard, most)
     }
 
-    /// Whether to wake a worker for a task that could be taken now. Called under the lock. Where the work is brief, a
-    /// worker that is awake takes it sooner.
-    pub fn wants_worker(&self) -> bool {
-        if self.pace.is_brief() && self.workers.sleepers() < u64::from(self.count) {
-            return false;
+    /// Gives the lock up and sleeps until there is a frame to show, for a while at most. Whether the while is over.
+    pub fn doze_for_frame<'m, T, R: Wait + Clock>(
+        &self,
+        rt: &R,
+        lock: &'m Mutex<T>,
+        guard: MutexGuard<'m, T>,
+        most: Duration,
+    ) -> (MutexGuard<'m, T>, bool) {
+        self.printer.asleep.doze(rt, lock, &self.held, guard, most)
+    }
+
+    /// Gives the lock up and sleeps until there may be room in the mail.
+    pub fn doze_for_room<'m, T, R: Wait + Clock>(
+        &self,
+        rt: &R,
+        lock: &'m Mutex<T>,
+        guard: MutexGuard<'m, T>,
+    ) -> MutexGuard<'m, T> {
+        let (guard, _) = self
+            .room
+            .doze(rt, lock, &self.held, guard, Duration::from_millis(ROOM));
+        guard
+    }
+
+    // How many workers don't sleep for a task. Under the lock it is exact.
+    fn awake(&self) -> u64 {
+        let asleep = self
+            .workers
+            .asleep
+            .count()
+            .saturating_add(self.keeper.count());
+        u64::from(self.count).saturating_sub(asleep)
+    }
+
+    /// Where to call a worker for a task that could be taken now. Called under the lock. Where the work is brief, a worker
+    /// that is awake takes it sooner.
+    pub fn worker_to_call(&self) -> Option<&Sleepers> {
+        if self.pace.is_brief() && self.awake() > 0 {
+            return None;
         }
-        self.workers.want_one()
+        self.workers.tell_one();
+        if self.workers.any_looks() {
+            return None;
+        }
+        if self.keeper.want_one() {
+            return Some(&self.keeper);
+        }
+        if self.workers.asleep.want_one() {
+            return Some(&self.workers.asleep);
+        }
+        None
     }
 
     /// Whether a worker had better rest than take a task: the work is brief, and another worker is awake. Under the
     /// lock it is exact, so the last worker that is awake goes on.
     pub fn may_rest(&self) -> bool {
-        self.pace.is_brief() && self.workers.sleepers() < u64::from(self.count).saturating_sub(1)
+        self.pace.is_brief() && self.awake() > 1
     }
 
-    /// Whether to wake the printer for a frame that could be shown now. Called under the lock. Where the work is brief,
-    /// a worker goes on first while it has a task.
+    /// Whether to call the printer for a frame that could be shown now. Called under the lock. A worker goes on first
+    /// while it has a task: a call takes longer than most, and where all processors work the printer takes one from a
+    /// worker.
     pub fn wants_printer(&self, is_idle: bool) -> bool {
-        if self.pace.is_brief() && !is_idle {
+        if !is_idle {
             self.printer.tell_one();
             return false;
         }
         self.printer.want_one()
     }
 
-    /// Wakes all who sleep.
-    pub fn wake_all(&self) {
-        self.workers.wake_all();
-        self.room.wake_all();
-        self.printer.wake_all();
+    /// Calls all workers that wait for a task.
+    pub fn call_workers(&self) {
+        self.workers.call_all();
+        self.keeper.call_all();
+    }
+
+    /// Calls all who wait.
+    pub fn call_all(&self) {
+        self.call_workers();
+        self.room.call_all();
+        self.printer.call_all();
     }
 }
