@@ -12,6 +12,7 @@ use shared_board::SharedBoard;
 use std::alloc::{AllocError, Global};
 use std::sync::Wait;
 use std::sync::ledger::{Book, Ledger};
+use std::thread::Threads;
 use task_board::{Settings, TaskBoard};
 
 // How many bands a worker may be ahead of the printer.
@@ -63,7 +64,8 @@ fn open_mail<'t, L: RunLedger>(
 }
 
 /// The hall of a run in which nothing has happened, a Putter for each worker, and the printer's inbox.
-pub fn open_hall<'t, L: RunLedger, M: Ledger>(
+pub fn open_hall<'t, L: RunLedger, M: Ledger, R: Threads>(
+    rt: &R,
     alloc: Global,
     session: &'t Session,
     settings: Settings,
@@ -78,7 +80,7 @@ pub fn open_hall<'t, L: RunLedger, M: Ledger>(
 {
     let board = open_board(alloc, session, settings, named, emitted)?;
     let (mail, putters, inbox) = open_mail(alloc, session, settings)?;
-    let hall = Hall::new(board, mail, settings.workers());
+    let hall = Hall::new(rt, board, mail, settings.workers());
     Ok((hall, putters, inbox))
 }
 

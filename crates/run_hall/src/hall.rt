@@ -6,6 +6,7 @@ use run_ledger::RunLedger;
 use shared_board::SharedBoard;
 use std::sync::ledger::Ledger;
 use std::sync::{Mutex, Wait};
+use std::thread::Threads;
 use waiting::Waiting;
 
 /// Where the threads of a run meet: the locked board, the mail by which bands go to the printer, and those who wait beside the lock.
@@ -26,7 +27,8 @@ impl<'t, L: RunLedger, M: Ledger> Drop for Hall<'t, L, M> {
 }
 
 impl<'t, L: RunLedger, M: Ledger> Hall<'t, L, M> {
-    pub fn new(
+    pub fn new<R: Threads>(
+        rt: &R,
         board: SharedBoard<'t, L, M>,
         mail: BandMail<RunBand<'t, L>>,
         workers: u32,
@@ -36,7 +38,7 @@ impl<'t, L: RunLedger, M: Ledger> Hall<'t, L, M> {
         Hall {
             board: Mutex::new(board),
             mail,
-            waiting: Waiting::new(workers),
+            waiting: Waiting::new(rt, workers),
         }
     }
 

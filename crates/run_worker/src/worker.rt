@@ -244,7 +244,10 @@ fn go_on<'t, L: RunLedger, M: Ledger, G: Gate, R: Wait + Clock>(
     ensures next { IsNextIn session.now next.new }
 {
     match tell(rt, alloc, session, hall, gate, worker, told, share, next) {
-        Ok(true) => Ok(()),
+        Ok(true) => {
+            rest.shorten();
+            Ok(())
+        }
         Ok(false) => wait_for_task(rt, alloc, session, hall, gate, worker, rest, share, next),
         Err(fault) => end_of(fault),
     }
@@ -369,9 +372,6 @@ pub fn work<'t, L: RunLedger, M: Ledger, G: Gate, R: Wait + Clock>(
         hall.waiting.pace.end(rt, began);
         // It is let go with the lock free.
         next = None;
-        if !hall.waiting.pace.is_brief() {
-            rest.shorten();
-        }
         went = match worked {
             Ok(step) => deliver(
                 rt,

@@ -5,6 +5,7 @@ use crate::sleepers::Sleepers;
 use crate::waiters::Waiters;
 use std::rt::Clock;
 use std::sync::{Mutex, MutexGuard, Wait};
+use std::thread::{Threads, available_parallelism};
 use std::time::Duration;
 
 // How long who has no room in the mail sleeps before it looks again, if it isn't called: milliseconds.
@@ -21,7 +22,9 @@ pub struct Waiting {
     pub room: Sleepers,
     pub printer: Waiters,
     pub pace: Pace,
-    count: u32,
+    workers_count: u64,
+    // How many threads the machine runs at a time.
+    processors: u64,
 }
 
 impl Drop for Waiting {
@@ -33,14 +36,23 @@ impl Drop for Waiting {
             room: _,
             printer: _,
             pace: _,
-            count: _,
+            workers_count: _,
+            processors: _,
         } = self;
+    }
+}
+
+// How many threads the machine runs at a time: as many as one likes where it doesn't say.
+fn processors_of<R: Threads>(rt: &R) -> u64 {
+    match available_parallelism(rt) {
+        Ok(count) => count.get() as u64,
+        Err(_) => u64::MAX,
     }
 }
 
 impl Waiting {
     /// Nobody waits yet of so many workers.
-    pub fn new(workers: u32) -> Waiting {
+    pub fn new<R: Threads>(rt: &R, workers: u32) -> Waiting {
         Waiting {
             held: Held::new(),
             workers: Waiters::new(),
@@ -48,7 +60,8 @@ impl Waiting {
             room: Sleepers::new(),
             printer: Waiters::new(),
             pace: Pace::new(),
-            count: workers,
+            workers_count: u64::from(workers),
+            processors: processors_of(rt),
         }
     }
 
@@ -132,7 +145,16 @@ impl Waiting {
             .asleep
             .count()
             .saturating_add(self.keeper.count());
-        u64::from(self.count).saturating_sub(asleep)
+        self.workers_count.saturating_sub(asleep)
+    }
+
+    // How many workers do more than one fewer.
+    fn useful(&self) -> u64 {
+        if self.pace.is_brief() {
+            1
+        } else {
+            self.processors
+        }
     }
 
     /// Where to call a worker for a task that could be taken now. Called under the lock. Where the work is brief, a worker
@@ -142,7 +164,7 @@ impl Waiting {
             return None;
         }
         self.workers.tell_one();
-        if self.workers.any_looks() {
+        if self.workers.any_looks() || self.awake() >= self.useful() {
             return None;
         }
         if self.keeper.want_one() {
@@ -154,10 +176,10 @@ impl Waiting {
         None
     }
 
-    /// Whether a worker had better rest than take a task: the work is brief, and another worker is awake. Under the
+    /// Whether a worker had better rest than take a task: as many others are awake as do more than one fewer. Under the
     /// lock it is exact, so the last worker that is awake goes on.
     pub fn may_rest(&self) -> bool {
-        self.pace.is_brief() && self.awake() > 1
+        self.awake() > self.useful()
     }
 
     /// Whether to call the printer for a frame that could be shown now. Called under the lock. A worker goes on first
