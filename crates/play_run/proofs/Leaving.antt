@@ -23,7 +23,7 @@ use Rattle.frame_print.proofs.Crossing as prints
 use Rattle.game_session.specs.contracts.session.Session as session
 use Rattle.run_hall.specs.contracts.hall.Hall as hall
 use Rattle.run_hall.proofs.Sends.{hall_sync}
-use Rattle.run_worker.specs.contracts.worker.Worked as worked
+use Rattle.run_hall.specs.contracts.worked.Worked as worked
 use Rattle.play_run.specs.contracts.hiring.Post as post
 
 pub session_sync : IsSync session.the_row

@@ -1,7 +1,7 @@
 use band_mail::BandMail;
 use frame_print::RunBand;
+use run_hall::Worked;
 use run_ledger::RunLedger;
-use run_worker::Worked;
 use std::thread::{Promise, PromisedHandle};
 
 /// The promise that a worker's thread hands back this worker's Putter of this mail.

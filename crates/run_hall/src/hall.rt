@@ -5,7 +5,7 @@ use frame_print::RunBand;
 use run_ledger::RunLedger;
 use shared_board::SharedBoard;
 use std::sync::ledger::Ledger;
-use std::sync::{Mutex, Wait};
+use std::sync::{Mutex, MutexGuard, Wait};
 use std::thread::Threads;
 use waiting::Waiting;
 
@@ -48,6 +48,20 @@ impl<'t, L: RunLedger, M: Ledger> Hall<'t, L, M> {
         board.stop();
         self.waiting.unlock(board);
         self.waiting.call_all();
+    }
+
+    /// Gives the lock of the board up. Where another job could be taken, one worker that waits is told or called.
+    pub fn let_go(&self, board: MutexGuard<'_, SharedBoard<'t, L, M>>) {
+        let place = if board.may_take() {
+            self.waiting.worker_to_call()
+        } else {
+            self.waiting.workers.want_none();
+            None
+        };
+        self.waiting.unlock(board);
+        if let Some(place) = place {
+            place.call_one();
+        }
     }
 
     /// The board and the mail, once no other thread has them.

@@ -2,5 +2,7 @@
 #![tactic(auto)]
 
 mod hall;
+mod worked;
 
 pub use hall::Hall;
+pub use worked::Worked;

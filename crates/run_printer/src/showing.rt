@@ -80,17 +80,9 @@ fn emit<'t, L: RunLedger, M: Ledger, R: Wait + Clock>(
                 } else {
                     hall.waiting.printer.want_none();
                 }
-                let place = if board.may_take() {
-                    hall.waiting.worker_to_call()
-                } else {
-                    None
-                };
-                hall.waiting.unlock(board);
+                hall.let_go(board);
                 if is_done {
                     hall.waiting.call_workers();
-                }
-                if let Some(place) = place {
-                    place.call_one();
                 }
                 return Ok(shown);
             }

@@ -8,4 +8,4 @@ mod scratch;
 mod worker;
 
 pub use gate::{EveryJob, Gate};
-pub use worker::{Worked, work};
+pub use worker::work;

@@ -16,8 +16,8 @@ const TRIES: u32 = 100;
 /// Puts a band into the worker's queue of the mail, and waits for room where it is full. False, and the band is let go,
 /// where the board is stopped meanwhile.
 ///
-/// It tries once more under the lock before it sleeps: the printer takes the lock behind each time that it has taken
-/// bands, so it either takes before that try or sees who sleeps.
+/// It tries once more under the lock before it sleeps, and the printer, before it sleeps itself, finds the mail empty
+/// under the lock and calls who sleeps for room; so it either takes before that try or calls.
 pub fn put_band<'t, L: RunLedger, M: Ledger, R: Wait + Clock>(
     rt: &R,
     hall: &Hall<'t, L, M>,

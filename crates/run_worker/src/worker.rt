@@ -13,7 +13,7 @@ use frame_params::{BoardStep, Step, Task};
 use frame_print::RunBand;
 use game_session::Session;
 use run_fault::Cause;
-use run_hall::Hall;
+use run_hall::{Hall, Worked};
 use run_ledger::RunLedger;
 use shared_board::SharedBoard;
 use std::alloc::Global;
@@ -23,41 +23,12 @@ use std::sync::{MutexGuard, Wait};
 use task_board::BoardFault;
 use waiting::Rest;
 
-/// What a worker's thread hands back: its share of the events, its Putter, and the fault that it met.
-#[derive(Drop)]
-pub struct Worked<'t, L: RunLedger> {
-    pub share: Share<L>,
-    pub putter: Putter<RunBand<'t, L>>,
-    pub fault: Option<Cause>,
-    pub ghost one_part: { share.parts ≡ 1 },
-}
-
 // What a refused call makes of a worker: nothing is wrong where the board is stopped.
 fn end_of(fault: BoardFault) -> Result<(), Cause> {
     match fault {
         BoardFault::Stopped => Ok(()),
         BoardFault::OutOfMemory => Err(Cause::OutOfMemory),
         _ => Err(Cause::Stranger),
-    }
-}
-
-// Lets the lock go. Where there are more tasks, the next worker is called.
-fn let_go<'h, 't, L: RunLedger, M: Ledger>(
-    hall: &'h Hall<'t, L, M>,
-    board: MutexGuard<'h, SharedBoard<'t, L, M>>,
-) {
-    let more = board.may_take();
-    if !more {
-        hall.waiting.workers.want_none();
-    }
-    let place = if more {
-        hall.waiting.worker_to_call()
-    } else {
-        None
-    };
-    hall.waiting.unlock(board);
-    if let Some(place) = place {
-        place.call_one();
     }
 }
 
@@ -142,7 +113,7 @@ fn wait_for_task<'t, L: RunLedger, M: Ledger, G: Gate, R: Wait + Clock>(
     for _ in rt.forever() {
         match take(alloc, session, gate, &mut board, worker, share, next) {
             Ok(true) => {
-                let_go(hall, board);
+                hall.let_go(board);
                 return Ok(());
             }
             Ok(false) => {
@@ -215,7 +186,7 @@ fn tell<'t, L: RunLedger, M: Ledger, G: Gate, R: Wait + Clock>(
     let _spent = board.take_spent();
     let is_idle = matches!(is_given, Ok(false));
     let shows = (is_drawn || is_idle) && board.may_show() && hall.waiting.wants_printer(is_idle);
-    let_go(hall, board);
+    hall.let_go(board);
     if shows {
         hall.waiting.printer.asleep.call_one();
     }
@@ -318,21 +289,6 @@ fn work_of<'t, G: Gate>(
     Ok(step)
 }
 
-fn hand_back<'t, L: RunLedger>(
-    share: Share<L>,
-    putter: Putter<RunBand<'t, L>>,
-    fault: Option<Cause>,
-) -> Worked<'t, L>
-    requires { share.parts ≡ 1 }
-    ensures { result.putter ≡ putter.entry }
-{
-    Worked {
-        share,
-        putter,
-        fault,
-    }
-}
-
 /// Works on tasks until the board is done or stopped.
 pub fn work<'t, L: RunLedger, M: Ledger, G: Gate, R: Wait + Clock>(
     rt: &R,
@@ -361,10 +317,10 @@ pub fn work<'t, L: RunLedger, M: Ledger, G: Gate, R: Wait + Clock>(
     for _ in rt.forever() {
         if let Err(cause) = went {
             hall.stop(rt);
-            return hand_back(share, putter, Some(cause));
+            return Worked::new(share, putter, Some(cause));
         }
         let Some(task) = &next else {
-            return hand_back(share, putter, None);
+            return Worked::new(share, putter, None);
         };
         let began = hall.waiting.pace.begin(rt, number);
         number = number.wrapping_add(1);

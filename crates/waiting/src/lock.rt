@@ -2,7 +2,7 @@ use crate::line::Line;
 use std::hint;
 use std::sync::{Mutex, MutexGuard, Wait};
 
-// How often a thread looks whether a lock is free before it sleeps for it: some tens of microseconds in all.
+// How often a thread looks whether a lock is free before it sleeps for it: some ten microseconds in all.
 const LOOKS: u32 = 8_000;
 
 // Of how many looks one is a try, whatever is said of the lock.

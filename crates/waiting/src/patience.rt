@@ -1,10 +1,11 @@
-// Nanoseconds. Less than it costs to sleep and to be woken, and some times as much.
+// Nanoseconds. Less than it costs to sleep and to be woken, and some times as much: to wake a processor that has had
+// nothing to do for long takes the caller up to forty thousand.
 const LITTLE: u64 = 2_000;
 
-const MUCH: u64 = 15_000;
+const MUCH: u64 = 60_000;
 
 // Of how many waits one is long in any case.
-const EVERY: u32 = 64;
+const EVERY: u32 = 16;
 
 /// How long a thread looks for news before it sleeps: for long while it finds them so, and now and then to see whether
 /// it would.

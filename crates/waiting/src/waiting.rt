@@ -160,11 +160,12 @@ impl Waiting {
     /// Where to call a worker for a task that could be taken now. Called under the lock. Where the work is brief, a worker
     /// that is awake takes it sooner.
     pub fn worker_to_call(&self) -> Option<&Sleepers> {
-        if self.pace.is_brief() && self.awake() > 0 {
+        let are_enough = self.awake() >= self.useful();
+        if are_enough && self.pace.is_brief() {
             return None;
         }
         self.workers.tell_one();
-        if self.workers.any_looks() || self.awake() >= self.useful() {
+        if are_enough || self.workers.any_looks() {
             return None;
         }
         if self.keeper.want_one() {
