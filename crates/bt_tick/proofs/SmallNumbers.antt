@@ -1,5 +1,5 @@
--- Each number that a tree's nodes remember is small, since the tree keeps the limits.
-use Rattle.std.proofs.Common.{◌≡◌, ◌<◌, ◌≤◌, ◌^◌, ℕ, zero, suc, true, nat_le, List, [], ◌∷◌, get_or, All, arith}
+-- Each number that a tree's nodes remember or keep while they are open is small, since the tree keeps the limits.
+use Rattle.std.proofs.Common.{◌≡◌, ◌+◌, ◌<◌, ◌≤◌, ◌^◌, ℕ, zero, suc, true, nat_le, List, [], ◌∷◌, get_or, All, arith}
 use Rattle.std.proofs.lemmas.Bool.{and_parts}
 use Rattle.std.proofs.lemmas.Bool.Decides.{nat_tests}
 use Rattle.std.proofs.lemmas.List.Elements.{All-cons, All-append, All-nil, All-head, All-tail}
@@ -10,15 +10,12 @@ use Rattle.bt_nodes.specs.Limits.{is_count, has_counts, all_have_counts}
 use Rattle.bt_nodes.specs.Trees.{plain_of}
 use Rattle.bt_nodes.specs.declared.tree.Tree.{Tree}
 use Rattle.bt_nodes.proofs.WithinLimits.{tree_within}
+use Rattle.bt_tick.specs.Children.{children_of}
 use Rattle.bt_tick.specs.Places.{Sits}
-use Rattle.bt_tick.proofs.Trees.{size-children, bound_at}
+use Rattle.bt_tick.proofs.Trees.{size-children, few_children, sits_below, bound_at}
 
 abbrev AreSmall : List ℕ → Type 0
 AreSmall = All (λ b. b ≤ 1001)
-
-few_children : (cs : Forest) → count cs ≤ sizes cs
-few_children none = omega arith
-few_children (tree c cs) = omega (arith, few_children cs, size-children c)
 
 counted : (n : ℕ) → is_count n ≡ true → suc n ≤ 1001
 counted n h =
@@ -63,3 +60,12 @@ small t p n b v part own sits l =
     let within = tree_within t in
     let bound = small_at (bounds (plain_of t)) (bounds_small (plain_of t) within.few within.counts) n in
     omega (arith, bound, bound_at (plain_of t) p n b part own sits, l)
+
+module _ {T : Type 0} (t : Tree T) (p : Plain) (n : ℕ) (sits : Sits (plain_of t) n p) where
+  -- so does a node's number
+  pub number_small : n < 2 ^ 16
+  number_small = omega (arith, sits_below (plain_of t) p n sits, (tree_within t).few)
+
+  -- and the index of the child after one
+  pub next_small : (k : ℕ) → k ≤ count (children_of p) → k + 1 < 2 ^ 16
+  next_small k l = omega (arith, l, few_children (children_of p), size-children p, sits_below (plain_of t) p n sits, (tree_within t).few)

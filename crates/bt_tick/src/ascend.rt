@@ -38,7 +38,7 @@ impl<'t, T: Allocator, A: Allocator> Machine<'t, T, A> {
         ensures wants { self.new.wants ≡ self.old.wants }
         ensures tree { self.new.tree ≡ self.old.tree }
     {
-        let after = self.number_after(frame.number);
+        let after = self.number_after(frame.number as u64);
         self.leave(status, after)
     }
 
@@ -58,6 +58,7 @@ impl<'t, T: Allocator, A: Allocator> Machine<'t, T, A> {
             ≤ weight_of (opened frame.entry) + weight_all (opens (drop 1 self.old.stack)) }
         ensures tree { self.new.tree ≡ self.old.tree }
     {
+        let number = frame.number as u64;
         match frame.node {
             Node::Seq(_) => match status {
                 Status::Success => self.advance(frame, at),
@@ -86,30 +87,30 @@ impl<'t, T: Allocator, A: Allocator> Machine<'t, T, A> {
             },
             Node::SeqStar(children) => match status {
                 Status::Success => {
-                    if frame.next < children.len() as u64 {
-                        self.memory.set(frame.number, frame.next);
+                    if (frame.next as usize) < children.len() {
+                        self.memory.set(number, frame.next);
                         return self.advance(frame, at);
                     }
-                    self.memory.set(frame.number, 0);
+                    self.memory.set(number, 0);
                     self.leave(Status::Success, at)
                 }
                 Status::Failure => {
-                    self.memory.set(frame.number, 0);
+                    self.memory.set(number, 0);
                     self.stop(frame, Status::Failure)
                 }
                 Status::Running => self.stop(frame, Status::Running),
             },
             Node::FallbackStar(children) => match status {
                 Status::Failure => {
-                    if frame.next < children.len() as u64 {
-                        self.memory.set(frame.number, frame.next);
+                    if (frame.next as usize) < children.len() {
+                        self.memory.set(number, frame.next);
                         return self.advance(frame, at);
                     }
-                    self.memory.set(frame.number, 0);
+                    self.memory.set(number, 0);
                     self.leave(Status::Failure, at)
                 }
                 Status::Success => {
-                    self.memory.set(frame.number, 0);
+                    self.memory.set(number, 0);
                     self.stop(frame, Status::Success)
                 }
                 Status::Running => self.stop(frame, Status::Running),
@@ -118,7 +119,7 @@ impl<'t, T: Allocator, A: Allocator> Machine<'t, T, A> {
             Node::Tries(most, _) => match status {
                 Status::Failure => {
                     let _most = *most;
-                    self.memory.set(frame.number, frame.failures + 1);
+                    self.memory.set(number, frame.failures + 1);
                     self.leave(Status::Failure, at)
                 }
                 Status::Success | Status::Running => self.leave(status, at),
@@ -126,11 +127,11 @@ impl<'t, T: Allocator, A: Allocator> Machine<'t, T, A> {
             Node::Ticks(limit, _) => match status {
                 Status::Running => {
                     let _limit = *limit;
-                    self.memory.set(frame.number, frame.failures + 1);
+                    self.memory.set(number, frame.failures + 1);
                     self.leave(Status::Running, at)
                 }
                 Status::Success | Status::Failure => {
-                    self.memory.set(frame.number, 0);
+                    self.memory.set(number, 0);
                     self.leave(status, at)
                 }
             },

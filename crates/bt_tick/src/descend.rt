@@ -52,7 +52,7 @@ impl<'t, T: Allocator, A: Allocator + Clone> Machine<'t, T, A> {
     {
         let frame = Frame {
             node,
-            number,
+            number: number as u16,
             next: 0,
             successes: 0,
             failures: 0,
@@ -67,7 +67,7 @@ impl<'t, T: Allocator, A: Allocator + Clone> Machine<'t, T, A> {
             Node::Not(child) => self.open_only(Frame { next: 1, ..frame }, child),
             Node::Tries(most, child) => {
                 let failures = self.memory.number(number);
-                if failures >= *most {
+                if failures as u64 >= *most {
                     return Ok(Mode::Up(Status::Failure, self.number_after(number)));
                 }
                 self.open_only(
@@ -81,7 +81,7 @@ impl<'t, T: Allocator, A: Allocator + Clone> Machine<'t, T, A> {
             }
             Node::Ticks(most, child) => {
                 let past = self.memory.number(number);
-                if past >= *most {
+                if past as u64 >= *most {
                     self.memory.set(number, 0);
                     return Ok(Mode::Up(Status::Failure, self.number_after(number)));
                 }
@@ -96,7 +96,7 @@ impl<'t, T: Allocator, A: Allocator + Clone> Machine<'t, T, A> {
             }
             Node::Wait(most) => {
                 let past = self.memory.number(number);
-                if past < *most {
+                if (past as u64) < *most {
                     self.memory.set(number, past + 1);
                     return Ok(Mode::Up(Status::Running, after));
                 }

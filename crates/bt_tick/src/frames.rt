@@ -34,12 +34,12 @@ impl<'t, T: Allocator, A: Allocator + Clone> Machine<'t, T, A> {
 }
 
 // The status of a par of `count` children, all of which were ticked.
-fn par_status(least: u64, count: u64, successes: u64, failures: u64) -> Status
+fn par_status(least: u64, count: usize, successes: u16, failures: u16) -> Status
     ensures { result ≡ verdict least count successes failures }
 {
-    if successes >= least {
+    if successes as u64 >= least {
         Status::Success
-    } else if failures > count.saturating_sub(least) {
+    } else if failures as u64 > (count as u64).saturating_sub(least) {
         Status::Failure
     } else {
         Status::Running
@@ -108,37 +108,37 @@ impl<'t, T: Allocator, A: Allocator> Machine<'t, T, A> {
     {
         match frame.node {
             Node::Seq(children) => {
-                if frame.next < children.len() as u64 {
+                if (frame.next as usize) < children.len() {
                     return self.enter(frame, children, at);
                 }
                 self.leave(Status::Success, at)
             }
             Node::Fallback(children) => {
-                if frame.next < children.len() as u64 {
+                if (frame.next as usize) < children.len() {
                     return self.enter(frame, children, at);
                 }
                 self.leave(Status::Failure, at)
             }
             Node::Par(least, children) => {
-                let count = children.len() as u64;
-                if frame.next < count {
+                let count = children.len();
+                if (frame.next as usize) < count {
                     return self.enter(frame, children, at);
                 }
                 let status = par_status(*least, count, frame.successes, frame.failures);
                 self.leave(status, at)
             }
             Node::SeqStar(children) => {
-                if frame.next < children.len() as u64 {
+                if (frame.next as usize) < children.len() {
                     return self.enter(frame, children, at);
                 }
-                self.memory.set(frame.number, 0);
+                self.memory.set(frame.number as u64, 0);
                 self.leave(Status::Success, at)
             }
             Node::FallbackStar(children) => {
-                if frame.next < children.len() as u64 {
+                if (frame.next as usize) < children.len() {
                     return self.enter(frame, children, at);
                 }
-                self.memory.set(frame.number, 0);
+                self.memory.set(frame.number as u64, 0);
                 self.leave(Status::Failure, at)
             }
             _ => unreachable!(),

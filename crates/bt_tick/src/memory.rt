@@ -1,4 +1,4 @@
-ghost use Rattle.std.specs.Prelude.{◌≡◌, ℕ, ◌<◌, ◌^◌, List, length, slice_index, slice_set, slice_get, IfOk};
+ghost use Rattle.std.specs.Prelude.{◌≡◌, ℕ, ◌<◌, List, length, slice_index, slice_set, slice_get, IfOk};
 ghost use Rattle.bt_nodes.specs.Bounds.{Fits, zero_memory};
 ghost use Rattle.bt_nodes.specs.Trees.{plain_of};
 
@@ -62,19 +62,18 @@ impl Memory {
     }
 
     // The number of a node.
-    pub(crate) fn number(&self, node: u64) -> u64
+    pub(crate) fn number(&self, node: u64) -> u16
         requires { node < length self.now }
         ensures { result ≡ slice_index self.now node }
     {
-        u64::from(self.numbers[node as usize])
+        self.numbers[node as usize]
     }
 
     // Changes the number of a node.
-    pub(crate) fn set(&mut self, node: u64, number: u64)
-        requires there { node < length self.old }
-        requires small { number < 2 ^ 16 }
+    pub(crate) fn set(&mut self, node: u64, number: u16)
+        requires { node < length self.old }
         ensures { self.new ≡ slice_set self.old node number }
     {
-        self.numbers[node as usize] = number as u16;
+        self.numbers[node as usize] = number;
     }
 }

@@ -63,7 +63,7 @@ impl<'t, T: Allocator, A: Allocator + Clone> Machine<'t, T, A> {
         }
         let frame = Frame {
             node,
-            number,
+            number: number as u16,
             next,
             successes: 0,
             failures: 0,
@@ -93,6 +93,6 @@ impl<'t, T: Allocator, A: Allocator + Clone> Machine<'t, T, A> {
         ensures tree { self.new.tree ≡ self.old.tree }
     {
         self.open(frame)?;
-        Ok(Mode::Down(child, frame.number + 1))
+        Ok(Mode::Down(child, frame.number as u64 + 1))
     }
 }

@@ -38,4 +38,37 @@ impl<'t, T: Allocator, A: Allocator> Pending<'t, T, A> {
             after: self.after,
         })
     }
+
+    /// The same tick, whose open nodes and wants lie in `alloc`. Its memory of the tree is not copied.
+    pub fn move_in<B: Allocator + Clone>(self, alloc: B) -> Result<Pending<'t, T, B>, AllocError>
+        ensures means { IfOk result (λ moved.
+            (v : View) (more : List Answer) → means v moved more ≡ means v self.entry more) }
+        ensures place { IfOk result (λ moved. place_of moved ≡ place_of self.entry) }
+        ensures tree { IfOk result (λ moved. tree_of moved ≡ tree_of self.entry) }
+    {
+        let kept = self.machine.wants.to_vec(alloc.clone()?)?;
+        let open = self.machine.stack.copy_in(alloc)?;
+        let Pending {
+            machine,
+            place,
+            after,
+        } = self;
+        let Machine {
+            tree,
+            memory,
+            wants: _,
+            stack: _,
+        } = machine;
+        let machine = Machine {
+            tree,
+            memory,
+            wants: kept,
+            stack: open,
+        };
+        Ok(Pending {
+            machine,
+            place,
+            after,
+        })
+    }
 }

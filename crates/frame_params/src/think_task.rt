@@ -213,13 +213,13 @@ impl<'t> ThinkTask<'t> {
         }
     }
 
-    // A tick that stands at the next question, copied out of where it was ticked.
+    // A tick that stands at the next question, taken out of where it was ticked.
     fn parked<A: Allocator>(
         &self,
         alloc: Global,
-        pending: &Pending<'t, Global, A>,
+        pending: Pending<'t, Global, A>,
     ) -> Result<Parked<'t>, AllocError>
-        requires { ThinksTo self.now.game self.now.frame self.now.agent self.now.answered (Asks (place_of pending.now) pending.now) }
+        requires { ThinksTo self.now.game self.now.frame self.now.agent self.now.answered (Asks (place_of pending) pending) }
         ensures { IfOk result (λ p. p ≡ record { game = self.now.game; frame = self.now.frame; agent = self.now.agent; question = self.now.answered }) }
     {
         Ok(Parked {
@@ -227,7 +227,7 @@ impl<'t> ThinkTask<'t> {
             frame: self.frame(),
             agent: self.agent,
             question: self.answered(),
-            pending: Arc::new(alloc, pending.copy_in(alloc)?)?,
+            pending: Arc::new(alloc, pending.move_in(alloc)?)?,
         })
     }
 
@@ -264,7 +264,7 @@ impl<'t> ThinkTask<'t> {
                 intent,
             })),
             Outcome::Asks { place: _, pending } => {
-                Ok(ThinkStep::Asks(self.parked(alloc, &pending)?))
+                Ok(ThinkStep::Asks(self.parked(alloc, pending)?))
             }
         }
     }

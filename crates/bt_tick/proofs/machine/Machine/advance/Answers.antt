@@ -202,16 +202,16 @@ pub returns-else-frame-len-4-clause-tree : goal.returns-else-frame-len-4-clause-
 returns-else-frame-len-4-clause-tree g c =
     c.leave-in-FallbackStar.ensures.tree
 
-pub set-requires-clause-there : goal.set-requires-clause-there
-set-requires-clause-there g c =
+pub set-requires : goal.set-requires
+set-requires g c =
     number_within (whole_of c.args.self.now) (plain c.args.frame.node.now) c.args.self.now.memory c.args.frame.number c.args.self.now.fits c.requires.rests.0.sits
 
 pub invariant_of-self : goal.invariant_of-self
 invariant_of-self g c =
     record { fits = zero_wrote (whole_of c.args.self.now) (plain c.args.frame.node.now) c.args.self.now.memory _ c.args.frame.number c.args.self.now.fits c.requires.rests.0.sits c.set.ensures }
 
-pub set-requires-in-FallbackStar-clause-there : goal.set-requires-in-FallbackStar-clause-there
-set-requires-in-FallbackStar-clause-there g c =
+pub set-requires-in-FallbackStar : goal.set-requires-in-FallbackStar
+set-requires-in-FallbackStar g c =
     number_within (whole_of c.args.self.now) (plain c.args.frame.node.now) c.args.self.now.memory c.args.frame.number c.args.self.now.fits c.requires.rests.0.sits
 
 pub invariant_of-self-in-FallbackStar : goal.invariant_of-self-in-FallbackStar

@@ -132,13 +132,9 @@ returns-in-Running g c =
       tree = c.advance-in-Running.ensures.tree;
     }
 
-pub set-requires-clause-there : goal.set-requires-clause-there
-set-requires-clause-there g c =
+pub set-requires : goal.set-requires
+set-requires g c =
     number_within (whole_of c.args.self.now) (plain c.args.frame.node.now) c.args.self.now.memory c.args.frame.number c.args.self.now.fits c.requires.stands.sits
-
-pub set-requires-clause-small : goal.set-requires-clause-small
-set-requires-clause-small g c =
-    small c.args.self.now.tree.now (plain c.args.frame.node.now) c.args.frame.number _ c.args.frame.next _ (ap bounds (ap plain c.in-SeqStar.is ∙ plain-SeqStar c.in-SeqStar.children)) c.requires.stands.sits (omega (arith, count-plains c.in-SeqStar.children.items))
 
 pub invariant_of-self : goal.invariant_of-self
 invariant_of-self g c =
@@ -167,8 +163,8 @@ returns-then-frame-len g c =
       tree = c.advance-then-frame-len.ensures.tree;
     }
 
-pub set-requires-in-Success-status-3-clause-there : goal.set-requires-in-Success-status-3-clause-there
-set-requires-in-Success-status-3-clause-there g c =
+pub set-requires-in-Success-status-3 : goal.set-requires-in-Success-status-3
+set-requires-in-Success-status-3 g c =
     number_within (whole_of c.args.self.now) (plain c.args.frame.node.now) c.args.self.now.memory c.args.frame.number c.args.self.now.fits c.requires.stands.sits
 
 pub invariant_of-self-in-Success-status-3 : goal.invariant_of-self-in-Success-status-3
@@ -177,8 +173,8 @@ invariant_of-self-in-Success-status-3 g c =
       fits = zero_wrote (whole_of c.args.self.now) (plain c.args.frame.node.now) c.args.self.now.memory _ c.args.frame.number c.args.self.now.fits c.requires.stands.sits c.set-in-Success-status-3.ensures;
     }
 
-pub set-requires-in-Failure-status-3-clause-there : goal.set-requires-in-Failure-status-3-clause-there
-set-requires-in-Failure-status-3-clause-there g c =
+pub set-requires-in-Failure-status-3 : goal.set-requires-in-Failure-status-3
+set-requires-in-Failure-status-3 g c =
     number_within (whole_of c.args.self.now) (plain c.args.frame.node.now) c.args.self.now.memory c.args.frame.number c.args.self.now.fits c.requires.stands.sits
 
 pub invariant_of-self-in-Failure-status-3 : goal.invariant_of-self-in-Failure-status-3
@@ -214,13 +210,9 @@ returns-in-Running-status g c =
     refl c.requires.nested (λ v s. star_runs v (opened c.args.frame) (with_parts c.args.self.now.memory c.args.self.now.wants.items s) Sequence (plains c.in-SeqStar.children.items) c.args.status (ap plain c.in-SeqStar.is ∙ plain-SeqStar c.in-SeqStar.children) c.in-Running-status.is) in
     record { keeps = h.0; placed = h.1.0; falls = h.1.1; tree = c.stop-in-Running-status.ensures.tree }
 
-pub set-requires-then-frame-len-2-clause-there : goal.set-requires-then-frame-len-2-clause-there
-set-requires-then-frame-len-2-clause-there g c =
+pub set-requires-then-frame-len-2 : goal.set-requires-then-frame-len-2
+set-requires-then-frame-len-2 g c =
     number_within (whole_of c.args.self.now) (plain c.args.frame.node.now) c.args.self.now.memory c.args.frame.number c.args.self.now.fits c.requires.stands.sits
-
-pub set-requires-then-frame-len-2-clause-small : goal.set-requires-then-frame-len-2-clause-small
-set-requires-then-frame-len-2-clause-small g c =
-    small c.args.self.now.tree.now (plain c.args.frame.node.now) c.args.frame.number _ c.args.frame.next _ (ap bounds (ap plain c.in-FallbackStar.is ∙ plain-FallbackStar c.in-FallbackStar.children)) c.requires.stands.sits (omega (arith, count-plains c.in-FallbackStar.children.items))
 
 pub invariant_of-self-then-frame-len-2 : goal.invariant_of-self-then-frame-len-2
 invariant_of-self-then-frame-len-2 g c =
@@ -249,8 +241,8 @@ returns-then-frame-len-2 g c =
       tree = c.advance-then-frame-len-2.ensures.tree;
     }
 
-pub set-requires-in-Failure-status-4-clause-there : goal.set-requires-in-Failure-status-4-clause-there
-set-requires-in-Failure-status-4-clause-there g c =
+pub set-requires-in-Failure-status-4 : goal.set-requires-in-Failure-status-4
+set-requires-in-Failure-status-4 g c =
     number_within (whole_of c.args.self.now) (plain c.args.frame.node.now) c.args.self.now.memory c.args.frame.number c.args.self.now.fits c.requires.stands.sits
 
 pub invariant_of-self-in-Failure-status-4 : goal.invariant_of-self-in-Failure-status-4
@@ -259,8 +251,8 @@ invariant_of-self-in-Failure-status-4 g c =
       fits = zero_wrote (whole_of c.args.self.now) (plain c.args.frame.node.now) c.args.self.now.memory _ c.args.frame.number c.args.self.now.fits c.requires.stands.sits c.set-in-Failure-status-4.ensures;
     }
 
-pub set-requires-in-Success-status-4-clause-there : goal.set-requires-in-Success-status-4-clause-there
-set-requires-in-Success-status-4-clause-there g c =
+pub set-requires-in-Success-status-4 : goal.set-requires-in-Success-status-4
+set-requires-in-Success-status-4 g c =
     number_within (whole_of c.args.self.now) (plain c.args.frame.node.now) c.args.self.now.memory c.args.frame.number c.args.self.now.fits c.requires.stands.sits
 
 pub invariant_of-self-in-Success-status-4 : goal.invariant_of-self-in-Success-status-4
@@ -302,13 +294,13 @@ returns-in-Not g c =
     (only_closed (whole_of c.args.self.now) c.args.at _ (opened c.args.frame) (plain c.in-Not.field-0.value) (ap children_of (ap plain c.in-Not.is ∙ plain-Not c.in-Not.field-0)) c.requires.stands) c.requires.nested (λ v s. c.opposite.ensures (with_parts c.args.self.now.memory c.args.self.now.wants.items s) ∙ closes v (opened c.args.frame) (with_parts c.args.self.now.memory c.args.self.now.wants.items s) (Invert (plain c.in-Not.field-0.value)) (gives c.args.status (with_parts c.args.self.now.memory c.args.self.now.wants.items s)) (ap plain c.in-Not.is ∙ plain-Not c.in-Not.field-0)) in
     record { keeps = h.0; placed = h.1.0; falls = h.1.1; tree = c.leave-in-Not.ensures.tree }
 
-pub set-requires-in-Failure-status-5-clause-there : goal.set-requires-in-Failure-status-5-clause-there
-set-requires-in-Failure-status-5-clause-there g c =
+pub set-requires-in-Failure-status-5 : goal.set-requires-in-Failure-status-5
+set-requires-in-Failure-status-5 g c =
     number_within (whole_of c.args.self.now) (plain c.args.frame.node.now) c.args.self.now.memory c.args.frame.number c.args.self.now.fits c.requires.stands.sits
 
-pub set-requires-in-Failure-status-5-clause-small : goal.set-requires-in-Failure-status-5-clause-small
-set-requires-in-Failure-status-5-clause-small g c =
-    small c.args.self.now.tree.now (plain c.args.frame.node.now) c.args.frame.number _ (c.args.frame.failures + 1) _ (ap bounds (ap plain c.in-Tries.is ∙ plain-Tries c.in-Tries.most c.in-Tries.field-1)) c.requires.stands.sits (omega (arith, tries_lost _ _ _ _ (opened c.args.frame) c.in-Tries.most _ c.requires.stands (ap plain c.in-Tries.is ∙ plain-Tries c.in-Tries.most c.in-Tries.field-1)))
+pub overflow_add-frame-in-Failure-status-5 : goal.overflow_add-frame-in-Failure-status-5
+overflow_add-frame-in-Failure-status-5 g c =
+    omega (arith, small c.args.self.now.tree.now (plain c.args.frame.node.now) c.args.frame.number _ (c.args.frame.failures + 1) _ (ap bounds (ap plain c.in-Tries.is ∙ plain-Tries c.in-Tries.most c.in-Tries.field-1)) c.requires.stands.sits (omega (arith, tries_lost _ _ _ _ (opened c.args.frame) c.in-Tries.most _ c.requires.stands (ap plain c.in-Tries.is ∙ plain-Tries c.in-Tries.most c.in-Tries.field-1))))
 
 pub invariant_of-self-in-Failure-status-5 : goal.invariant_of-self-in-Failure-status-5
 invariant_of-self-in-Failure-status-5 g c =
@@ -329,13 +321,13 @@ returns-in-Success-status-5 g c =
     (only_closed (whole_of c.args.self.now) c.args.at _ (opened c.args.frame) (plain c.in-Tries.field-1.value) (ap children_of (ap plain c.in-Tries.is ∙ plain-Tries c.in-Tries.most c.in-Tries.field-1)) c.requires.stands) c.requires.nested (λ v s. tries_passes v (opened c.args.frame) (with_parts c.args.self.now.memory c.args.self.now.wants.items s) c.in-Tries.most (plain c.in-Tries.field-1.value) c.args.status (ap plain c.in-Tries.is ∙ plain-Tries c.in-Tries.most c.in-Tries.field-1) c.in-Success-status-5.is) in
     record { keeps = h.0; placed = h.1.0; falls = h.1.1; tree = c.leave-in-Success-status-5.ensures.tree }
 
-pub set-requires-in-Running-status-3-clause-there : goal.set-requires-in-Running-status-3-clause-there
-set-requires-in-Running-status-3-clause-there g c =
+pub set-requires-in-Running-status-3 : goal.set-requires-in-Running-status-3
+set-requires-in-Running-status-3 g c =
     number_within (whole_of c.args.self.now) (plain c.args.frame.node.now) c.args.self.now.memory c.args.frame.number c.args.self.now.fits c.requires.stands.sits
 
-pub set-requires-in-Running-status-3-clause-small : goal.set-requires-in-Running-status-3-clause-small
-set-requires-in-Running-status-3-clause-small g c =
-    small c.args.self.now.tree.now (plain c.args.frame.node.now) c.args.frame.number _ (c.args.frame.failures + 1) _ (ap bounds (ap plain c.in-Ticks.is ∙ plain-Ticks c.in-Ticks.limit c.in-Ticks.field-1)) c.requires.stands.sits (omega (arith, ticks_lost _ _ _ _ (opened c.args.frame) c.in-Ticks.limit _ c.requires.stands (ap plain c.in-Ticks.is ∙ plain-Ticks c.in-Ticks.limit c.in-Ticks.field-1)))
+pub overflow_add-frame-in-Running-status-3 : goal.overflow_add-frame-in-Running-status-3
+overflow_add-frame-in-Running-status-3 g c =
+    omega (arith, small c.args.self.now.tree.now (plain c.args.frame.node.now) c.args.frame.number _ (c.args.frame.failures + 1) _ (ap bounds (ap plain c.in-Ticks.is ∙ plain-Ticks c.in-Ticks.limit c.in-Ticks.field-1)) c.requires.stands.sits (omega (arith, ticks_lost _ _ _ _ (opened c.args.frame) c.in-Ticks.limit _ c.requires.stands (ap plain c.in-Ticks.is ∙ plain-Ticks c.in-Ticks.limit c.in-Ticks.field-1))))
 
 pub invariant_of-self-in-Running-status-3 : goal.invariant_of-self-in-Running-status-3
 invariant_of-self-in-Running-status-3 g c =
@@ -350,8 +342,8 @@ returns-in-Running-status-3 g c =
     (only_closed (whole_of c.args.self.now) c.args.at _ (opened c.args.frame) (plain c.in-Ticks.field-1.value) (ap children_of (ap plain c.in-Ticks.is ∙ plain-Ticks c.in-Ticks.limit c.in-Ticks.field-1)) c.requires.stands) c.requires.nested (λ v s. closes_at v (opened c.args.frame) (with_parts c.args.self.now.memory c.args.self.now.wants.items s) (Ticks c.in-Ticks.limit (plain c.in-Ticks.field-1.value)) c.args.status Running _ (ap plain c.in-Ticks.is ∙ plain-Ticks c.in-Ticks.limit c.in-Ticks.field-1) c.in-Running-status-3.is refl) in
     record { keeps = h.0; placed = h.1.0; falls = h.1.1; tree = c.leave-in-Running-status-3.ensures.tree }
 
-pub set-requires-in-Success-status-6-clause-there : goal.set-requires-in-Success-status-6-clause-there
-set-requires-in-Success-status-6-clause-there g c =
+pub set-requires-in-Success-status-6 : goal.set-requires-in-Success-status-6
+set-requires-in-Success-status-6 g c =
     number_within (whole_of c.args.self.now) (plain c.args.frame.node.now) c.args.self.now.memory c.args.frame.number c.args.self.now.fits c.requires.stands.sits
 
 pub invariant_of-self-in-Success-status-6 : goal.invariant_of-self-in-Success-status-6

@@ -17,9 +17,12 @@ use Rattle.bt_tick.proofs.Trees.{size-children}
 use Rattle.bt_tick.proofs.Nests.{room}
 use Rattle.bt_tick.proofs.Numbers.{number_within, sat_wrote, zero_wrote}
 use Rattle.bt_tick.proofs.Opening.{if_ok, first_rests, only_stands, placed_by}
-use Rattle.bt_tick.proofs.SmallNumbers.{small}
+use Rattle.bt_tick.proofs.SmallNumbers.{small, number_small}
 use Rattle.bt_tick.proofs.Beginning.{plain-Wait, plain-Take, plain-Drop, line_begins, all_begins, not_begins, tries_begins, tries_over, ticks_begins, ticks_over, waits, waited, takes, takes_none, drops, drops_none, answered_nested, answered_falls, number_below, wanted_keeps}
 use Rattle.bt_tick.proofs.machine.Machine.descend.Goals as goal
+
+pub overflow_cast-frame : goal.overflow_cast-frame
+overflow_cast-frame g c = omega (arith, number_small c.args.self.now.tree.now (plain c.args.node.now) c.args.number c.requires.sits)
 
 pub overflow_add-after : goal.overflow_add-after
 overflow_add-after g c = omega (arith, room c.args.self.now.tree.now (plain c.args.node.now) c.args.number c.requires.sits)
@@ -163,8 +166,8 @@ pub number-past-requires : goal.number-past-requires
 number-past-requires g c =
     number_within (whole_of c.args.self.now) (plain c.args.node.now) c.args.self.now.memory c.args.number c.args.self.now.fits c.requires.sits
 
-pub set-requires-clause-there : goal.set-requires-clause-there
-set-requires-clause-there g c =
+pub set-requires : goal.set-requires
+set-requires g c =
     number_within (whole_of c.args.self.now) (plain c.args.node.now) c.args.self.now.memory c.args.number c.args.self.now.fits c.requires.sits
 
 pub invariant_of-self : goal.invariant_of-self
@@ -208,17 +211,17 @@ pub number-past-requires-in-Wait : goal.number-past-requires-in-Wait
 number-past-requires-in-Wait g c =
     number_within (whole_of c.args.self.now) (plain c.args.node.now) c.args.self.now.memory c.args.number c.args.self.now.fits c.requires.sits
 
-pub set-requires-then-past-most-2-clause-there : goal.set-requires-then-past-most-2-clause-there
-set-requires-then-past-most-2-clause-there g c =
+pub set-requires-then-past-most-2 : goal.set-requires-then-past-most-2
+set-requires-then-past-most-2 g c =
     number_within (whole_of c.args.self.now) (plain c.args.node.now) c.args.self.now.memory c.args.number c.args.self.now.fits c.requires.sits
 
-pub set-requires-in-Wait-clause-there : goal.set-requires-in-Wait-clause-there
-set-requires-in-Wait-clause-there g c =
+pub set-requires-in-Wait : goal.set-requires-in-Wait
+set-requires-in-Wait g c =
     number_within (whole_of c.args.self.now) (plain c.args.node.now) c.args.self.now.memory c.args.number c.args.self.now.fits c.requires.sits
 
-pub set-requires-then-past-most-2-clause-small : goal.set-requires-then-past-most-2-clause-small
-set-requires-then-past-most-2-clause-small g c =
-    small c.args.self.now.tree.now (plain c.args.node.now) c.args.number _ (c.number-past-in-Wait.result + 1) _ (ap bounds (ap plain c.in-Wait.is ∙ plain-Wait _ c.in-Wait.most)) c.requires.sits (omega (arith, c.if-past-most-2.true))
+pub overflow_add-past : goal.overflow_add-past
+overflow_add-past g c =
+    omega (arith, small c.args.self.now.tree.now (plain c.args.node.now) c.args.number _ (c.number-past-in-Wait.result + 1) _ (ap bounds (ap plain c.in-Wait.is ∙ plain-Wait _ c.in-Wait.most)) c.requires.sits (omega (arith, c.if-past-most-2.true)))
 
 pub invariant_of-self-then-past-most-2 : goal.invariant_of-self-then-past-most-2
 invariant_of-self-then-past-most-2 g c =

@@ -8,7 +8,11 @@ use Rattle.bt_tick.specs.Places.{Nested, weight_of, weight_all}
 use Rattle.bt_tick.specs.Machine.{opens, opened, whole_of, with_parts}
 use Rattle.bt_tick.proofs.Forests.{child_at, replaced}
 use Rattle.bt_tick.proofs.Nests.{entered_keeps, entered_sits, entered_deep, entered_nested, entered_falls}
+use Rattle.bt_tick.proofs.SmallNumbers.{next_small}
 use Rattle.bt_tick.proofs.machine.Machine.enter.Goals as goal
+
+pub overflow_add-next : goal.overflow_add-next
+overflow_add-next g c = omega (arith, next_small c.args.self.now.tree.now (plain c.args.frame.node.now) c.args.frame.number c.requires.rests.0.sits c.args.frame.next c.requires.rests.0.begun)
 
 pub returns-clause-keeps : goal.returns-clause-keeps
 returns-clause-keeps g c v s =

@@ -7,6 +7,7 @@ use Rattle.bt_tick.specs.Suspended.{Open, unwind}
 use Rattle.bt_tick.specs.Machine.{opened, opens, with_parts}
 use Rattle.bt_tick.proofs.Nests.{room}
 use Rattle.bt_tick.proofs.Opening.{child_within, child_passed, if_ok, star_next, star_rests, star_falls, star_begins}
+use Rattle.bt_tick.proofs.SmallNumbers.{number_small}
 use Rattle.bt_tick.proofs.machine.Machine.open_star.Goals as goal
 
 pub overflow_add-at : goal.overflow_add-at
@@ -47,3 +48,6 @@ pub returns-clause-falls : goal.returns-clause-falls
 returns-clause-falls g c =
     let f : Open = record { node = plain c.args.node.now; number = c.args.number; next = c.number-next.result; won = 0; lost = 0 } in
     if_ok c.open_list.result (λ r h. omega (arith, h, star_falls (plain_of c.args.self.now.tree.now) c.args.self.now.memory f (opens c.args.self.now.stack) c.requires.star.0 c.args.children.now c.requires.star.1 c.args.self.now.fits c.requires.sits c.number-next.ensures)) c.open_list.ensures.falls
+
+pub overflow_cast-frame : goal.overflow_cast-frame
+overflow_cast-frame g c = omega (arith, number_small c.args.self.now.tree.now (plain c.args.node.now) c.args.number c.requires.sits)
