@@ -1,16 +1,15 @@
 -- the subcommand that a parse entered, and the help that it answers
-use Rattle.std.proofs.Common.{◌≡◌, ◌≢◌, ◌∙◌, ◌⊎◌, inl, inr, ap, sym, subst, true, List, [], Option, refl}
-use Rattle.std.specs.Prelude.{Some, None, option_map}
-use Rattle.clap.specs.Words.{App, Row, Text, HasKind, HasMatchesOf, IsAmong, fault_of, kind_of, is_simple, is_simple_and_free, subcommand_of, subcommand_rows_of, subcommand_name_of}
-use Rattle.clap.specs.Simple.{subcommand_rows}
+use Rattle.std.proofs.Common.{◌≡◌, ◌≢◌, ◌∙◌, ◌⊎◌, inl, inr, ap, sym, subst, ◌==◌, true, false, List, [], ◌∷◌, length, map, refl}
+use Rattle.std.specs.Prelude.{String, string_bytes}
+use Rattle.clap.specs.Words.{App, Text, HasKind, HasMatchesOf, IsAmong, fault_of, kind_of, is_simple, is_simple_and_free, subcommand_of}
 use Rattle.clap.specs.declared.error.Error.{Error}
 use Rattle.clap.specs.declared.error.kind.ErrorKind.TheVariants as kinds
 use Rattle.clap.specs.declared.parser.matches.ArgMatches.{ArgMatches}
-use Rattle.clap.specs.declared.parser.matches.ArgMatches.TheViews.{out-ArgMatches}
 use Rattle.clap.proofs.OnLiterals.{clap_on_literals}
 use Rattle.words.specs.declared.fault.WordsFault.{WordsFault}
 use Rattle.words.specs.declared.fault.WordsFault.TheVariants.{OutOfMemory, Help, Refused}
-use Rattle.words.specs.Program.{Enters, IsNoHelp, IsAskedFor, program}
+use Rattle.words.specs.Entered.{IsEntered}
+use Rattle.words.specs.Program.{IsNoHelp, IsAskedFor, program}
 
 pub simple : is_simple program ≡ true
 unfolding clap_on_literals
@@ -20,19 +19,13 @@ pub free : is_simple_and_free program ≡ true
 unfolding clap_on_literals
 free = refl
 
--- a name and rows that stand in one option
-both : {X : Type 0} (o : Option X) (f : X → Text) (g : X → List Row) (a : Text) (b : List Row)
-    → option_map f o ≡ Some a → option_map {U = List Row} (λ (p : Text × List Row). p.1) (option_map {U = Text × List Row} (λ x. (f x, g x)) o) ≡ Some b
-    → option_map {U = Text × List Row} (λ x. (f x, g x)) o ≡ Some (a, b)
-both None f g a b p q = cc
-both (Some x) f g a b p q = cc
+pub has_texts : {A : Type 0} (words : List (String A)) → (length words == 0) ≡ false → map (λ s. string_bytes s) words ≢ []
+has_texts [] some none = cc
+has_texts (word ∷ words) some none = cc
 
-pub enters : (a : App) (words : List Text) (m : ArgMatches) (name : Text) (rows : List Row) → a ≡ program → HasMatchesOf a words m
-    → (is_simple_and_free a ≡ true → fault_of a words ≡ []) → words ≢ [] → subcommand_name_of m ≡ Some name
-    → option_map {U = List Row} (λ (p : Text × List Row). p.1) (subcommand_rows (out-ArgMatches m).subcommand) ≡ Some rows
-    → Enters words name rows
-enters a words m name rows e h taken some is_name is_rows =
-    let pair : subcommand_rows_of m ≡ Some (name, rows) = both (out-ArgMatches m).subcommand _ _ name rows is_name is_rows in
+pub entered : (a : App) (words : List Text) (m : ArgMatches) → a ≡ program → HasMatchesOf a words m
+    → (is_simple_and_free a ≡ true → fault_of a words ≡ []) → words ≢ [] → IsEntered words m
+entered a words m e h taken some name rows pair =
     let matches = h (ap is_simple e ∙ simple) in
     let whole : fault_of a words ≡ [] = taken (ap is_simple_and_free e ∙ free) in
     (some, sym (ap (λ (p : App). fault_of p words) e) ∙ whole, sym (ap (λ (p : App). subcommand_of p words) e) ∙ sym matches.1 ∙ pair)

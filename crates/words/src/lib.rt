@@ -7,6 +7,7 @@ mod fault;
 mod negative;
 mod reading;
 mod request;
+mod table;
 
 pub use fault::WordsFault;
 pub use reading::read_words;

@@ -1,5 +1,6 @@
 ghost use Rattle.std.specs.Prelude.{◌≡◌, ◌⊎◌, ℕ, List, [], codes, map, string_bytes, IfOk, IfErr};
 ghost use Rattle.words.specs.Program.{IsReading, Enters, AreNumbers, IsNoHelp, IsAskedFor};
+ghost use Rattle.words.specs.Entered.{IsEntered};
 ghost use Rattle.clap.specs.Words.{found_of, kind_of, rows_of};
 
 use crate::arguments::program_command;
@@ -85,6 +86,19 @@ fn check_words(alloc: Global, matches: &ArgMatches<'_>) -> Result<Words, WordsFa
     })
 }
 
+/// What the command asks for that clap's matches have entered.
+fn command_words(alloc: Global, matches: &ArgMatches<'_>) -> Result<Words, WordsFault>
+    ensures reading { IfOk result (λ w. (ws : List (List ℕ)) → IsEntered ws matches.now → IsReading ws w) }
+    ensures fault { IfErr result IsNoHelp }
+{
+    match matches.subcommand() {
+        Some(("play", play)) => play_words(alloc, play),
+        Some(("replay", replay)) => replay_words(alloc, replay),
+        Some(("check", check)) => check_words(alloc, check),
+        _ => Err(missing(alloc, "command")),
+    }
+}
+
 /// Reads the words after the program's name.
 ///
 /// Words that clap refuses, numbers out of their limits among them, are `Refused` with clap's text; `--help` is
@@ -98,18 +112,8 @@ pub fn read_words(alloc: Global, words: &[String]) -> Result<Words, WordsFault>
         return Ok(Words::Piped);
     }
     let command = program_command(alloc)?;
-    let matches = match command.try_get_matches_from(words) {
-        Ok(matches) => matches,
-        Err(error) => return Err(fault_of(alloc, words, &error)),
-    };
-    if let Some(play) = matches.subcommand_matches("play") {
-        return play_words(alloc, play);
+    match command.try_get_matches_from(words) {
+        Ok(matches) => command_words(alloc, &matches),
+        Err(error) => Err(fault_of(alloc, words, &error)),
     }
-    if let Some(replay) = matches.subcommand_matches("replay") {
-        return replay_words(alloc, replay);
-    }
-    if let Some(check) = matches.subcommand_matches("check") {
-        return check_words(alloc, check);
-    }
-    Err(missing(alloc, "command"))
 }

@@ -1,39 +1,18 @@
-use Rattle.std.proofs.Common.{◌≢◌, rules, refl, codes, map, List, []}
+use Rattle.std.proofs.Common.{rules, map, List}
 use Rattle.std.specs.Prelude.{string_bytes}
 use Rattle.std.proofs.lemmas.Result.{IfOk-weaker}
-use Rattle.clap.specs.Words.{Text, found_of, rows_of}
-use Rattle.words.specs.Program.{Enters, IsReading}
-use Rattle.words.proofs.Entered.{enters, asked_for}
+use Rattle.clap.specs.Words.{Text}
+use Rattle.words.specs.Entered.{IsEntered}
+use Rattle.words.specs.Program.{IsReading}
+use Rattle.words.proofs.Entered.{entered, asked_for, has_texts}
 use Rattle.words.proofs.reading.read_words.Goals as goal
 
-pub returns-in-Some-clause-reading : goal.returns-in-Some-clause-reading
-returns-in-Some-clause-reading c =
+pub returns-in-Ok-clause-reading : goal.returns-in-Ok-clause-reading
+returns-in-Ok-clause-reading c =
     let words : List Text = map (λ s. string_bytes s) c.args.words.now in
-    let some : words ≢ [] = search rules in
-    let h = c.in-Some.ensures in
-    IfOk-weaker c.play_words.result (λ w. (ws : List Text) → Enters ws (codes "play") (rows_of (found_of c.in-Some.play.now)) → IsReading ws w) _
-    (λ w f. f words (enters _ words c.in-Ok.matches _ _ c.in_ok-command.ensures c.in-Ok.ensures.matches c.in-Ok.ensures.kinds some (h.found.0 refl) h.rows))
-    c.play_words.ensures.reading
-
-pub returns-in-Some-subcommand_matches-clause-reading : goal.returns-in-Some-subcommand_matches-clause-reading
-returns-in-Some-subcommand_matches-clause-reading c =
-    let words : List Text = map (λ s. string_bytes s) c.args.words.now in
-    let some : words ≢ [] = search rules in
-    let h = c.in-Some-subcommand_matches.ensures in
-    IfOk-weaker c.replay_words.result
-    (λ w. (ws : List Text) → Enters ws (codes "replay") (rows_of (found_of c.in-Some-subcommand_matches.replay.now)) → IsReading ws w) _
-    (λ w f. f words (enters _ words c.in-Ok.matches _ _ c.in_ok-command.ensures c.in-Ok.ensures.matches c.in-Ok.ensures.kinds some (h.found.0 refl) h.rows))
-    c.replay_words.ensures.reading
-
-pub returns-in-Some-subcommand_matches-2-clause-reading : goal.returns-in-Some-subcommand_matches-2-clause-reading
-returns-in-Some-subcommand_matches-2-clause-reading c =
-    let words : List Text = map (λ s. string_bytes s) c.args.words.now in
-    let some : words ≢ [] = search rules in
-    let h = c.in-Some-subcommand_matches-2.ensures in
-    IfOk-weaker c.check_words.result
-    (λ w. (ws : List Text) → Enters ws (codes "check") (rows_of (found_of c.in-Some-subcommand_matches-2.check.now)) → IsReading ws w) _
-    (λ w f. f words (enters _ words c.in-Ok.matches _ _ c.in_ok-command.ensures c.in-Ok.ensures.matches c.in-Ok.ensures.kinds some (h.found.0 refl) h.rows))
-    c.check_words.ensures.reading
+    IfOk-weaker c.command_words.result (λ w. (ws : List Text) → IsEntered ws c.in-Ok.matches → IsReading ws w) _
+    (λ w f. f words (entered _ words c.in-Ok.matches c.in_ok-command.ensures c.in-Ok.ensures.matches c.in-Ok.ensures.kinds
+    (has_texts c.args.words.now (search rules)))) c.command_words.ensures.reading
 
 pub returns-in-Err-clause-help : goal.returns-in-Err-clause-help
 returns-in-Err-clause-help c =

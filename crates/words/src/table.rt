@@ -1,0 +1,118 @@
+// The commands and their arguments, as their helps tell them.
+
+/// How the words give an argument.
+#[derive(Clone, Copy)]
+pub enum Form {
+    /// By its place. It has to be there.
+    Place,
+    /// By an option with a path.
+    Path,
+    /// By an option with a number in a range, which has to be there.
+    Number {
+        least: u32,
+        most: u32,
+    },
+    /// By an option with a number in a range, which has a default.
+    Default {
+        least: u32,
+        most: u32,
+        value: &'static str,
+    },
+}
+
+/// An argument of a command.
+#[derive(Clone, Copy)]
+pub struct Argument {
+    pub name: &'static str,
+    pub help: &'static str,
+    pub form: Form,
+}
+
+/// A command of the program.
+#[derive(Clone, Copy)]
+pub struct Subcommand {
+    pub name: &'static str,
+    pub about: &'static str,
+    pub usage: &'static str,
+    pub arguments: &'static [Argument],
+}
+
+const LEVEL: Argument = Argument {
+    name: "level",
+    help: "The level file: one JSON value with map, agents and trees",
+    form: Form::Place,
+};
+
+const SCRIPT: Argument = Argument {
+    name: "script",
+    help: "The script file: lines `FRAME on LETTER` or `FRAME off LETTER` [default: all signals off]",
+    form: Form::Path,
+};
+
+pub static SUBCOMMANDS: [Subcommand; 3] = [
+    Subcommand {
+        name: "play",
+        about: "Plays a level and prints its frames on standard output.",
+        usage: "btworld play LEVEL --frames N --workers K [--fibers F] [--slots P] [--script FILE] [--log FILE]",
+        arguments: &[
+            LEVEL,
+            Argument {
+                name: "frames",
+                help: "How many frames, 0 to 9999",
+                form: Form::Number {
+                    least: 0,
+                    most: 9999,
+                },
+            },
+            Argument {
+                name: "workers",
+                help: "How many worker threads, 1 to 16",
+                form: Form::Number { least: 1, most: 16 },
+            },
+            Argument {
+                name: "fibers",
+                help: "How many jobs may be under way at once, 3 to 64",
+                form: Form::Default {
+                    least: 3,
+                    most: 64,
+                    value: "16",
+                },
+            },
+            Argument {
+                name: "slots",
+                help: "How many frames may be under way at once, 1 to 16",
+                form: Form::Default {
+                    least: 1,
+                    most: 16,
+                    value: "3",
+                },
+            },
+            SCRIPT,
+            Argument {
+                name: "log",
+                help: "Where the log of the run is written, once all frames are",
+                form: Form::Path,
+            },
+        ],
+    },
+    Subcommand {
+        name: "replay",
+        about: "Does the events of a log one by one, and prints the frames that they show.",
+        usage: "btworld replay LEVEL LOG [--script FILE]",
+        arguments: &[
+            LEVEL,
+            Argument {
+                name: "log",
+                help: "The log file, as `play --log` writes it",
+                form: Form::Place,
+            },
+            SCRIPT,
+        ],
+    },
+    Subcommand {
+        name: "check",
+        about: "Reads a level, and prints `ok WIDTH HEIGHT AGENTS TREES`.",
+        usage: "btworld check LEVEL",
+        arguments: &[LEVEL],
+    },
+];
