@@ -4,28 +4,11 @@ ghost use Rattle.bt_nodes.specs.Bounds.{Fits};
 ghost use Rattle.bt_nodes.specs.Trees.{plain_of};
 ghost use Rattle.bt_tick.specs.Views.{IsInWorld};
 
-use crate::ticks::world;
-use bt_nodes::{Node, Status, Tree};
-use bt_tick::{Memory, Outcome, Pending, View, begin, resume};
-use grid_world::{Answer, Dir, Intent, Place, Signals};
+use crate::ticks::{first_view, goes_on, tree, world};
+use bt_nodes::Tree;
+use bt_tick::{Memory, Outcome, View, begin};
 use linked_list_allocator::LocalHeap;
 use std::alloc::{Allocator, Global};
-use std::test::Fail;
-
-// It asks, and opens a second chunk of nodes behind the answer.
-fn tree(alloc: Global) -> Result<Tree<Global>, Fail> {
-    let Some(place) = Place::new(0) else {
-        return Err(Fail::from("no such place"));
-    };
-    let mut deep = Node::Carrying;
-    for _level in 0..10 {
-        deep = Node::Not(Box::new(alloc, deep)?);
-    }
-    let mut children = Vec::new(alloc);
-    children.push(Node::Move(place))?;
-    children.push(deep)?;
-    Ok(Tree::new(Node::Par(1, children)).map_err(|_| "tree")?)
-}
 
 // How far a tick came in a heap, where the same tick came to its end in Global.
 #[derive(Clone, Copy)]
@@ -34,20 +17,6 @@ enum Came {
     ToItsQuestion,
     ToItsEnd,
     Otherwise,
-}
-
-// Whether the tick goes on as it should where the answer is a step.
-fn goes_on<A: Allocator + Clone>(alloc: A, pending: Pending<'_, Global, A>, view: &View) -> bool
-    requires { IsInWorld view.now }
-{
-    matches!(
-        resume(alloc, pending, view, Answer::Step(Dir::East, 2)),
-        Ok(Outcome::Ended {
-            status: Status::Running,
-            intent: Intent::Move(Dir::East),
-            ..
-        },)
-    )
 }
 
 // Whether the tick comes to its end where nothing is refused.
@@ -96,35 +65,35 @@ fn ticked<A: Allocator + Clone>(
     }
 }
 
-// Whether heaps of growing sizes let a tick come nowhere, to its question, to its end, and anywhere else.
-fn heaps(alloc: Global, tree: &Tree<Global>, view: &View) -> Result<[bool; 4], Fail>
+// How far the tick comes in a heap of so many bytes.
+fn ticked_in(alloc: Global, bytes: usize, tree: &Tree<Global>, view: &View) -> Option<Came>
     requires { IsInWorld view.now }
 {
+    let first = Memory::zero(alloc, tree).ok()?;
+    let second = Memory::zero(alloc, tree).ok()?;
+    let heap = LocalHeap::new(alloc, bytes).ok()?;
+    Some(ticked(&heap, alloc, first, second, tree, view))
+}
+
+// Whether heaps of growing sizes let a tick come nowhere, to its question, to its end, and anywhere else.
+fn heaps(alloc: Global) -> Option<[bool; 4]> {
+    let (tree, world) = (tree(alloc)?, world(alloc)?);
+    let Some(view) = first_view(&world) else {
+        return None;
+    };
     let mut all = [false; 4];
     for blocks in 1..100usize {
-        let heap = LocalHeap::new(alloc, blocks * 32)?;
-        let first = Memory::zero(alloc, tree)?;
-        let second = Memory::zero(alloc, tree)?;
-        match ticked(&heap, alloc, first, second, tree, view) {
+        match ticked_in(alloc, blocks * 32, &tree, &view)? {
             Came::Nowhere => all[0] = true,
             Came::ToItsQuestion => all[1] = true,
             Came::ToItsEnd => all[2] = true,
             Came::Otherwise => all[3] = true,
         }
     }
-    Ok(all)
+    Some(all)
 }
 
 #[test]
-fn a_tick_that_wants_memory_ends_where_it_stands(rt: HostRuntime) -> Result<(), Fail> {
-    let alloc = rt.alloc();
-    let (tree, world) = (tree(alloc)?, world(alloc)?);
-    assert!(rt; !world.agents().is_empty());
-    let view = View {
-        world: &world,
-        signals: Signals::off(),
-        agent: 0,
-    };
-    assert_eq!(rt; heaps(alloc, &tree, &view)?, [true, true, true, false]);
-    Ok(())
+fn a_tick_that_wants_memory_ends_where_it_stands(rt: HostRuntime) {
+    assert!(rt; heaps(rt.alloc()) == Some([true, true, true, false]));
 }

@@ -1,4 +1,5 @@
 // What no clause says: a tick that is copied into an arena goes on there as it does where it was begun.
+ghost use Rattle.std.specs.Prelude.{IfSome};
 ghost use Rattle.bt_tick.specs.Views.{IsInWorld};
 
 use bt_nodes::{Node, Status, Tree};
@@ -6,25 +7,41 @@ use bt_tick::{Memory, Outcome, Pending, View, begin, resume};
 use bumpalo::Bump;
 use grid_world::{Answer, Dir, Intent, Place, Signals, World};
 use std::alloc::{Allocator, Global};
-use std::test::Fail;
 
-pub fn world(alloc: Global) -> Result<World, Fail> {
+pub fn world(alloc: Global) -> Option<World> {
     let mut map = Vec::new(alloc);
-    map.push(String::from_str(alloc, "A.0")?)?;
-    Ok(World::from_rows(alloc, &map).map_err(|_| "map")?)
+    map.push(String::from_str(alloc, "A.0").ok()?).ok()?;
+    World::from_rows(alloc, &map).ok()
 }
 
-// It counts its ticks, and asks in each.
-fn tree(alloc: Global) -> Result<Tree<Global>, Fail> {
-    let Some(place) = Place::new(0) else {
-        return Err(Fail::from("no such place"));
-    };
-    let child = Box::new(alloc, Node::Move(place))?;
-    Ok(Tree::new(Node::Ticks(2, child)).map_err(|_| "tree")?)
+/// What the world's first agent sees while all signals are off.
+pub fn first_view(world: &World) -> Option<View<'_>>
+    ensures { IfSome result IsInWorld }
+{
+    if world.agents().is_empty() {
+        return None;
+    }
+    Some(View {
+        world,
+        signals: Signals::off(),
+        agent: 0,
+    })
 }
 
-// Whether the tick ends as it should, answered by a step.
-fn goes_on<A: Allocator + Clone>(alloc: A, pending: Pending<'_, Global, A>, view: &View) -> bool
+/// It counts its ticks, asks in each, and opens a second chunk of nodes behind the answer.
+pub fn tree(alloc: Global) -> Option<Tree<Global>> {
+    let place = Place::new(0)?;
+    let mut deep = Node::Carrying;
+    for _level in 0..10 {
+        deep = Node::Not(Box::new(alloc, deep).ok()?);
+    }
+    let children = vec![in alloc; Node::Move(place), deep].ok()?;
+    let child = Box::new(alloc, Node::Par(1, children)).ok()?;
+    Tree::new(Node::Ticks(2, child)).ok()
+}
+
+/// Whether the tick of this tree ends as it should, answered by a step.
+pub fn goes_on<A: Allocator + Clone>(alloc: A, pending: Pending<'_, Global, A>, view: &View) -> bool
     requires { IsInWorld view.now }
 {
     match resume(alloc, pending, view, Answer::Step(Dir::East, 2)) {
@@ -40,30 +57,29 @@ fn goes_on<A: Allocator + Clone>(alloc: A, pending: Pending<'_, Global, A>, view
 }
 
 // Whether the tick goes on in an arena, and where it was begun, and whether the arena is empty then.
-fn both_go_on(alloc: Global, tree: &Tree<Global>, view: &View) -> Result<[bool; 3], Fail>
+fn both_go_on(alloc: Global, tree: &Tree<Global>, view: &View) -> Option<[bool; 3]>
     requires { IsInWorld view.now }
 {
-    let zero = Memory::zero(alloc, tree)?;
+    let zero = Memory::zero(alloc, tree).ok()?;
     let Ok(Outcome::Asks { place: _, pending }) = begin(alloc, tree, view, zero) else {
-        return Err(Fail::from("no question"));
+        return None;
     };
     let mut arena = Bump::new(alloc);
-    let copy = pending.copy_in(&arena)?;
+    let copy = pending.copy_in(&arena).ok()?;
     let there = goes_on(&arena, copy, view);
     let here = goes_on(alloc, pending, view);
-    Ok([there, here, arena.reset().is_ok()])
+    Some([there, here, arena.reset().is_ok()])
+}
+
+fn goes_on_in_an_arena(alloc: Global) -> Option<[bool; 3]> {
+    let (tree, world) = (tree(alloc)?, world(alloc)?);
+    let Some(view) = first_view(&world) else {
+        return None;
+    };
+    both_go_on(alloc, &tree, &view)
 }
 
 #[test]
-fn a_tick_goes_on_in_an_arena(rt: HostRuntime) -> Result<(), Fail> {
-    let alloc = rt.alloc();
-    let (tree, world) = (tree(alloc)?, world(alloc)?);
-    assert!(rt; !world.agents().is_empty());
-    let view = View {
-        world: &world,
-        signals: Signals::off(),
-        agent: 0,
-    };
-    assert_eq!(rt; both_go_on(alloc, &tree, &view)?, [true; 3]);
-    Ok(())
+fn a_tick_goes_on_in_an_arena(rt: HostRuntime) {
+    assert!(rt; goes_on_in_an_arena(rt.alloc()) == Some([true; 3]));
 }

@@ -10,7 +10,7 @@ use std::thread;
 use std::thread::{Scope, Threads};
 
 /// What was taken while the threads put, and what the mail still held at its end, each band with its worker.
-#[derive(Drop, Debug)]
+#[derive(Drop)]
 pub struct Delivered {
     pub taken: Vec<(u32, u32)>,
     pub left: Vec<(u32, u32)>,

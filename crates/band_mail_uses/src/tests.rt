@@ -1,54 +1,93 @@
 use crate::delivery::{Delivered, deliver};
 use band_mail::BandMail;
-use std::alloc::{AllocError, Global};
-use std::test::Fail;
+use std::alloc::Global;
+use std::sync::Wait;
+use std::thread::Threads;
 
-#[test]
-fn full_queue_hands_back_and_close_hands_out_the_rest(rt: HostRuntime) -> Result<(), Fail> {
-    let (mail, mut putters, mut taker) = BandMail::<u32>::new(rt.alloc(), 1, 1)?;
-    assert_eq!(rt; mail.take(&rt, &mut taker), None);
-    let mut putter = putters.pop().ok_or("no putter")?;
-    assert_eq!(rt; mail.put(&rt, &mut putter, 7), Ok(()));
-    assert_eq!(rt; mail.put(&rt, &mut putter, 8), Err(8));
-    assert_eq!(rt; mail.take(&rt, &mut taker), Some((0, 7)));
-    assert_eq!(rt; mail.put(&rt, &mut putter, 9), Ok(()));
-    putters.push(putter)?;
-    let left = mail.close(&rt, putters, taker);
-    assert_eq!(rt; left.as_slice(), [(0, 9)].as_slice());
-    Ok(())
+/// What a mail of one worker answers whose queue has one place, and what is left in it.
+#[derive(Clone, Copy, PartialEq, Eq)]
+struct Answers {
+    takes: [Option<(u32, u32)>; 2],
+    puts: [Result<(), u32>; 3],
+    left: Option<(u32, u32)>,
+}
+
+// 7, 8 and 9 are put: one band is taken before the first, and one before the last.
+fn answers_of_one_place<R: Wait>(rt: &R, alloc: Global) -> Option<Answers> {
+    let Ok((mail, mut putters, mut taker)) = BandMail::<u32>::new(alloc, 1, 1) else {
+        return None;
+    };
+    let before = mail.take(rt, &mut taker);
+    let mut putter = putters.pop()?;
+    let seven = mail.put(rt, &mut putter, 7);
+    let eight = mail.put(rt, &mut putter, 8);
+    let takes = [before, mail.take(rt, &mut taker)];
+    let puts = [seven, eight, mail.put(rt, &mut putter, 9)];
+    putters.push(putter).ok()?;
+    let left = mail.close(rt, putters, taker);
+    let left = match left.as_slice() {
+        [band] => Some(*band),
+        _ => None,
+    };
+    Some(Answers { takes, puts, left })
 }
 
 #[test]
-fn taken_band_names_its_worker(rt: HostRuntime) -> Result<(), Fail> {
-    let (mail, mut putters, mut taker) = BandMail::<u32>::new(rt.alloc(), 2, 2)?;
-    let mut second = putters.pop().ok_or("no putter")?;
-    assert_eq!(rt; mail.put(&rt, &mut second, 5), Ok(()));
-    assert_eq!(rt; mail.take(&rt, &mut taker), Some((1, 5)));
-    assert_eq!(rt; mail.take(&rt, &mut taker), None);
-    Ok(())
+fn full_queue_hands_back_and_close_hands_out_the_rest(rt: HostRuntime) {
+    let want = Answers {
+        takes: [None, Some((0, 7))],
+        puts: [Ok(()), Err(8), Ok(())],
+        left: Some((0, 9)),
+    };
+    assert!(rt; answers_of_one_place(&rt, rt.alloc()) == Some(want));
 }
 
-/// The bands of a worker, taken ones first.
-fn of_worker(alloc: Global, all: &Delivered, worker: u32) -> Result<Vec<u32>, AllocError> {
-    let mut bands = Vec::new(alloc);
+// Whether the second of two workers puts 5, and what is taken then, and after that.
+fn takes_of_the_second<R: Wait>(rt: &R, alloc: Global) -> Option<(bool, [Option<(u32, u32)>; 2])> {
+    let Ok((mail, mut putters, mut taker)) = BandMail::<u32>::new(alloc, 2, 2) else {
+        return None;
+    };
+    let mut second = putters.pop()?;
+    let put = mail.put(rt, &mut second, 5).is_ok();
+    let takes = [mail.take(rt, &mut taker), mail.take(rt, &mut taker)];
+    Some((put, takes))
+}
+
+#[test]
+fn taken_band_names_its_worker(rt: HostRuntime) {
+    let takes = [Some((1, 5)), None];
+    assert!(rt; takes_of_the_second(&rt, rt.alloc()) == Some((true, takes)));
+}
+
+// How many bands of a worker there are, taken ones first, where they are the numbers from 0 in order.
+fn numbers_in_order(all: &Delivered, worker: u32) -> Option<u32> {
+    let mut count = 0u32;
     for (from, band) in all.taken.iter().chain(all.left.iter()) {
         if *from == worker {
-            bands.push(*band)?;
+            if *band != count {
+                return None;
+            }
+            count = count.checked_add(1)?;
         }
     }
-    Ok(bands)
+    Some(count)
+}
+
+// How many bands are taken, how many are left, and how many each of two workers put.
+fn counts<R: Threads + Wait + Sync>(rt: &R, alloc: Global) -> Option<[u64; 4]> {
+    let all = deliver(rt, alloc, 8, 2, 100, 195).ok()??;
+    let workers = (numbers_in_order(&all, 0), numbers_in_order(&all, 1));
+    let lengths = (all.taken.len() as u64, all.left.len() as u64);
+    drop(all);
+    Some([
+        lengths.0,
+        lengths.1,
+        u64::from(workers.0?),
+        u64::from(workers.1?),
+    ])
 }
 
 #[test]
-fn two_threads_put_while_a_third_takes(rt: HostRuntime) -> Result<(), Fail> {
-    let all = deliver(&rt, rt.alloc(), 8, 2, 100, 195)?.ok_or("no thread")?;
-    assert_eq!(rt; all.taken.len(), 195);
-    assert_eq!(rt; all.left.len(), 5);
-    let mut numbers = Vec::new(rt.alloc());
-    for band in 0..100 {
-        numbers.push(band)?;
-    }
-    assert_eq!(rt; of_worker(rt.alloc(), &all, 0)?, numbers);
-    assert_eq!(rt; of_worker(rt.alloc(), &all, 1)?, numbers);
-    Ok(())
+fn two_threads_put_while_a_third_takes(rt: HostRuntime) {
+    assert!(rt; counts(&rt, rt.alloc()) == Some([195, 5, 100, 100]));
 }

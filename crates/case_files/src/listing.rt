@@ -169,6 +169,38 @@ fn put_word(alloc: Global, case: &mut Case, word: &str, rest: &str) -> Result<Op
     Ok(Some(Part::Nothing))
 }
 
+fn begin_case(alloc: Global, cases: &mut Vec<Case>, name: &str) -> Result<()> {
+    let name = String::from_str(alloc, name)?;
+    Ok(cases.push(Case::new(alloc, name))?)
+}
+
+/// Takes a line of a file of cases, and says what the content behind it belongs to.
+fn take_line<H: Files + Alloc<A = Global>>(
+    rt: &H,
+    alloc: Global,
+    cases: &mut Vec<Case>,
+    part: Part,
+    line: &str,
+) -> Result<Part> {
+    let (word, rest) = line.split_once(' ').unwrap_or((line, ""));
+    if word == "case" {
+        begin_case(alloc, cases, rest)?;
+        return Ok(Part::Nothing);
+    }
+    let Some(case) = cases.last_mut() else {
+        bail!("a line before the first case: {line}");
+    };
+    if word == "copy" {
+        case.files.push(copy_in(rt, alloc, rest)?)?;
+        return Ok(Part::Nothing);
+    }
+    if let Some(next) = put_word(alloc, case, word, rest)? {
+        return Ok(next);
+    }
+    put_line(case, part, line)?;
+    Ok(part)
+}
+
 /// The cases of a file.
 pub fn cases_in<H: Files + Alloc<A = Global>>(
     rt: &H,
@@ -179,26 +211,8 @@ pub fn cases_in<H: Files + Alloc<A = Global>>(
     let mut cases: Vec<Case> = Vec::new(alloc);
     let mut part = Part::Nothing;
     for line in text.as_str().lines() {
-        if line.is_empty() || line.starts_with("#") {
-            continue;
-        }
-        let (word, rest) = line.split_once(' ').unwrap_or((line, ""));
-        if word == "case" {
-            cases.push(Case::new(alloc, String::from_str(alloc, rest)?))?;
-            part = Part::Nothing;
-            continue;
-        }
-        let Some(case) = cases.last_mut() else {
-            bail!("a line before the first case: {line}");
-        };
-        if word == "copy" {
-            case.files.push(copy_in(rt, alloc, rest)?)?;
-            part = Part::Nothing;
-            continue;
-        }
-        match put_word(alloc, case, word, rest)? {
-            Some(next) => part = next,
-            None => put_line(case, part, line)?,
+        if !line.is_empty() && !line.starts_with("#") {
+            part = take_line(rt, alloc, &mut cases, part, line)?;
         }
     }
     Ok(cases)

@@ -1,6 +1,6 @@
 use job_core::names::JobName;
 use job_queues::{Fiber, FiberPool, NoFiber, NotTaken, Pick, Priority, QueueFault, Queues};
-use std::test::Fail;
+use std::alloc::Global;
 
 const LOGIC: JobName = JobName::Logic { frame: 1 };
 
@@ -8,50 +8,77 @@ const THINK: JobName = JobName::Think { frame: 1, agent: 0 };
 
 const DRAW: JobName = JobName::Draw { frame: 1, band: 0 };
 
-#[test]
-fn the_higher_priority_goes_first(rt: HostRuntime) -> Result<(), Fail> {
-    let mut queues = Queues::new(rt.alloc(), 3)?;
-    queues.put_all(&[DRAW, THINK])?;
-    assert_eq!(rt; queues.peek(2), Some(Pick::New(THINK)));
-    assert_eq!(rt; queues.pick(2), Some(Pick::New(THINK)));
-    assert_eq!(rt; queues.pick(1), Some(Pick::New(DRAW)));
-    assert_eq!(rt; queues.pick(1), None);
-    Ok(())
+// Whether a Think is seen first in queues of a Draw and a Think, and then picked before the Draw, and nothing after them.
+fn picks_of_draw_and_think(alloc: Global) -> Option<[bool; 4]> {
+    let mut queues = Queues::new(alloc, 3).ok()?;
+    queues.put_all(&[DRAW, THINK]).ok()?;
+    Some([
+        queues.peek(2) == Some(Pick::New(THINK)),
+        queues.pick(2) == Some(Pick::New(THINK)),
+        queues.pick(1) == Some(Pick::New(DRAW)),
+        queues.pick(1).is_none(),
+    ])
 }
 
 #[test]
-fn one_free_fiber_starts_no_think_but_a_ready_one_goes_on(rt: HostRuntime) -> Result<(), Fail> {
-    let mut queues = Queues::new(rt.alloc(), 3)?;
-    queues.put_new(THINK)?;
-    assert_eq!(rt; queues.pick(1), None);
+fn the_higher_priority_goes_first(rt: HostRuntime) {
+    assert!(rt; picks_of_draw_and_think(rt.alloc()) == Some([true; 4]));
+}
+
+// Whether nothing is picked with one free fiber where a Think is new, and a fiber once it is ready.
+fn picks_with_one_free_fiber(alloc: Global) -> Option<[bool; 2]> {
+    let Ok(mut queues) = Queues::new(alloc, 3) else {
+        return None;
+    };
+    let Ok(()) = queues.put_new(THINK) else {
+        return None;
+    };
+    let before = queues.pick(1);
     queues.put_ready(Priority::Normal, Fiber(0));
-    assert_eq!(rt; queues.pick(1), Some(Pick::Ready(Fiber(0))));
-    Ok(())
+    let after = queues.pick(1);
+    Some([before.is_none(), after == Some(Pick::Ready(Fiber(0)))])
 }
 
 #[test]
-fn entries_are_taken_out_by_name(rt: HostRuntime) -> Result<(), Fail> {
-    let mut queues = Queues::new(rt.alloc(), 3)?;
-    assert_eq!(rt; queues.take_out(LOGIC), Err(QueueFault::NotThere));
-    assert_eq!(rt; queues.take_ready(Fiber(0)), Err(QueueFault::NotThere));
-    queues.put_new(LOGIC)?;
+fn one_free_fiber_starts_no_think_but_a_ready_one_goes_on(rt: HostRuntime) {
+    assert!(rt; picks_with_one_free_fiber(rt.alloc()) == Some([true; 2]));
+}
+
+// Whether a new job and a ready fiber are refused by empty queues, and taken out of queues of both, which are empty then.
+fn takings(alloc: Global) -> Option<[bool; 5]> {
+    let Ok(mut queues) = Queues::new(alloc, 3) else {
+        return None;
+    };
+    let job = queues.take_out(LOGIC);
+    let fiber = queues.take_ready(Fiber(0));
+    let Ok(()) = queues.put_new(LOGIC) else {
+        return None;
+    };
     queues.put_ready(Priority::High, Fiber(0));
-    assert_eq!(rt; queues.take_out(LOGIC), Ok(()));
-    assert_eq!(rt; queues.take_ready(Fiber(0)), Ok(()));
-    assert_eq!(rt; queues.peek(3), None);
-    Ok(())
+    Some([
+        job == Err(QueueFault::NotThere),
+        fiber == Err(QueueFault::NotThere),
+        queues.take_out(LOGIC) == Ok(()),
+        queues.take_ready(Fiber(0)) == Ok(()),
+        queues.peek(3).is_none(),
+    ])
+}
+
+#[test]
+fn entries_are_taken_out_by_name(rt: HostRuntime) {
+    assert!(rt; takings(rt.alloc()) == Some([true; 5]));
 }
 
 #[test]
 fn fibers_are_taken_from_the_lowest(rt: HostRuntime) {
     let mut pool = FiberPool::new(3);
-    assert_eq!(rt; pool.free(), 3);
-    assert_eq!(rt; pool.take(), Ok(Fiber(0)));
-    assert_eq!(rt; pool.take(), Ok(Fiber(1)));
-    assert_eq!(rt; pool.take(), Ok(Fiber(2)));
-    assert_eq!(rt; pool.take(), Err(NoFiber));
-    assert_eq!(rt; pool.give(Fiber(1)), Ok(()));
-    assert_eq!(rt; pool.take(), Ok(Fiber(1)));
-    assert_eq!(rt; pool.give(Fiber(2)), Ok(()));
-    assert_eq!(rt; pool.give(Fiber(2)), Err(NotTaken));
+    assert!(rt; pool.free() == 3);
+    for number in 0..3 {
+        assert!(rt; pool.take() == Ok(Fiber(number)));
+    }
+    assert!(rt; pool.take() == Err(NoFiber));
+    assert!(rt; pool.give(Fiber(1)) == Ok(()));
+    assert!(rt; pool.take() == Ok(Fiber(1)));
+    assert!(rt; pool.give(Fiber(2)) == Ok(()));
+    assert!(rt; pool.give(Fiber(2)) == Err(NotTaken));
 }

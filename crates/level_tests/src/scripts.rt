@@ -1,68 +1,51 @@
-use crate::sessions::session_of;
-use game_session::{Script, Session};
+use game_session::Script;
 use grid_world::{Signal, Signals};
 use level_text::read_script;
 use std::alloc::Global;
-use std::process::Abort;
-use std::test::Fail;
 
-// The signals of a frame of a script.
-fn signals_of(alloc: Global, script: &[u8], frame: u32) -> Option<Signals> {
-    Some(read_script(alloc, script).ok()?.signals(frame))
+fn script_of(alloc: Global, script: &[u8]) -> Option<Script> {
+    read_script(alloc, script).ok()
 }
+
+// Whether no signal but `a` is on in a frame of a script, and that one or not.
+fn is_on(alloc: Global, script: &[u8], frame: u32, on: bool) -> Option<bool> {
+    let mut signals = Signals::off();
+    signals.set(Signal::new(0)?, on);
+    Some(script_of(alloc, script)?.signals(frame) == signals)
+}
+
+// Frames, and whether the signal is on in them.
+const CHANGES: &[(u32, bool)] = &[
+    (0, false),
+    (1, true),
+    (2, true),
+    (3, false),
+    (4, false),
+    (u32::MAX, false),
+];
 
 #[test]
-fn signals_change_in_their_frames(rt: HostRuntime) -> Result<(), Fail> {
-    let off = Signals::off();
-    let mut only_a = off;
-    only_a.set(Signal::new(0).ok_or("a letter")?, true);
-    for (frame, signals) in [
-        (0, off),
-        (1, only_a),
-        (2, only_a),
-        (3, off),
-        (4, off),
-        (u32::MAX, off),
-    ] {
-        let found = signals_of(rt.alloc(), b"1 on a\n3 off a\n", frame);
-        assert!(rt; found == Some(signals), "in frame {frame}");
+fn signals_change_in_their_frames(rt: HostRuntime) {
+    for (frame, on) in CHANGES {
+        let found = is_on(rt.alloc(), b"1 on a\n3 off a\n", *frame, *on);
+        assert!(rt; found == Some(true), "in frame {frame}");
     }
-    assert!(rt; Script::empty(rt.alloc()).signals(1) == off);
-    Ok(())
+    assert!(rt; Script::empty(rt.alloc()).signals(1) == Signals::off());
 }
 
-// Whether a script is the same as another; with no bytes that is the one that is made empty.
-fn is_same(alloc: Global, script: &[u8], other: &[u8]) -> Option<bool> {
-    let script = read_script(alloc, script).ok()?;
-    if other.is_empty() {
-        return Some(script.is_same(&Script::empty(alloc)));
+fn are_same(one: Option<Script>, other: Option<Script>) -> Option<bool> {
+    match (&one, &other) {
+        (Some(one), Some(other)) => Some(one.is_same(other)),
+        _ => None,
     }
-    Some(script.is_same(&read_script(alloc, other).ok()?))
 }
 
 #[test]
 fn scripts_are_compared_by_value(rt: HostRuntime) {
     let alloc = rt.alloc();
-    assert!(rt; is_same(alloc, b"1 on a", b"1 on a\n") == Some(true));
-    assert!(rt; is_same(alloc, b"1 on a", b"1 on a\n1 on a\n") == Some(false));
-    assert!(rt; is_same(alloc, b"1 on a\n1 on a\n", b"") == Some(false));
-}
-
-fn asserts_parts(rt: &impl Abort, session: &Session) {
-    assert!(rt; session.world().width() == 2);
-    assert!(rt; session.world().agents().len() == 1);
-    assert!(rt; session.level().trees() == 1);
-    for (frame, glyph) in [(0, b'a'), (1, b'/'), (2, b'/'), (3, b'a')] {
-        let signals = session.script().signals(frame);
-        let found = session.world().glyph_at(signals, 1, 0);
-        assert!(rt; found == Some(glyph), "in frame {frame}");
-    }
-}
-
-#[test]
-fn a_session_gives_its_parts(rt: HostRuntime) -> Result<(), Fail> {
-    let level = r#"{"map":["Aa"],"agents":["t"],"trees":{"t":["not",["carrying"]]}}"#;
-    let session = session_of(rt.alloc(), level, b"1 on a\n3 off a\n").ok_or("refused")?;
-    asserts_parts(&rt, &session);
-    Ok(())
+    let (once, twice) = (b"1 on a", b"1 on a\n1 on a\n");
+    let empty = Some(Script::empty(alloc));
+    assert!(rt; are_same(script_of(alloc, twice), empty) == Some(false));
+    assert!(rt; are_same(script_of(alloc, once), script_of(alloc, twice)) == Some(false));
+    assert!(rt; are_same(script_of(alloc, once), script_of(alloc, b"1 on a\n")) == Some(true));
 }

@@ -2,10 +2,9 @@ use game_session::Session;
 use level_text::{read_level, read_script};
 use std::alloc::Global;
 
-/// The session of a level and a script.
-pub fn session_of(alloc: Global, level: &str, script: &[u8]) -> Option<Session> {
-    let level = read_level(alloc, level.as_bytes()).ok()?;
+fn session_of(alloc: Global, level: &str, script: &[u8]) -> Option<Session> {
     let script = read_script(alloc, script).ok()?;
+    let level = read_level(alloc, level.as_bytes()).ok()?;
     Some(Session::new(level, script))
 }
 
@@ -13,9 +12,12 @@ const GAME: &str = "{\"map\":[\"A.0\"],\"agents\":[\"t\"],\"trees\":{\"t\":[\"mo
 
 // Whether the game whose signal changes in its second frame is this one, and is itself.
 fn is_game(alloc: Global, level: &str, script: &[u8]) -> Option<bool> {
-    let game = session_of(alloc, GAME, b"2 on a\n")?;
-    let other = session_of(alloc, level, script)?;
-    Some(game.is_same(&game) && game.is_same(&other))
+    let game = session_of(alloc, GAME, b"2 on a\n");
+    let other = session_of(alloc, level, script);
+    match (&game, &other) {
+        (Some(game), Some(other)) => Some(game.is_same(game) && game.is_same(other)),
+        _ => None,
+    }
 }
 
 // Names of trees, and trees that no agent uses, make no other game.

@@ -1,56 +1,61 @@
+ghost use Rattle.bt_tick.specs.Views.{IsInWorld};
+
 use bt_nodes::{Status, Tree};
 use bt_tick::{Memory, Outcome, Pending, View, begin, resume};
-use grid_world::{Answer, Dir, Intent, Signals, World};
+use game_session::Level;
+use grid_world::{Answer, Dir, Intent, Signals};
 use level_text::read_level;
 use std::alloc::Global;
+
+// A question for the way to place 0, or a copy of it.
+fn question<'t>(
+    alloc: Global,
+    pending: Pending<'t, Global, Global>,
+    copied: bool,
+) -> Option<Pending<'t, Global, Global>> {
+    if pending.place().number() != 0 {
+        None
+    } else if copied {
+        pending.copy_in(alloc).ok()
+    } else {
+        Some(pending)
+    }
+}
 
 // What a tick comes to by the answer to its question for the way to place 0.
 fn answered<'t>(
     alloc: Global,
     pending: Pending<'t, Global, Global>,
-    world: &World,
+    view: &View,
     answer: Answer,
     copied: bool,
-) -> Option<Outcome<'t, Global, Global>> {
-    if pending.place().number() != 0 || world.agents().is_empty() {
-        return None;
-    }
-    let view = View {
-        world,
-        signals: Signals::off(),
-        agent: 0,
-    };
-    let next = if copied {
-        pending.copy_in(alloc).ok()?
-    } else {
-        pending
-    };
-    resume(alloc, next, &view, answer).ok()
+) -> Option<Outcome<'t, Global, Global>>
+    requires { IsInWorld view.now }
+{
+    let next = question(alloc, pending, copied)?;
+    resume(alloc, next, view, answer).ok()
 }
 
 // A whole tick with these answers, cut at each question and then copied, or never copied.
 fn whole(
     alloc: Global,
     tree: &Tree<Global>,
-    world: &World,
+    view: &View,
     memory: Memory,
     answers: &[Answer],
     copied: bool,
-) -> Option<(Status, Intent, Memory)> {
-    if world.agents().is_empty() || !memory.fits(tree) {
+) -> Option<(Status, Intent, Memory)>
+    requires { IsInWorld view.now }
+{
+    if !memory.fits(tree) {
         return None;
     }
-    let view = View {
-        world,
-        signals: Signals::off(),
-        agent: 0,
-    };
-    let mut outcome = begin(alloc, tree, &view, memory).ok()?;
+    let mut outcome = begin(alloc, tree, view, memory).ok()?;
     for answer in answers {
         let Outcome::Asks { place: _, pending } = outcome else {
             return None;
         };
-        outcome = answered(alloc, pending, world, *answer, copied)?;
+        outcome = answered(alloc, pending, view, *answer, copied)?;
     }
     match outcome {
         Outcome::Ended {
@@ -81,35 +86,71 @@ struct Ticked<'a> {
     numbers: &'a [u64],
 }
 
+// The memory after a tick, where it comes to what it should.
+fn after(
+    alloc: Global,
+    tree: &Tree<Global>,
+    view: &View,
+    memory: Memory,
+    tick: &Ticked<'_>,
+    copied: bool,
+) -> Option<Memory>
+    requires { IsInWorld view.now }
+{
+    let (status, intent, next) = whole(alloc, tree, view, memory, tick.answers, copied)?;
+    if (status, intent) == (tick.status, tick.intent) && has_numbers(&next, tick.numbers) {
+        Some(next)
+    } else {
+        None
+    }
+}
+
 // How many of these ticks of a level's first agent, one after another from a memory of zeros, come to what they should
 // before the first that doesn't.
-fn right_ticks(alloc: Global, level: &str, copied: bool, ticks: &[Ticked<'_>]) -> Option<usize> {
-    let level = read_level(alloc, level.as_bytes()).ok()?;
+fn right_ticks_of(
+    alloc: Global,
+    level: &Level,
+    copied: bool,
+    ticks: &[Ticked<'_>],
+) -> Option<usize> {
     let world = level.world();
     if world.agents().is_empty() {
         return None;
     }
+    let view = View {
+        world,
+        signals: Signals::off(),
+        agent: 0,
+    };
     let tree = level.tree_of(0);
     let mut memory = Memory::zero(alloc, tree).ok()?;
     for (index, tick) in ticks.iter().enumerate() {
-        let (status, intent, next) = whole(alloc, tree, world, memory, tick.answers, copied)?;
-        if (status, intent) != (tick.status, tick.intent) || !has_numbers(&next, tick.numbers) {
-            return Some(index);
+        match after(alloc, tree, &view, memory, tick, copied) {
+            Some(next) => memory = next,
+            None => return Some(index),
         }
-        memory = next;
     }
     Some(ticks.len())
 }
 
-// Whether the memory of zeros of a level's first agent, and a copy of it, has these numbers.
-fn zeros_are(alloc: Global, level: &str, numbers: &[u64]) -> Option<bool> {
+fn right_ticks(alloc: Global, level: &str, copied: bool, ticks: &[Ticked<'_>]) -> Option<usize> {
     let level = read_level(alloc, level.as_bytes()).ok()?;
+    right_ticks_of(alloc, &level, copied, ticks)
+}
+
+// Whether the memory of zeros of a level's first agent, and a copy of it, has these numbers.
+fn zeros_of(alloc: Global, level: &Level, numbers: &[u64]) -> Option<bool> {
     if level.world().agents().is_empty() {
         return None;
     }
     let memory = Memory::zero(alloc, level.tree_of(0)).ok()?;
     let copy = memory.copy(alloc).ok()?;
     Some(has_numbers(&memory, numbers) && has_numbers(&copy, numbers))
+}
+
+fn zeros_are(alloc: Global, level: &str, numbers: &[u64]) -> Option<bool> {
+    let level = read_level(alloc, level.as_bytes()).ok()?;
+    zeros_of(alloc, &level, numbers)
 }
 
 const WAIT: &str = r#"{"map":["A"],"agents":["t"],"trees":{"t":["wait",1]}}"#;

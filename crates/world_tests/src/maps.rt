@@ -1,18 +1,18 @@
 //! The worlds and signals that the tests begin with.
-use grid_world::{Intent, MapFault, Signal, Signals, World, resolve};
-use std::alloc::{AllocError, Global};
+use grid_world::{Intent, Signal, Signals, World, resolve};
+use std::alloc::Global;
 
-fn texts_of(alloc: Global, rows: &[&str]) -> Result<Vec<String>, AllocError> {
+fn texts_of(alloc: Global, rows: &[&str]) -> Option<Vec<String>> {
     let mut texts = Vec::new(alloc);
     for row in rows {
-        texts.push(String::from_str(alloc, row)?)?;
+        texts.push(String::from_str(alloc, row).ok()?).ok()?;
     }
-    Ok(texts)
+    Some(texts)
 }
 
 /// The world of these rows.
-pub fn world_of(alloc: Global, rows: &[&str]) -> Result<World, MapFault> {
-    World::from_rows(alloc, &texts_of(alloc, rows)?)
+pub fn world_of(alloc: Global, rows: &[&str]) -> Option<World> {
+    World::from_rows(alloc, &texts_of(alloc, rows)?).ok()
 }
 
 /// All signals off but this one.
@@ -31,7 +31,7 @@ pub fn world_after(
     signals: Signals,
     frames: &[&[Intent]],
 ) -> Option<World> {
-    let mut world = world_of(alloc, rows).ok()?;
+    let mut world = world_of(alloc, rows)?;
     for intents in frames {
         world = resolve(alloc, &world, signals, intents).ok()?;
     }

@@ -2,16 +2,15 @@ use bt_nodes::Node;
 use bumpalo::Bump;
 use fiber_stack::{Frame, Pile, Stack};
 use linked_list_allocator::LocalHeap;
-use std::alloc::{AllocError, Allocator, Global};
-use std::test::Fail;
+use std::alloc::{Allocator, Global};
 
-// A stack of so many frames of a node, numbered from the bottom.
+// A stack of so many frames of a node, numbered from the bottom, modulo 2^16.
 fn stacked(alloc: Global, node: &Node<Global>, count: u64) -> Option<Stack<'_, Global, Global>> {
     let mut stack = Stack::empty(alloc);
     for number in 0..count {
         let frame = Frame {
             node,
-            number,
+            number: (number & 0xffff) as u16,
             next: 1,
             successes: 2,
             failures: 3,
@@ -24,7 +23,7 @@ fn stacked(alloc: Global, node: &Node<Global>, count: u64) -> Option<Stack<'_, G
 }
 
 // The numbers of the frame that is taken off.
-fn popped<A: Allocator>(stack: &mut Stack<'_, Global, A>) -> Option<[u64; 4]> {
+fn popped<A: Allocator>(stack: &mut Stack<'_, Global, A>) -> Option<[u16; 4]> {
     let top = stack.pop()?;
     if !matches!(top.node, Node::Wait(1)) {
         return None;
@@ -32,43 +31,51 @@ fn popped<A: Allocator>(stack: &mut Stack<'_, Global, A>) -> Option<[u64; 4]> {
     Some([top.number, top.next, top.successes, top.failures])
 }
 
-fn top_number(stack: &Stack<'_, Global, Global>) -> Option<u64> {
-    Some(stack.top()?.number)
+// Whether these frames, and no others, are on top and taken off in order.
+fn pops_frames<A: Allocator>(stack: &mut Stack<'_, Global, A>, numbers: &[u16]) -> bool {
+    for number in numbers {
+        let top = stack.top().map(|frame| frame.number);
+        if top != Some(*number) || popped(stack) != Some([*number, 1, 2, 3]) {
+            return false;
+        }
+    }
+    stack.top().is_none() && popped(stack).is_none()
+}
+
+const NINE_FRAMES: [u16; 9] = [8, 7, 6, 5, 4, 3, 2, 1, 0];
+
+// How deep a stack's copy in an arena is, and whether it has the nine frames.
+fn copied_into_an_arena(alloc: Global, stack: &Stack<'_, Global, Global>) -> Option<(u32, bool)> {
+    let arena = Bump::new(alloc);
+    let mut copy = stack.copy_in(&arena).ok()?;
+    let depth = copy.depth();
+    Some((depth, pops_frames(&mut copy, &NINE_FRAMES)))
+}
+
+// The same of the copy, and then of the stack itself.
+fn nine_frames_twice(alloc: Global) -> Option<[(u32, bool); 2]> {
+    let node = Node::Wait(1);
+    let mut stack = stacked(alloc, &node, 9)?;
+    let copy = copied_into_an_arena(alloc, &stack)?;
+    let depth = stack.depth();
+    Some([copy, (depth, pops_frames(&mut stack, &NINE_FRAMES))])
 }
 
 #[test]
-fn nine_frames_are_copied_into_an_arena(rt: HostRuntime) -> Result<(), Fail> {
-    let node = Node::Wait(1);
-    let mut stack = stacked(rt.alloc(), &node, 9).ok_or("want of memory")?;
-    assert!(rt; stack.depth() == 9);
-    let arena = Bump::new(rt.alloc());
-    let mut copy = stack.copy_in(&arena)?;
-    assert!(rt; copy.depth() == 9);
-    for number in [8, 7, 6, 5, 4, 3, 2, 1, 0] {
-        let frame = Some([number, 1, 2, 3]);
-        assert!(rt; top_number(&stack) == Some(number));
-        assert!(rt; popped(&mut copy) == frame);
-        assert!(rt; popped(&mut stack) == frame);
-    }
-    assert!(rt; popped(&mut copy).is_none());
-    assert!(rt; top_number(&stack).is_none());
-    assert!(rt; stack.depth() == 0);
-    Ok(())
+fn nine_frames_are_copied_into_an_arena(rt: HostRuntime) {
+    assert!(rt; nine_frames_twice(rt.alloc()) == Some([(9, true), (9, true)]));
 }
 
 // Takes all that is left of a heap.
-fn fill<'a>(
-    alloc: Global,
-    heap: &'a LocalHeap,
-) -> Result<Vec<Box<[u64; 2], &'a LocalHeap>>, AllocError> {
-    let mut all = Vec::with_capacity(alloc, 64)?;
+fn fill<'a>(alloc: Global, heap: &'a LocalHeap) -> Option<Vec<Box<[u64; 2], &'a LocalHeap>>> {
+    let mut all = Vec::with_capacity(alloc, 64).ok()?;
     for _ in 0..64u32 {
         match Box::new(heap, [0u64; 2]) {
-            Ok(block) => all.push(block)?,
+            Ok(block) => all.push(block).ok()?,
             Err(_) => break,
         }
     }
-    Ok(all)
+    Some(all)
 }
 
 // Pushes these numbers in order, up to the first that has no room.
@@ -92,39 +99,61 @@ fn pops<A: Allocator>(pile: &mut Pile<u64, A>, numbers: &[u64]) -> bool {
     pile.pop().is_none()
 }
 
-#[test]
-fn the_ninth_push_needs_memory(rt: HostRuntime) -> Result<(), Fail> {
-    let heap = LocalHeap::new(rt.alloc(), 400)?;
+const NINE: [u64; 9] = [8, 7, 6, 5, 4, 3, 2, 1, 0];
+
+// What nine pushes answer where all memory is taken after the first, the depth then, what the ninth answers once the
+// memory is given back, and whether the nine are taken off.
+fn pushes_without_memory(alloc: Global) -> Option<([Result<(), u64>; 4], u32, bool)> {
+    let heap = LocalHeap::new(alloc, 400).ok()?;
     let mut pile = Pile::empty(&heap);
-    assert!(rt; push_all(&mut pile, &[0]).is_ok());
-    let filled = fill(rt.alloc(), &heap)?;
-    assert!(rt; push_all(&mut pile, &[1, 2, 3, 4, 5, 6, 7]).is_ok());
-    assert!(rt; push_all(&mut pile, &[8]) == Err(8));
-    assert!(rt; pile.depth() == 8);
+    let first = push_all(&mut pile, &[0]);
+    let filled = fill(alloc, &heap)?;
+    let others = push_all(&mut pile, &[1, 2, 3, 4, 5, 6, 7]);
+    let ninth = push_all(&mut pile, &[8]);
+    let depth = pile.depth();
     drop(filled);
-    assert!(rt; push_all(&mut pile, &[8]).is_ok());
-    assert!(rt; pops(&mut pile, &[8, 7, 6, 5, 4, 3, 2, 1, 0]));
-    Ok(())
+    let again = push_all(&mut pile, &[8]);
+    Some(([first, others, ninth, again], depth, pops(&mut pile, &NINE)))
+}
+
+#[test]
+fn the_ninth_push_needs_memory(rt: HostRuntime) {
+    let answers = [Ok(()), Ok(()), Err(8), Ok(())];
+    assert!(rt; pushes_without_memory(rt.alloc()) == Some((answers, 8, true)));
+}
+
+// What is replaced on top of nothing and of 1 and 2, and whether those that are there then are taken off.
+fn replaced(alloc: Global) -> Option<([Option<u64>; 2], u32, bool)> {
+    let mut pile = Pile::empty(alloc);
+    let none = pile.replace_top(7);
+    push_all(&mut pile, &[1, 2]).ok()?;
+    let two = pile.replace_top(3);
+    Some(([none, two], pile.depth(), pops(&mut pile, &[3, 1])))
 }
 
 #[test]
 fn the_top_is_replaced(rt: HostRuntime) {
-    let mut pile = Pile::empty(rt.alloc());
-    assert!(rt; pile.replace_top(7).is_none());
-    assert!(rt; push_all(&mut pile, &[1, 2]).is_ok());
-    assert!(rt; pile.replace_top(3) == Some(2));
-    assert!(rt; pile.depth() == 2);
-    assert!(rt; pops(&mut pile, &[3, 1]));
+    assert!(rt; replaced(rt.alloc()) == Some(([None, Some(2)], 2, true)));
+}
+
+// How deep a copy of a stack is, and the numbers of its uppermost frame.
+fn top_of_copy(alloc: Global, stack: &Stack<'_, Global, Global>) -> Option<(u32, [u16; 4])> {
+    let mut copy = stack.copy_in(alloc).ok()?;
+    let depth = copy.depth();
+    Some((depth, popped(&mut copy)?))
+}
+
+// The same of a stack of so many frames, and how deep that is.
+fn copied(alloc: Global, count: u64) -> Option<((u32, [u16; 4]), u32)> {
+    let node = Node::Wait(1);
+    let stack = stacked(alloc, &node, count)?;
+    let top = top_of_copy(alloc, &stack)?;
+    Some((top, stack.depth()))
 }
 
 // Neither the copy nor the two drops at the end may nest a call for each frame.
 #[test]
-fn a_hundred_thousand_frames(rt: HostRuntime) -> Result<(), Fail> {
-    let node = Node::Wait(1);
-    let stack = stacked(rt.alloc(), &node, 100_000).ok_or("want of memory")?;
-    let mut copy = stack.copy_in(rt.alloc())?;
-    assert!(rt; copy.depth() == 100_000);
-    assert!(rt; popped(&mut copy) == Some([99_999, 1, 2, 3]));
-    assert!(rt; stack.depth() == 100_000);
-    Ok(())
+fn a_hundred_thousand_frames(rt: HostRuntime) {
+    let top = (100_000, [34_463, 1, 2, 3]);
+    assert!(rt; copied(rt.alloc(), 100_000) == Some((top, 100_000)));
 }

@@ -1,35 +1,32 @@
 use bt_nodes::{Node, Tree, TreeFault};
 use bumpalo::Bump;
 use grid_world::{Place, Signal};
-use std::alloc::{AllocError, Allocator, Global};
+use std::alloc::{Allocator, Global};
 use std::fmt::Debug;
-use std::test::Fail;
 
-type Nodes = Result<Vec<Node<Global>>, AllocError>;
-
-fn list(alloc: Global, length: u64) -> Nodes {
+fn list(alloc: Global, length: u64) -> Option<Vec<Node<Global>>> {
     let mut nodes = Vec::new(alloc);
     for _ in 0..length {
-        nodes.push(Node::Carrying)?;
+        nodes.push(Node::Carrying).ok()?;
     }
-    Ok(nodes)
+    Some(nodes)
+}
+
+fn seq_of(alloc: Global, length: u64) -> Option<Node<Global>> {
+    Some(Node::Seq(list(alloc, length)?))
 }
 
 /// A condition inside so many `Not`s.
-fn nested(alloc: Global, inversions: u64) -> Result<Node<Global>, AllocError> {
+fn nested(alloc: Global, inversions: u64) -> Option<Node<Global>> {
     let mut node = Node::Carrying;
     for _ in 0..inversions {
-        node = Node::Not(Box::new(alloc, node)?);
+        node = Node::Not(Box::new(alloc, node).ok()?);
     }
-    Ok(node)
+    Some(node)
 }
 
-fn pair(
-    alloc: Global,
-    first: Node<Global>,
-    second: Node<Global>,
-) -> Result<Node<Global>, AllocError> {
-    Ok(Node::Seq(vec![in alloc; first, second]?))
+fn pair(alloc: Global, first: Node<Global>, second: Node<Global>) -> Option<Node<Global>> {
+    Some(Node::Seq(vec![in alloc; first, second].ok()?))
 }
 
 // Whether a node is printed so.
@@ -38,31 +35,54 @@ fn prints<N: Debug>(alloc: Global, node: &N, text: &str) -> Option<bool> {
     Some(printed.as_str() == text)
 }
 
-#[test]
-fn an_inverted_condition_is_copied_into_an_arena(rt: HostRuntime) -> Result<(), Fail> {
-    let alloc = rt.alloc();
-    let tree = Tree::new(nested(alloc, 1)?).ok().ok_or("refused")?;
-    assert!(rt; (tree.size(), tree.depth()) == (2, 2));
+// The size and the depth of a tree's copy, where it is the same tree and is printed so.
+fn copied<A: Allocator + Clone + Debug>(
+    alloc: Global,
+    to: A,
+    tree: &Tree<Global>,
+    text: &str,
+) -> Option<(u64, u64)> {
+    let copy = tree.copy_in(to).ok()?;
+    if tree.is_same(&copy) && prints(alloc, copy.root(), text)? {
+        Some((copy.size(), copy.depth()))
+    } else {
+        None
+    }
+}
+
+fn copied_into_an_arena(alloc: Global) -> Option<(u64, u64)> {
+    let tree = Tree::new(nested(alloc, 1)?).ok()?;
     let arena = Bump::new(alloc);
-    let copy = tree.copy_in(&arena)?;
-    assert!(rt; (copy.size(), copy.depth()) == (2, 2));
-    assert!(rt; prints(alloc, copy.root(), "Not(Carrying)") == Some(true));
-    Ok(())
+    copied(alloc, &arena, &tree, "Not(Carrying)")
 }
 
 #[test]
-fn a_refused_root_comes_back(rt: HostRuntime) -> Result<(), Fail> {
-    let Err((fault, root)) = Tree::new(Node::Seq(Vec::<Node<Global>>::new(rt.alloc()))) else {
-        return Err(Fail::from("accepted"));
-    };
-    assert!(rt; fault == TreeFault::NoChild);
-    assert!(rt; prints(rt.alloc(), &root, "Seq([])") == Some(true));
-    Ok(())
+fn an_inverted_condition_is_copied_into_an_arena(rt: HostRuntime) {
+    assert!(rt; copied_into_an_arena(rt.alloc()) == Some((2, 2)));
 }
 
-// A tree with a node of each kind.
-fn of_every_kind(alloc: Global, place: Place, signal: Signal) -> Result<Node<Global>, AllocError> {
-    let leaves = vec![in alloc;
+// Why a `Seq` of nothing is no tree, and whether it comes back.
+fn refused(alloc: Global) -> Option<(TreeFault, bool)> {
+    let (fault, root) = Tree::new(Node::Seq(Vec::<Node<Global>>::new(alloc))).err()?;
+    Some((fault, prints(alloc, &root, "Seq([])")?))
+}
+
+#[test]
+fn a_refused_root_comes_back(rt: HostRuntime) {
+    assert!(rt; refused(rt.alloc()) == Some((TreeFault::NoChild, true)));
+}
+
+fn boxed(alloc: Global, node: Node<Global>) -> Option<Box<Node<Global>>> {
+    Box::new(alloc, node).ok()
+}
+
+fn alone(alloc: Global, node: Node<Global>) -> Option<Vec<Node<Global>>> {
+    vec![in alloc; node].ok()
+}
+
+fn leaf_of_every_kind(alloc: Global) -> Option<Vec<Node<Global>>> {
+    let (place, signal) = (Place::new(4)?, Signal::new(25)?);
+    vec![in alloc;
         Node::Wait(7),
         Node::Move(place),
         Node::Take,
@@ -72,74 +92,88 @@ fn of_every_kind(alloc: Global, place: Place, signal: Signal) -> Result<Node<Glo
         Node::Item,
         Node::Signal(signal),
         Node::Near(16),
-    ]?;
-    let tries = Node::Tries(2, Box::new(alloc, Node::SeqStar(leaves))?);
-    let ticks = Node::Ticks(3, Box::new(alloc, Node::FallbackStar(list(alloc, 1)?))?);
-    let par = Node::Par(1, list(alloc, 2)?);
-    let both = pair(alloc, tries, pair(alloc, ticks, par)?)?;
-    Ok(Node::Fallback(vec![in alloc; Node::Not(Box::new(alloc, both)?)]?))
+    ]
+    .ok()
+}
+
+// A tree with a node of each kind.
+fn of_every_kind(alloc: Global) -> Option<Node<Global>> {
+    let node = Node::SeqStar(leaf_of_every_kind(alloc)?);
+    let node = Node::Tries(2, boxed(alloc, node)?);
+    let node = Node::FallbackStar(alone(alloc, node)?);
+    let node = Node::Ticks(3, boxed(alloc, node)?);
+    let node = Node::Par(1, alone(alloc, node)?);
+    let node = Node::Not(boxed(alloc, node)?);
+    let node = Node::Fallback(alone(alloc, node)?);
+    pair(alloc, node, Node::Take)
 }
 
 const OF_EVERY_KIND: &str =
-    "Fallback([Not(Seq([Tries(2, SeqStar([Wait(7), Move(Place { digit: 4 }), Take, Drop, \
-    At(Place { digit: 4 }), Carrying, Item, Signal(Signal { letter: 25 }), Near(16)])), \
-    Seq([Ticks(3, FallbackStar([Carrying])), Par(1, [Carrying, Carrying])])]))])";
+    "Seq([Fallback([Not(Par(1, [Ticks(3, FallbackStar([Tries(2, SeqStar([Wait(7), \
+    Move(Place { digit: 4 }), Take, Drop, At(Place { digit: 4 }), Carrying, Item, \
+    Signal(Signal { letter: 25 }), Near(16)]))]))]))]), Take])";
 
-#[test]
-fn a_copy_has_every_kind_of_node(rt: HostRuntime) -> Result<(), Fail> {
-    let alloc = rt.alloc();
-    let (Some(place), Some(signal)) = (Place::new(4), Signal::new(25)) else {
-        return Err(Fail::from("no such place or signal"));
-    };
-    let tree = Tree::new(of_every_kind(alloc, place, signal)?)
-        .ok()
-        .ok_or("refused")?;
-    let copy = tree.copy_in(alloc)?;
-    assert!(rt; tree.is_same(&copy));
-    assert!(rt; (copy.size(), copy.depth()) == (21, 7));
-    assert!(rt; prints(alloc, copy.root(), OF_EVERY_KIND) == Some(true));
-    Ok(())
+fn copied_of_every_kind(alloc: Global) -> Option<(u64, u64)> {
+    let tree = Tree::new(of_every_kind(alloc)?).ok()?;
+    copied(alloc, alloc, &tree, OF_EVERY_KIND)
 }
 
 #[test]
-fn sizes_and_depths_of_nodes(rt: HostRuntime) -> Result<(), Fail> {
-    let alloc = rt.alloc();
-    let nodes = vec![in alloc; Node::Seq(list(alloc, 3)?), nested(alloc, 4)?]?;
-    assert!(rt; Node::sizes(&nodes) == 9);
-    assert!(rt; nodes.len() == 2);
-    assert!(rt; (nodes[0].size(), nodes[0].depth()) == (4, 2));
-    assert!(rt; (nodes[1].size(), nodes[1].depth()) == (5, 5));
-    let copy = nodes[0].copy_in(&alloc)?;
-    assert!(rt; prints(alloc, &copy, "Seq([Carrying, Carrying, Carrying])") == Some(true));
-    Ok(())
+fn a_copy_has_every_kind_of_node(rt: HostRuntime) {
+    assert!(rt; copied_of_every_kind(rt.alloc()) == Some((18, 9)));
 }
 
-// Whether a `seq` of a wait and a take is one of these two nodes.
-fn is_wait_and_take(alloc: Global, first: Node<Global>, second: Node<Global>) -> Option<bool> {
-    let one = pair(alloc, Node::Wait(1), Node::Take).ok()?;
-    Some(one.is_same(&pair(alloc, first, second).ok()?))
+fn measures(node: &Node<Global>) -> (u64, u64) {
+    (node.size(), node.depth())
 }
 
-// Whether a list of one node is.
-fn is_list_of_one(alloc: Global) -> Option<bool> {
-    let one = pair(alloc, Node::Wait(1), Node::Take).ok()?;
-    Some(one.is_same(&Node::Seq(list(alloc, 1).ok()?)))
+// The size and the depth of a list of three and of a condition inside four `Not`s, and the size of both.
+fn measures_of_two(alloc: Global) -> Option<([(u64, u64); 2], u64)> {
+    let three = seq_of(alloc, 3)?;
+    let both = pair(alloc, three, nested(alloc, 4)?)?;
+    match &both {
+        Node::Seq(nodes) => match nodes.as_slice() {
+            [three, four] => Some(([measures(three), measures(four)], Node::sizes(nodes))),
+            _ => None,
+        },
+        _ => None,
+    }
 }
 
-fn is_nested_alike(alloc: Global, inversions: u64, others: u64) -> Option<bool> {
-    let one = nested(alloc, inversions).ok()?;
-    Some(one.is_same(&nested(alloc, others).ok()?))
+// Whether a list of three nodes is copied.
+fn is_copied(alloc: Global) -> Option<bool> {
+    let three = seq_of(alloc, 3)?;
+    let copy = three.copy_in(&alloc).ok()?;
+    prints(alloc, &copy, "Seq([Carrying, Carrying, Carrying])")
+}
+
+#[test]
+fn sizes_and_depths_of_nodes(rt: HostRuntime) {
+    assert!(rt; measures_of_two(rt.alloc()) == Some(([(4, 2), (5, 5)], 9)));
+    assert!(rt; is_copied(rt.alloc()) == Some(true));
+}
+
+fn are_same(one: Option<Node<Global>>, other: Option<Node<Global>>) -> Option<bool> {
+    match (&one, &other) {
+        (Some(one), Some(other)) => Some(one.is_same(other)),
+        _ => None,
+    }
+}
+
+// Whether a node is a `seq` of a wait and a take.
+fn is_wait_and_take(alloc: Global, node: Option<Node<Global>>) -> Option<bool> {
+    are_same(pair(alloc, Node::Wait(1), Node::Take), node)
 }
 
 #[test]
 fn trees_differ_in_kind_number_and_order(rt: HostRuntime) {
     let alloc = rt.alloc();
-    assert!(rt; is_wait_and_take(alloc, Node::Wait(1), Node::Take) == Some(true));
-    assert!(rt; is_wait_and_take(alloc, Node::Take, Node::Wait(1)) == Some(false));
-    assert!(rt; is_wait_and_take(alloc, Node::Wait(2), Node::Take) == Some(false));
-    assert!(rt; is_wait_and_take(alloc, Node::Wait(1), Node::Drop) == Some(false));
-    assert!(rt; is_list_of_one(alloc) == Some(false));
-    assert!(rt; is_nested_alike(alloc, 2, 3) == Some(false));
+    assert!(rt; is_wait_and_take(alloc, pair(alloc, Node::Wait(1), Node::Take)) == Some(true));
+    assert!(rt; is_wait_and_take(alloc, pair(alloc, Node::Take, Node::Wait(1))) == Some(false));
+    assert!(rt; is_wait_and_take(alloc, pair(alloc, Node::Wait(2), Node::Take)) == Some(false));
+    assert!(rt; is_wait_and_take(alloc, pair(alloc, Node::Wait(1), Node::Drop)) == Some(false));
+    assert!(rt; is_wait_and_take(alloc, seq_of(alloc, 1)) == Some(false));
+    assert!(rt; are_same(nested(alloc, 2), nested(alloc, 3)) == Some(false));
 }
 
 // Whether the subtrees of a tree, in preorder, have these sizes.
@@ -152,14 +186,16 @@ fn has_sizes<A: Allocator>(tree: &Tree<A>, sizes: &[u64]) -> bool {
     sizes.len() as u64 == tree.size()
 }
 
-#[test]
-fn subtrees_have_their_sizes_in_preorder(rt: HostRuntime) -> Result<(), Fail> {
-    let alloc = rt.alloc();
+// Whether a tree and its copy have subtrees of these sizes.
+fn both_have_sizes(alloc: Global, sizes: &[u64]) -> Option<[bool; 2]> {
     let par = Node::Par(1, list(alloc, 2)?);
-    let tree = Tree::new(pair(alloc, nested(alloc, 2)?, par)?)
-        .ok()
-        .ok_or("refused")?;
-    assert!(rt; has_sizes(&tree, &[7, 3, 2, 1, 3, 1, 1]));
-    assert!(rt; has_sizes(&tree.copy_in(alloc)?, &[7, 3, 2, 1, 3, 1, 1]));
-    Ok(())
+    let tree = Tree::new(pair(alloc, nested(alloc, 2)?, par)?).ok()?;
+    let copy = tree.copy_in(alloc).ok()?;
+    Some([has_sizes(&tree, sizes), has_sizes(&copy, sizes)])
+}
+
+#[test]
+fn subtrees_have_their_sizes_in_preorder(rt: HostRuntime) {
+    let sizes = [7, 3, 2, 1, 3, 1, 1];
+    assert!(rt; both_have_sizes(rt.alloc(), &sizes) == Some([true, true]));
 }

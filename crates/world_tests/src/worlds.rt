@@ -1,10 +1,6 @@
 use crate::maps::{only, world_after, world_of};
-use grid_world::{
-    Agent, Cell, Dir, Intent, MapFault, Place, ResolveFault, Signal, Signals, World, resolve,
-};
+use grid_world::{Agent, Cell, Dir, Intent, Place, ResolveFault, Signal, Signals, World, resolve};
 use std::alloc::Global;
-use std::process::Abort;
-use std::test::Fail;
 
 const NORTH: Intent = Intent::Move(Dir::North);
 
@@ -15,44 +11,54 @@ const SOUTH: Intent = Intent::Move(Dir::South);
 const WEST: Intent = Intent::Move(Dir::West);
 
 // Whether a world is drawn so, with a line feed after each row.
-fn is_drawn(alloc: Global, world: &World, signals: Signals, picture: &[u8]) -> Option<bool> {
-    let drawn = world.draw_rows(alloc, signals, 0, world.height()).ok()?;
-    Some(drawn.as_slice() == picture)
-}
-
-fn asserts_a_map(rt: &impl Abort, world: &World) {
-    assert!(rt; world.width() == 2);
-    assert!(rt; world.height() == 1);
-    assert!(rt; world.agents().len() == 1);
-    assert!(rt;
-        world.agents()[0]
-            == Agent {
-                x: 0,
-                y: 0,
-                carrying: false
-            }
-    );
-    for (x, item, glyph, open) in [
-        (0, false, Some(b'A'), true),
-        (1, true, Some(b'*'), true),
-        (2, false, None, false),
-    ] {
-        assert!(rt; world.has_item(x, 0) == item, "at {x}");
-        assert!(rt; world.glyph_at(Signals::off(), x, 0) == glyph, "at {x}");
-        assert!(rt; world.is_open(Signals::off(), x, 0) == open, "at {x}");
+fn is_drawn(alloc: Global, world: &World, signals: Signals, picture: &[u8]) -> bool {
+    match world.draw_rows(alloc, signals, 0, world.height()) {
+        Ok(drawn) => drawn.as_slice() == picture,
+        Err(_) => false,
     }
 }
 
-#[test]
-fn reads_a_map(rt: HostRuntime) -> Result<(), Fail> {
-    let world = world_of(rt.alloc(), &["A*"])?;
-    asserts_a_map(&rt, &world);
-    asserts_a_map(&rt, &world.copy(rt.alloc())?);
-    Ok(())
+// Whether an item is at a place in the first row, its glyph, and whether it is open.
+fn at(world: &World, x: u32) -> (bool, Option<u8>, bool) {
+    let off = Signals::off();
+    (
+        world.has_item(x, 0),
+        world.glyph_at(off, x, 0),
+        world.is_open(off, x, 0),
+    )
 }
 
-fn asserts_cells(rt: &impl Abort, world: &World, door: Signal, seven: Place) {
-    for (x, y, cell) in [
+// Whether a world is an agent with an item beside it.
+fn is_agent_and_item(world: &World) -> [bool; 5] {
+    let agent = Agent {
+        x: 0,
+        y: 0,
+        carrying: false,
+    };
+    [
+        (world.width(), world.height()) == (2, 1),
+        world.agents() == [agent].as_slice(),
+        at(world, 0) == (false, Some(b'A'), true),
+        at(world, 1) == (true, Some(b'*'), true),
+        at(world, 2) == (false, None, false),
+    ]
+}
+
+// Whether a map of an agent and an item, and a copy of that world, is read as such.
+fn readings(alloc: Global) -> Option<[[bool; 5]; 2]> {
+    let world = world_of(alloc, &["A*"])?;
+    let copy = world.copy(alloc).ok()?;
+    Some([is_agent_and_item(&world), is_agent_and_item(&copy)])
+}
+
+#[test]
+fn reads_a_map(rt: HostRuntime) {
+    assert!(rt; readings(rt.alloc()) == Some([[true; 5]; 2]));
+}
+
+// Whether the cells of a map, and what is below it, are of these kinds.
+fn has_kinds(world: &World, door: Signal, seven: Place) -> bool {
+    let kinds = [
         (0, 0, Some(Cell::Wall)),
         (1, 0, Some(Cell::Floor)),
         (2, 0, Some(Cell::Door(door))),
@@ -60,60 +66,51 @@ fn asserts_cells(rt: &impl Abort, world: &World, door: Signal, seven: Place) {
         (1, 1, Some(Cell::Floor)),
         (2, 1, Some(Cell::Floor)),
         (0, 2, None),
-    ] {
-        assert!(rt; world.cell(x, y) == cell, "at {x},{y}");
-    }
-    assert!(rt; world.place(seven) == Some((0, 1)));
-}
-
-#[test]
-fn tells_the_kinds_of_cells(rt: HostRuntime) -> Result<(), Fail> {
-    let (Some(door), Some(seven), Some(six)) = (Signal::new(2), Place::new(7), Place::new(6)) else {
-        return Err(Fail::from("no such signal or place"));
-    };
-    let world = world_of(rt.alloc(), &["#.c", "7A*"])?;
-    asserts_cells(&rt, &world, door, seven);
-    assert!(rt; world.place(six).is_none());
-    for (signals, open, picture) in [
-        (Signals::off(), false, b"#.c\n7A*\n".as_slice()),
-        (only(2), true, b"#./\n7A*\n".as_slice()),
-    ] {
-        assert!(rt; world.is_open(signals, 2, 0) == open, "{open}");
-        assert!(rt;
-            is_drawn(rt.alloc(), &world, signals, picture) == Some(true),
-            "{open}"
-        );
-    }
-    Ok(())
-}
-
-#[test]
-fn signals_are_set_and_cleared(rt: HostRuntime) -> Result<(), Fail> {
-    let door = Signal::new(2).ok_or("no such signal")?;
-    assert!(rt; door.number() == 2);
-    let mut on = Signals::off();
-    assert!(rt; !on.is_on(door));
-    on.set(door, true);
-    assert!(rt; on.is_on(door));
-    on.set(door, false);
-    assert!(rt; !on.is_on(door));
-    assert!(rt; Signal::new(26).is_none());
-    assert!(rt; Place::new(10).is_none());
-    Ok(())
-}
-
-#[test]
-fn refuses_what_is_no_map(rt: HostRuntime) {
-    let cases: [(&[&str], MapFault); 2] = [
-        (&["/"], MapFault::Char { x: 0, y: 0 }),
-        (&["A", "9", "9"], MapFault::Letters),
     ];
-    for (rows, fault) in cases {
-        assert!(rt;
-            world_of(rt.alloc(), rows).err() == Some(fault),
-            "{fault:?}"
-        );
+    for (x, y, kind) in &kinds {
+        if world.cell(*x, *y) != *kind {
+            return false;
+        }
     }
+    true
+}
+
+// Whether the kinds of cells, the places, and the door shut and open are what they should be.
+fn kinds_of_cells(alloc: Global) -> Option<[bool; 7]> {
+    let (door, seven, six) = (Signal::new(2)?, Place::new(7)?, Place::new(6)?);
+    let world = world_of(alloc, &["#.c", "7A*"])?;
+    Some([
+        has_kinds(&world, door, seven),
+        world.place(seven) == Some((0, 1)),
+        world.place(six).is_none(),
+        !world.is_open(Signals::off(), 2, 0),
+        world.is_open(only(2), 2, 0),
+        is_drawn(alloc, &world, Signals::off(), b"#.c\n7A*\n"),
+        is_drawn(alloc, &world, only(2), b"#./\n7A*\n"),
+    ])
+}
+
+#[test]
+fn tells_the_kinds_of_cells(rt: HostRuntime) {
+    assert!(rt; kinds_of_cells(rt.alloc()) == Some([true; 7]));
+}
+
+// The number of a signal, and whether it is on before it is set, then, and after it is cleared.
+fn switched(number: u32) -> Option<(u32, [bool; 3])> {
+    let door = Signal::new(number)?;
+    let mut signals = Signals::off();
+    let before = signals.is_on(door);
+    signals.set(door, true);
+    let set = signals.is_on(door);
+    signals.set(door, false);
+    Some((door.number(), [before, set, signals.is_on(door)]))
+}
+
+#[test]
+fn signals_are_set_and_cleared(rt: HostRuntime) {
+    assert!(rt; switched(2) == Some((2, [false, true, false])));
+    assert!(rt; switched(26).is_none());
+    assert!(rt; Place::new(10).is_none());
 }
 
 // Whether a row comes to these rows by the intents of some frames, under one signal or none.
@@ -127,8 +124,12 @@ fn comes_to(
     carrying: bool,
 ) -> Option<bool> {
     let world = world_after(alloc, &[row], signals, frames)?;
-    let first = world.agents().first()?;
-    Some(first.carrying == carrying && is_drawn(alloc, &world, drawn, picture)?)
+    match world.agents().first() {
+        Some(first) => {
+            Some(first.carrying == carrying && is_drawn(alloc, &world, drawn, picture))
+        }
+        None => None,
+    }
 }
 
 // A row, whether its door is open, the intents of its agents, and the picture after them.
@@ -157,16 +158,15 @@ fn applies_intents_in_order(rt: HostRuntime) {
 }
 
 fn refusal(alloc: Global, row: &str, intents: &[Intent]) -> Option<ResolveFault> {
-    let world = world_of(alloc, &[row]).ok()?;
+    let world = world_of(alloc, &[row])?;
     resolve(alloc, &world, Signals::off(), intents).err()
 }
 
 #[test]
 fn wants_an_intent_for_each_agent(rt: HostRuntime) {
-    let many: [&[Intent]; 2] = [&[], &[Intent::Stay, Intent::Stay]];
-    for intents in many {
-        assert!(rt; refusal(rt.alloc(), "A.", intents) == Some(ResolveFault::Count));
-    }
+    let alloc = rt.alloc();
+    assert!(rt; refusal(alloc, "A.", &[]) == Some(ResolveFault::Count));
+    assert!(rt; refusal(alloc, "A.", &[Intent::Stay, Intent::Stay]) == Some(ResolveFault::Count));
 }
 
 // One agent carries an item onto an open door, and leaves it there.
@@ -182,32 +182,34 @@ const CARRIED: [&[Intent]; 9] = [
     &[WEST],
 ];
 
+// How many frames, whether the door is open when they are drawn, the picture then, and whether the agent carries.
+const CARRIED_TO: [(usize, bool, &[u8], bool); 10] = [
+    (1, true, b".A*/\n", false),
+    (2, true, b".A*/\n", true),
+    (3, true, b".A*/\n", true),
+    (4, true, b"..A/\n", true),
+    (5, true, b"..A/\n", true),
+    (6, true, b"..*A\n", true),
+    (7, true, b"..*A\n", false),
+    (8, true, b"..*A\n", false),
+    (9, true, b"..A*\n", false),
+    (9, false, b"..A*\n", false),
+];
+
 #[test]
 fn carries_an_item(rt: HostRuntime) {
-    let on = only(0);
-    let steps: [(usize, Signals, &[u8], bool); 10] = [
-        (1, on, b".A*/\n", false),
-        (2, on, b".A*/\n", true),
-        (3, on, b".A*/\n", true),
-        (4, on, b"..A/\n", true),
-        (5, on, b"..A/\n", true),
-        (6, on, b"..*A\n", true),
-        (7, on, b"..*A\n", false),
-        (8, on, b"..*A\n", false),
-        (9, on, b"..A*\n", false),
-        (9, Signals::off(), b"..A*\n", false),
-    ];
-    for (count, drawn, after, carrying) in steps {
+    for (count, open, after, carrying) in CARRIED_TO {
         assert!(rt; count <= CARRIED.len());
         let frames = &CARRIED[..count];
-        let found = comes_to(rt.alloc(), "A**a", on, frames, drawn, after, carrying);
+        let drawn = if open { only(0) } else { Signals::off() };
+        let found = comes_to(rt.alloc(), "A**a", only(0), frames, drawn, after, carrying);
         assert!(rt; found == Some(true), "after {count}");
     }
 }
 
 fn is_same(alloc: Global, row: &str, other: &str) -> Option<bool> {
-    let world = world_of(alloc, &[row]).ok()?;
-    Some(world.is_same(&world_of(alloc, &[other]).ok()?))
+    let other = world_of(alloc, &[other])?;
+    Some(world_of(alloc, &[row])?.is_same(&other))
 }
 
 #[test]
