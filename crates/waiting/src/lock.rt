@@ -8,9 +8,9 @@ const LOOKS: u32 = 8_000;
 // Of how many looks one is a try, whatever is said of the lock.
 const EVERY: u32 = 2_048;
 
-/// What is said of a lock by those who take it and give it up: whether it is held. A try for a held lock takes its
-/// memory, and what lies beside it, from the core of the holder, so the others look here. It is a hint: where it is
-/// wrong, the lock is tried a little later.
+/// What is said of a lock by those who take it and give it up: whether it is held. A try for a lock takes its memory, and
+/// what lies beside it, from the core of the holder, so the others look here, and of those that see it free one tries.
+/// It is a hint: where it is wrong, the lock is tried a little later.
 pub(crate) struct Held {
     held: Line,
 }
@@ -26,8 +26,9 @@ impl Held {
         Held { held: Line::new(0) }
     }
 
-    pub(crate) fn is_held(&self) -> bool {
-        self.held.load() != 0
+    // Whether the lock seems to be free. It is said to be held from then on, so of those who look one alone sees it.
+    fn try_take(&self) -> bool {
+        self.held.load() == 0 && self.held.swap(1) == 0
     }
 
     /// The lock was taken.
@@ -35,7 +36,7 @@ impl Held {
         self.held.store(1);
     }
 
-    /// The lock is about to be free.
+    /// The lock is free.
     pub(crate) fn give(&self) {
         self.held.store(0);
     }
@@ -51,7 +52,7 @@ pub(crate) fn lock_soon<'m, T, R: Wait>(
     held: &Held,
 ) -> MutexGuard<'m, T> {
     for number in 1..=LOOKS {
-        if !held.is_held() || number % EVERY == 0 {
+        if held.try_take() || number % EVERY == 0 {
             if let Some(guard) = lock.try_lock() {
                 held.take();
                 return guard;

@@ -51,8 +51,8 @@ impl Sleepers {
         // Before it counts as asleep, so a call by whoever sees that it sleeps is one more.
         let calls = self.calls.load();
         self.sleeping.add_one();
-        held.give();
         drop(guard);
+        held.give();
         self.calls.park(rt, calls, most);
         let is_over = self.calls.load() == calls;
         let guard = lock_soon(rt, lock, held);

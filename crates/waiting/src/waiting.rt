@@ -1,3 +1,4 @@
+use crate::line::Line;
 use crate::lock::{Held, lock_soon};
 use crate::pace::Pace;
 use crate::patience::Patience;
@@ -11,6 +12,10 @@ use std::time::Duration;
 // How long who has no room in the mail sleeps before it looks again, if it isn't called: milliseconds.
 const ROOM: u64 = 1_000;
 
+// How long a worker rests, if it isn't called, where others that are awake do more without it: milliseconds. One that
+// came back sooner would take a task from them, and what the lock guards from their processor's cache.
+const RESTS: u64 = 1_000;
+
 /// Those who wait beside the lock of a run's board: the workers for a task or for room in the mail, and the printer for
 /// a frame. The lock itself is handed to each call, and is always the same one.
 pub struct Waiting {
@@ -21,7 +26,11 @@ pub struct Waiting {
     keeper: Sleepers,
     pub room: Sleepers,
     pub printer: Waiters,
+    // Whether somebody asked for the printer since it was called last.
+    asked: Line,
     pub pace: Pace,
+    // Whether no task comes any more.
+    over: Line,
     workers_count: u64,
     // How many threads the machine runs at a time.
     processors: u64,
@@ -35,7 +44,9 @@ impl Drop for Waiting {
             keeper: _,
             room: _,
             printer: _,
+            asked: _,
             pace: _,
+            over: _,
             workers_count: _,
             processors: _,
         } = self;
@@ -59,7 +70,9 @@ impl Waiting {
             keeper: Sleepers::new(),
             room: Sleepers::new(),
             printer: Waiters::new(),
+            asked: Line::new(0),
             pace: Pace::new(),
+            over: Line::new(0),
             workers_count: u64::from(workers),
             processors: processors_of(rt),
         }
@@ -72,8 +85,8 @@ impl Waiting {
 
     /// Gives the lock up.
     pub fn unlock<T>(&self, guard: MutexGuard<'_, T>) {
-        self.held.give();
         drop(guard);
+        self.held.give();
     }
 
     /// Looks for news of a task, and takes the lock. Whether there were any.
@@ -110,6 +123,11 @@ impl Waiting {
             &self.keeper
         } else {
             &self.workers.asleep
+        };
+        let most = if self.may_rest() {
+            Duration::from_millis(RESTS)
+        } else {
+            most
         };
         place.doze(rt, lock, &self.held, guard, most)
     }
@@ -178,24 +196,31 @@ impl Waiting {
     }
 
     /// Whether a worker had better rest than take a task: as many others are awake as do more than one fewer. Under the
-    /// lock it is exact, so the last worker that is awake goes on.
+    /// lock it is exact, so the last worker that is awake goes on. None rests once all were called, since nobody calls
+    /// them again.
     pub fn may_rest(&self) -> bool {
-        self.awake() > self.useful()
+        self.over.load() == 0 && self.awake() > self.useful()
     }
 
-    /// Whether to call the printer for a frame that could be shown now. Called under the lock. A worker goes on first
-    /// while it has a task: a call takes longer than most, and where all processors work the printer takes one from a
-    /// worker.
+    /// Whether to call the printer for a frame that could be shown now. Called under the lock. A worker that has a task
+    /// goes on where all processors work, since the printer takes one from a worker. Else a printer that sleeps is called
+    /// at the second asking, which is by a drawing of the next frame: so it is awake by the time that no slot is free.
     pub fn wants_printer(&self, is_idle: bool) -> bool {
-        if !is_idle {
-            self.printer.tell_one();
+        self.printer.tell_one();
+        if self.printer.any_looks() {
             return false;
         }
-        self.printer.want_one()
+        if !is_idle && (self.asked.load() == 0 || self.awake() >= self.processors) {
+            self.asked.store(1);
+            return false;
+        }
+        self.asked.store(0);
+        self.printer.asleep.want_one()
     }
 
-    /// Calls all workers that wait for a task.
+    /// Calls all workers that wait for a task, since none comes any more.
     pub fn call_workers(&self) {
+        self.over.store(1);
         self.workers.call_all();
         self.keeper.call_all();
     }
