@@ -62,6 +62,8 @@ pub fn print<'t, W: Write, L: RunLedger, M: Ledger, R: Wait + Clock>(
             }
         }
     }
+    // There is no other task, so they end.
+    hall.waiting.call_workers();
     match out.flush() {
         Ok(()) => Ok(()),
         Err(_) => {

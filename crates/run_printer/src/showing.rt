@@ -47,8 +47,7 @@ fn wait_for_frame<'m, 't, L: RunLedger, M: Ledger, R: Wait + Clock>(
     board
 }
 
-// Shows the next frame, once all of it is drawn. The workers are told: a Logic may have waited for the frame's slot,
-// and after the last frame they end.
+// Shows the next frame, once all of it is drawn. The workers are told: a Logic may have waited for the frame's slot.
 fn emit<'t, L: RunLedger, M: Ledger, R: Wait + Clock>(
     rt: &R,
     session: &Session,
@@ -74,16 +73,12 @@ fn emit<'t, L: RunLedger, M: Ledger, R: Wait + Clock>(
         match board.emit(session, settings, emits) {
             Ok(shown) => {
                 rest.shorten();
-                let is_done = board.is_done();
                 if board.may_show() {
                     hall.waiting.printer.tell_one();
                 } else {
                     hall.waiting.printer.want_none();
                 }
                 hall.let_go(board);
-                if is_done {
-                    hall.waiting.call_workers();
-                }
                 return Ok(shown);
             }
             Err(BoardFault::Illegal) => board = wait_for_frame(rt, hall, inbox, rest, board),
