@@ -12,9 +12,10 @@ use std::time::Duration;
 // How long who has no room in the mail sleeps before it looks again, if it isn't called: milliseconds.
 const ROOM: u64 = 1_000;
 
-// How long a worker rests, if it isn't called, where others that are awake do more without it: milliseconds. One that
-// came back sooner would take a task from them, and what the lock guards from their processor's cache.
-const RESTS: u64 = 1_000;
+// How long a worker rests, if it isn't called, where others that are awake do more without it: milliseconds. Each time
+// that it comes back it takes a task from them, and what the lock guards from their processor's cache; but where one of
+// them is held up it has to.
+const RESTS: u64 = 16;
 
 /// Those who wait beside the lock of a run's board: the workers for a task or for room in the mail, and the printer for
 /// a frame. The lock itself is handed to each call, and is always the same one.
