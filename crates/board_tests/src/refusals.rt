@@ -154,26 +154,46 @@ fn shows(alloc: Global, session: &Session, settings: Settings, board: &Board) ->
 }
 
 // Whether the events of the game, played to its end, show its frames.
-fn is_played(alloc: Global, mut arena: Option<Bump>) -> Option<bool> {
-    let session = match session_of(alloc, LEVEL, "") {
-        Some(session) => session,
-        None => session_of(alloc, LEVEL, "")?,
-    };
-    let settings = Settings::new(2, 1, 3, 1).ok()?;
-    let mut board = new_board(alloc, &session, settings)?;
-    plays(alloc, &mut board, &mut arena)?;
-    match shows(alloc, &session, settings, &board) {
+fn plays_and_shows(
+    alloc: Global,
+    session: &Session,
+    settings: Settings,
+    board: &mut Board,
+    arena: &mut Option<Bump>,
+) -> Option<bool> {
+    plays(alloc, board, arena)?;
+    match shows(alloc, session, settings, board) {
         Some(is_shown) => Some(is_shown),
-        None => shows(alloc, &session, settings, &board),
+        None => shows(alloc, session, settings, board),
     }
+}
+
+// The same on a board of its own.
+fn is_played_in(alloc: Global, session: &Session, arena: &mut Option<Bump>) -> Option<bool> {
+    let settings = Settings::new(2, 1, 3, 1).ok()?;
+    let mut board = new_board(alloc, session, settings)?;
+    plays_and_shows(alloc, session, settings, &mut board, arena)
+}
+
+fn new_session(alloc: Global) -> Option<Session> {
+    match session_of(alloc, LEVEL, "") {
+        Some(session) => Some(session),
+        None => session_of(alloc, LEVEL, ""),
+    }
+}
+
+fn is_played(alloc: Global, arena: &mut Option<Bump>) -> Option<bool> {
+    let session = new_session(alloc)?;
+    is_played_in(alloc, &session, arena)
 }
 
 #[test]
 fn refused_calls_are_repeated(rt: HostRuntime) {
-    assert!(rt; is_played(rt.alloc(), None) == Some(true));
+    assert!(rt; is_played(rt.alloc(), &mut None) == Some(true));
 }
 
 #[test]
 fn work_in_an_arena_comes_to_the_same(rt: HostRuntime) {
-    assert!(rt; is_played(rt.alloc(), Some(Bump::new(rt.alloc()))) == Some(true));
+    let mut arena = Some(Bump::new(rt.alloc()));
+    assert!(rt; is_played(rt.alloc(), &mut arena) == Some(true));
 }
