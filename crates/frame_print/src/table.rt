@@ -12,13 +12,14 @@ use game_session::Session;
 use run_ledger::RunLedger;
 use std::alloc::{AllocError, Global};
 use std::marker::Model;
+use std::mem;
 
 /// The bands of a run's frames that are not printed yet, by frame and number. So many frames as it is made for have places of their own; a
 /// band of a later frame takes the place of one so many frames before.
 #[derive(Drop)]
 pub struct BandTable<'t, L: RunLedger> {
     frames: Vec<FrameBands<'t, L>>,
-    // The bands of the frame that is printed, from the top.
+    // The bands of the frame whose text was made last, from the top.
     drawn: Vec<Band>,
 }
 
@@ -52,6 +53,13 @@ impl<'t, L: RunLedger> BandTable<'t, L> {
         if let Some(places) = self.frames.get_mut(row) {
             places.keep(band);
         }
+    }
+
+    /// Exchanges the bands of the frame whose text was made last with others, which are let go with the next text.
+    pub fn exchange_drawn(&mut self, others: &mut Vec<Band>)
+        ensures { self.new ≡ self.old }
+    {
+        mem::swap(&mut self.drawn, others);
     }
 
     /// The text of a frame of the run, by its turn and all its bands, which are taken out of the table. None where one of them isn't there.

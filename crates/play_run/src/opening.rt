@@ -78,9 +78,10 @@ pub fn open_hall<'t, L: RunLedger, M: Ledger, R: Threads>(
     ensures putters { IfOk result (λ r. (vec_len r.1 ≡ settings.workers) × ArePuttersOf r.0.mail r.1.items) }
     ensures inbox { IfOk result (λ r. r.2.taker.mail ≡ r.0.mail) }
 {
+    let drawn = Vec::with_capacity(alloc, bands_of(session) as usize)?;
     let board = open_board(alloc, session, settings, named, emitted)?;
     let (mail, putters, inbox) = open_mail(alloc, session, settings)?;
-    let hall = Hall::new(rt, board, mail, settings.workers());
+    let hall = Hall::new(rt, board, mail, drawn, settings.workers());
     Ok((hall, putters, inbox))
 }
 

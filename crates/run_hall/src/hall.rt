@@ -1,7 +1,8 @@
 ghost use Rattle.std.specs.Prelude.{◌≡◌};
 
 use band_mail::BandMail;
-use frame_print::RunBand;
+use draw_list::Band;
+use frame_print::{BandTable, RunBand};
 use run_ledger::RunLedger;
 use shared_board::SharedBoard;
 use std::sync::ledger::Ledger;
@@ -9,11 +10,14 @@ use std::sync::{Mutex, MutexGuard, Wait};
 use std::thread::Threads;
 use waiting::Waiting;
 
-/// Where the threads of a run meet: the locked board, the mail by which bands go to the printer, and those who wait beside the lock.
+/// Where the threads of a run meet: the locked board, the mail by which bands go to the printer, those who wait beside
+/// the lock, and the bands of a frame that is printed.
 pub struct Hall<'t, L: RunLedger, M: Ledger> {
     pub board: Mutex<SharedBoard<'t, L, M>>,
     pub mail: BandMail<RunBand<'t, L>>,
     pub waiting: Waiting,
+    // Workers let these go, who take the same memory again.
+    drawn: Mutex<Vec<Band>>,
 }
 
 impl<'t, L: RunLedger, M: Ledger> Drop for Hall<'t, L, M> {
@@ -22,6 +26,7 @@ impl<'t, L: RunLedger, M: Ledger> Drop for Hall<'t, L, M> {
             board: _,
             mail: _,
             waiting: _,
+            drawn: _,
         } = self;
     }
 }
@@ -31,6 +36,7 @@ impl<'t, L: RunLedger, M: Ledger> Hall<'t, L, M> {
         rt: &R,
         board: SharedBoard<'t, L, M>,
         mail: BandMail<RunBand<'t, L>>,
+        drawn: Vec<Band>,
         workers: u32,
     ) -> Hall<'t, L, M>
         ensures { result.mail ≡ mail.entry }
@@ -39,6 +45,7 @@ impl<'t, L: RunLedger, M: Ledger> Hall<'t, L, M> {
             board: Mutex::new(board),
             mail,
             waiting: Waiting::new(rt, workers),
+            drawn: Mutex::new(drawn),
         }
     }
 
@@ -64,6 +71,22 @@ impl<'t, L: RunLedger, M: Ledger> Hall<'t, L, M> {
         }
     }
 
+    /// Leaves the bands of the frame whose text was made last to the workers.
+    pub fn leave_drawn<R: Wait>(&self, rt: &R, table: &mut BandTable<'t, L>)
+        ensures { table.new ≡ table.old }
+    {
+        let mut drawn = self.drawn.lock(rt);
+        table.exchange_drawn(&mut drawn);
+    }
+
+    /// A band of a frame that is printed, to be let go, if there is one and nobody else is about to take one.
+    pub fn take_drawn(&self) -> Option<Band> {
+        match self.drawn.try_lock() {
+            Some(mut drawn) => drawn.pop(),
+            None => None,
+        }
+    }
+
     /// The board and the mail, once no other thread has them.
     pub fn into_parts(self) -> (SharedBoard<'t, L, M>, BandMail<RunBand<'t, L>>)
         ensures { result.1 ≡ self.entry.mail }
@@ -72,6 +95,7 @@ impl<'t, L: RunLedger, M: Ledger> Hall<'t, L, M> {
             board,
             mail,
             waiting: _,
+            drawn: _,
         } = self;
         (board.into_inner(), mail)
     }

@@ -116,7 +116,9 @@ pub fn next_text<'t, L: RunLedger, M: Ledger, R: Wait + Clock>(
     if inbox.take_all(rt, hall) && hall.waiting.room.count() != 0 {
         hall.waiting.room.call_all();
     }
-    match inbox.table.text(alloc, session, &shown.into_turn()) {
+    let text = inbox.table.text(alloc, session, &shown.into_turn());
+    hall.leave_drawn(rt, &mut inbox.table);
+    match text {
         Ok(Some(text)) => Ok(text),
         Ok(None) => Err(Cause::Stranger),
         Err(_) => Err(Cause::OutOfMemory),

@@ -250,7 +250,11 @@ fn deliver<'t, L: RunLedger, M: Ledger, G: Gate, R: Wait + Clock>(
 {
     let (told, band) = step.deliver();
     let is_out = match band {
-        Some(band) => put_band(rt, hall, putter, RunBand::new(session, band)),
+        Some(band) => {
+            // Its memory is there for the next one.
+            let _drawn = hall.take_drawn();
+            put_band(rt, hall, putter, RunBand::new(session, band))
+        }
         None => true,
     };
     if is_out {
