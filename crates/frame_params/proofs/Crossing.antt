@@ -65,10 +65,10 @@ pub known : (κ : NamedLft) → IsSend (Known.the_row κ)
 known κ = search (session, of_parts, kept_distances_send, kept_distances_sync, sendable, crosses) depth 40
 
 pub frame_start_send : (κ : NamedLft) → IsSend (FrameStart.the_row κ)
-frame_start_send κ = search (session, of_parts, sendable, crosses) depth 40
+frame_start_send κ = search (session, of_parts, kept_distances_send, kept_distances_sync, sendable, crosses) depth 40
 
 pub frame_start_sync : (κ : NamedLft) → IsSync (FrameStart.the_row κ)
-frame_start_sync κ = search (session, of_parts, sendable, crosses) depth 40
+frame_start_sync κ = search (session, of_parts, kept_distances_send, kept_distances_sync, sendable, crosses) depth 40
 
 pub gathered : (κ : NamedLft) → IsSend (Gathered.the_row κ)
 gathered κ = search (of_parts, known, frame_start_send, frame_start_sync, sendable, crosses) depth 40
@@ -87,8 +87,14 @@ turn κ = search (session, of_parts, known, sendable, crosses) depth 40
 pub band_out : (κ : NamedLft) → IsSend (BandOut.the_row κ)
 band_out κ = search (session, of_parts, sendable, crosses) depth 40
 
+pub pending_send : (κ : NamedLft) → IsSend (Pending.the_row κ Global.the_row Global.the_row ghosts ghosts)
+pending_send κ = search (of_parts, of_ticks, sendable, crosses) depth 40 fits 100000
+
+pub pending_sync : (κ : NamedLft) → IsSync (Pending.the_row κ Global.the_row Global.the_row ghosts ghosts)
+pending_sync κ = search (of_parts, of_ticks, sendable, crosses) depth 40 fits 100000
+
 pub parked : (κ : NamedLft) → IsSend (Parked.the_row κ)
-parked κ = search (session, of_parts, of_ticks, sendable, crosses) depth 40 fits 100000
+parked κ = search (session, of_parts, thought, pending_send, pending_sync, sendable, crosses) depth 40 fits 100000
 
 pub step : (κ : NamedLft) → IsSend (Step.the_row κ)
 step κ = search (way, thought, turn, band_out, parked, sendable, crosses) depth 40
@@ -109,14 +115,8 @@ board_step_field κ = search (way, thought, turn, band_mark, parked, sendable, c
 
 -- ---- tasks
 
-pub pending_send : (κ : NamedLft) → IsSend (Pending.the_row κ Global.the_row Global.the_row ghosts ghosts)
-pending_send κ = search (of_parts, of_ticks, sendable, crosses) depth 40 fits 100000
-
-pub pending_sync : (κ : NamedLft) → IsSync (Pending.the_row κ Global.the_row Global.the_row ghosts ghosts)
-pending_sync κ = search (of_parts, of_ticks, sendable, crosses) depth 40 fits 100000
-
 pub think_task : (κ : NamedLft) → IsSend (ThinkTask.the_row κ)
-think_task κ = search (frame_start_send, frame_start_sync, of_parts, pending_send, pending_sync, sendable, crosses) depth 40 fits 100000
+think_task κ = search (frame_start_send, frame_start_sync, of_parts, thought, pending_send, pending_sync, sendable, crosses) depth 40 fits 100000
 
 pub path_task : (κ : NamedLft) → IsSend (PathTask.the_row κ)
 path_task κ = search (frame_start_send, frame_start_sync, of_parts, kept_distances_send, sendable, crosses) depth 40

@@ -47,6 +47,6 @@ no_band t (LogicStep step) hand h = refl
 no_band t (ThinkStep step) hand h = refl
 no_band t (PathStep way) hand h = refl
 no_band (LogicTask l) (DrawStep band) hand h = absurd h
-no_band (ThinkTask t) (DrawStep band) hand h = absurd hand
+no_band (ThinkTask t) (DrawStep band) hand h = absurd h
 no_band (PathTask q) (DrawStep band) hand h = absurd h
 no_band (DrawTask d) (DrawStep band) hand h = absurd hand

@@ -1,13 +1,14 @@
 -- What stands in the parts of a frame: the game's values for their names.
 use Rattle.std.specs.Prelude.{ℕ, ◌≡◌, ◌<◌, ◌-◌, Bool, List, [], Option, map, length, slice_index_or}
 use Rattle.grid_world.specs.Grid.{Grid}
+use Rattle.grid_world.specs.Way.{way}
 use Rattle.grid_world.specs.declared.cell.Answer.{Answer}
 use Rattle.grid_world.specs.declared.cell.Intent.{Intent}
 use Rattle.bt_nodes.specs.declared.node.Status.{Status}
 use Rattle.bt_nodes.specs.Plain.{Plain}
 use Rattle.bt_nodes.specs.Bounds.{Fits}
 use Rattle.game_rules.specs.Game.{Game, signals}
-use Rattle.game_rules.specs.View.{View}
+use Rattle.game_rules.specs.View.{View, cell_of}
 use Rattle.game_rules.specs.Thought.{Thought, ticked, thought, questions, ways, next_answer, last_of}
 use Rattle.game_rules.specs.Play.{play, thoughts}
 use Rattle.game_jobs.specs.Instance.{tree_of, view}
@@ -73,6 +74,10 @@ place_in g f a i = last_of (ticked (seen g f a) (tree_of g a) (memory_before g f
 
 unfoldable pub way_in : Game → ℕ → ℕ → ℕ → Answer
 way_in g f a i = next_answer (seen g f a) (tree_of g a) (memory_before g f a) (ways_in g f a i)
+
+-- the way on which agent a would go to a place
+abbrev pub way_to_in : Game → (f a place : ℕ) → Answer
+way_to_in g f a place = way (seen g f a).world (seen g f a).signals (cell_of (seen g f a)) place
 
 -- ---- what is kept
 

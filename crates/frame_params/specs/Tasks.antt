@@ -43,4 +43,5 @@ IsBeginning task = ⊥
 abbrev pub IsAtHand : Task → Type 0
 IsAtHand (LogicTask l) = l.has_spread ≡ false
 IsAtHand (PathTask q) = Unit {0}
+IsAtHand (ThinkTask t) = Unit {0}
 IsAtHand task = ⊥

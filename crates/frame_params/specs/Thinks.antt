@@ -11,10 +11,12 @@ use Rattle.bt_tick.specs.Outcome.{place_of}
 use Rattle.bt_tick.specs.declared.tick.Pending.{Pending}
 use Rattle.bt_tick.specs.declared.tick.Outcome.{Outcome}
 use Rattle.bt_tick.specs.declared.tick.Outcome.TheVariants.{Asks}
-use Rattle.frame_params.specs.Names.{ThinkOf, part_of, question_of}
+use Rattle.frame_params.specs.Names.{PartOf, ThinkOf, part_of, question_of}
 use Rattle.frame_params.specs.Contents.{signals_in, world_after, seen, memory_before, questions_in, place_in, way_in}
+use Rattle.frame_params.specs.declared.ahead.Ahead.{Ahead}
+use Rattle.frame_params.specs.declared.ahead.Ahead.TheVariants.{Waits, Asks as AsksAhead, Ended as EndedAhead}
 use Rattle.frame_params.specs.declared.stand.Stand.{Stand}
-use Rattle.frame_params.specs.declared.stand.Stand.TheVariants.{Start, Answered}
+use Rattle.frame_params.specs.declared.stand.Stand.TheVariants.{Start, Answered, Asks as AsksStand, Ended as EndedStand}
 use Rattle.frame_params.specs.declared.think_step.ThinkStep.{ThinkStep}
 use Rattle.frame_params.specs.declared.think_step.ThinkStep.TheVariants.{Ended as EndedStep, Asks as AsksStep}
 
@@ -30,7 +32,7 @@ abbrev pub ThinksTo : {A : Type 0} → Game → (f a i : ℕ) → Outcome Global
 ThinksTo g f a i outcome = Thinking (seen g f a) (tree_of g a) (memory_before g f a) i outcome
 
 -- that tick, where it stands at question i
-pub record StandsAt (g : Game) (f a i : ℕ) (p : Pending Global Global) : Type 0 where
+pub record StandsAt {A : Type 0} (g : Game) (f a i : ℕ) (p : Pending Global A) : Type 0 where
   pub there : a < length g.trees
   pub thinks : ThinksTo g f a i (Asks (place_of p) p)
 
@@ -45,20 +47,35 @@ pub record IsWayOf (g : Game) (f a i : ℕ) (answer : Answer) : Type 0 where
   pub way_is : answer ≡ way_in g f a i
 
 -- a tick that stands at question i, with the way that it asks for; a tree has few nodes, and each asks once at most
-pub record GoesOn (g : Game) (f a i : ℕ) (p : Pending Global Global) (answer : Answer) : Type 0 where
+pub record GoesOn {A : Type 0} (g : Game) (f a i : ℕ) (p : Pending Global A) (answer : Answer) : Type 0 where
   pub stands : StandsAt g f a i p
   pub way : IsWayOf g f a i answer
   pub few : i < 255
 
--- a task's tick stands at its start, or at a question to which it has the answer
+-- that tick with its first n answers, where it has ended
+pub record EndsAt (g : Game) (f a n : ℕ) (t : PartOf) : Type 0 where
+  pub all : n ≡ questions_in g f a
+  pub thought_is : t ≡ part_of g f a
+
+-- how a tick that stands at question i goes on: it waits for the answer, or has it and has gone on
+abbrev pub IsAhead : Game → (f a i : ℕ) → Ahead → Type 0
+IsAhead g f a i (Waits p) = StandsAt g f a i (arc_value p)
+IsAhead g f a i (AsksAhead answer p) = IsWayOf g f a i answer × StandsAt g f a (i + 1) (arc_value p)
+IsAhead g f a i (EndedAhead answer t) = IsWayOf g f a i answer × EndsAt g f a (i + 1) t
+
+-- a task's tick stands at its start, at a question to which it has the answer, at one that it has yet to ask, or at its end
 abbrev pub IsStand : Game → ℕ → ℕ → Stand → Type 0
 IsStand g f a Start = Unit {0}
 IsStand g f a (Answered i pending answer) = GoesOn g f a i (arc_value pending) answer
+IsStand g f a (AsksStand i pending) = StandsAt g f a i (arc_value pending)
+IsStand g f a (EndedStand n t) = EndsAt g f a n t
 
 -- how many questions are answered
 abbrev pub answered_at : Stand → ℕ
 answered_at Start = 0
 answered_at (Answered i pending answer) = i + 1
+answered_at (AsksStand i pending) = i
+answered_at (EndedStand n t) = n
 
 -- it ends exactly where all its questions are answered, and else it asks the first of the others
 abbrev pub IsThinkStep : ThinkOf → ThinkStep → Type 0

@@ -1,13 +1,18 @@
-ghost use Rattle.std.specs.Prelude.{◌≡◌, ◌+◌, ◌-◌, ◌^◌, ◌<◌, IfOk, map, length};
+ghost use Rattle.std.specs.Prelude.{◌≡◌, ◌+◌, ◌-◌, ◌^◌, ◌<◌, true, IfOk, IfSome, Some, map, length};
 ghost use Rattle.bt_nodes.specs.Bounds.{zero_memory, Fits};
 ghost use Rattle.game_jobs.specs.Instance.{tree_of};
-ghost use Rattle.frame_params.specs.Contents.{signals_in, world_after, memory_before, AllFit};
+ghost use Rattle.grid_world.specs.Grid.{agent_of, is_on_map, point_of};
+ghost use Rattle.grid_world.specs.World.{point};
+ghost use Rattle.frame_params.specs.Contents.{signals_in, world_after, memory_before, way_to_in, AllFit};
+ghost use Rattle.frame_params.specs.Distances.{known_of, IsGivenIf};
 
+use crate::kept_distances::KeptDistances;
 use crate::kept_memory::KeptMemory;
+use crate::known::Known;
 use crate::turn::Turn;
 use bt_tick::Memory;
 use game_session::Session;
-use grid_world::{Signals, World};
+use grid_world::{Answer, Place, Signals, World};
 use std::alloc::{AllocError, Global};
 use std::marker::Model;
 use std::sync::Arc;
@@ -20,6 +25,8 @@ pub(crate) struct FrameStart<'t> {
     signals: Signals,
     world: Arc<World>,
     memories: Arc<Vec<KeptMemory>>,
+    // What was found under these signals before the frame.
+    known: Known<'t>,
 }
 
 impl<'t> Drop for FrameStart<'t> {
@@ -30,6 +37,7 @@ impl<'t> Drop for FrameStart<'t> {
             signals: _,
             world: _,
             memories: _,
+            known: _,
         } = self;
     }
 }
@@ -39,6 +47,7 @@ impl<'t> Model for FrameStart<'t> {
     ghost use Rattle.std.specs.Arc.{arc_value};
     ghost use Rattle.frame_params.specs.Names.{FrameOf, frame_code};
     ghost use Rattle.frame_params.specs.Contents.{signals_in, IsAfter};
+    ghost use Rattle.frame_params.specs.Distances.{known_of};
 
     ghost Value = { FrameOf };
 
@@ -47,7 +56,8 @@ impl<'t> Model for FrameStart<'t> {
     ghost view = { λ s. record { game = s.session.now; frame = s.frame } };
 
     ghost invariant = { λ s. (0 < s.frame) × (s.signals ≡ signals_in s.session.now s.frame)
-        × IsAfter s.session.now (s.frame - 1) (arc_value s.world) (arc_value s.memories).items };
+        × IsAfter s.session.now (s.frame - 1) (arc_value s.world) (arc_value s.memories).items
+        × (s.known ≡ known_of s.session.now s.signals) };
 }
 
 // A memory of zeros for each agent.
@@ -64,6 +74,16 @@ fn zero_memories(alloc: Global, session: &Session) -> Result<Vec<KeptMemory>, Al
     Ok(memories)
 }
 
+// The cell of an agent.
+fn cell_on(world: &World, agent: u32) -> (u32, u32)
+    requires { agent < length world.now.agents }
+    ensures cell { point result.0 result.1 ≡ point_of (agent_of world.now agent) }
+    ensures there { is_on_map world.now (point result.0 result.1) ≡ true }
+{
+    let here = world.agents()[agent as usize];
+    (here.x, here.y)
+}
+
 impl<'t> FrameStart<'t> {
     #[tactic(auto, unfolding(crate::specs::Contents::world_after, crate::specs::Contents::memories_after))]
     // That of frame 1: the session's world, and memories of zeros.
@@ -72,27 +92,32 @@ impl<'t> FrameStart<'t> {
     {
         let world = session.world().copy(alloc)?;
         let memories = zero_memories(alloc, session)?;
+        let signals = session.script().signals(1);
         Ok(FrameStart {
             session,
             frame: 1,
-            signals: session.script().signals(1),
+            signals,
             world: Arc::new(alloc, world)?,
             memories: Arc::new(alloc, memories)?,
+            known: Known::none(alloc, session, signals)?,
         })
     }
 
-    // That of the frame after a turn's. The world and the memories are the turn's own, so nothing is copied.
-    pub(crate) fn after(turn: &Turn<'t>) -> Result<FrameStart<'t>, AllocError>
+    // That of the frame after a turn's. The world, the memories and, while the signals are equal, the distances are the
+    // turn's own, so nothing is copied.
+    pub(crate) fn after(alloc: Global, turn: &Turn<'t>) -> Result<FrameStart<'t>, AllocError>
         requires { turn.now.frame + 1 < 2 ^ 32 }
         ensures { IfOk result (λ s. s ≡ record { game = turn.now.game; frame = turn.now.frame + 1 }) }
     {
         let frame = turn.frame + 1;
+        let signals = turn.session.script().signals(frame);
         Ok(FrameStart {
             session: turn.session,
             frame,
-            signals: turn.session.script().signals(frame),
+            signals,
             world: Arc::try_clone(&turn.world)?,
             memories: Arc::try_clone(&turn.memories)?,
+            known: turn.known.under(alloc, signals)?,
         })
     }
 
@@ -132,5 +157,31 @@ impl<'t> FrameStart<'t> {
         ensures fits { Fits (tree_of self.now.game agent) result.now }
     {
         self.memories[agent as usize].memory()
+    }
+
+    // The distances that were found under these signals before the frame.
+    pub(crate) fn known(&self) -> &Known<'t>
+        ensures { result.now ≡ known_of self.now.game (signals_in self.now.game self.now.frame) }
+    {
+        &self.known
+    }
+
+    // An agent's way to the place of these distances.
+    pub(crate) fn way_by(&self, distances: &KeptDistances<'t>, place: Place, agent: u32) -> Answer
+        requires there { agent < length self.now.game.trees }
+        requires place { IsGivenIf self.now.game (signals_in self.now.game self.now.frame) place (Some distances.now) }
+        ensures { result ≡ way_to_in self.now.game self.now.frame agent place }
+    {
+        let _ = place;
+        distances.way(cell_on(self.world(), agent))
+    }
+
+    // An agent's way to a place, where the distances to it were known before the frame.
+    pub(crate) fn known_way(&self, place: Place, agent: u32) -> Option<Answer>
+        requires { agent < length self.now.game.trees }
+        ensures { IfSome result (λ x. x ≡ way_to_in self.now.game self.now.frame agent place) }
+    {
+        let known = self.known().to(place)?;
+        Some(self.way_by(known, place, agent))
     }
 }

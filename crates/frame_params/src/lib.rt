@@ -2,6 +2,7 @@
 //! frame and numbers, so callers see it as these alone.
 #![tactic(auto)]
 
+mod ahead;
 mod band_mark;
 mod band_out;
 mod board_step;
@@ -24,6 +25,7 @@ mod task;
 mod think_step;
 mod think_task;
 mod thought;
+mod ticking;
 mod turn;
 mod way;
 

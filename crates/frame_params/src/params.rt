@@ -50,7 +50,7 @@ impl<'t> FrameParams<'t> {
         ensures { IfOk result (λ p. p ≡ record { game = session.now; frame = 1 }) }
     {
         let start = FrameStart::first(alloc, session)?;
-        let known = Known::none(alloc, session, start.signals())?;
+        let known = start.known().share()?;
         Ok(FrameParams {
             start: Arc::new(alloc, start)?,
             known,
@@ -63,8 +63,8 @@ impl<'t> FrameParams<'t> {
         requires { turn.now.frame + 1 < 2 ^ 32 }
         ensures { IfOk result (λ p. p ≡ record { game = turn.now.game; frame = turn.now.frame + 1 }) }
     {
-        let start = FrameStart::after(turn)?;
-        let known = turn.known.under(alloc, start.signals())?;
+        let start = FrameStart::after(alloc, turn)?;
+        let known = start.known().share()?;
         Ok(FrameParams {
             start: Arc::new(alloc, start)?,
             known,

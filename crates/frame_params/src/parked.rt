@@ -1,12 +1,11 @@
 ghost use Rattle.std.specs.Prelude.{◌≡◌, ◌<◌};
 ghost use Rattle.frame_params.specs.Contents.{questions_in};
 
-use bt_tick::Pending;
+use crate::ahead::Ahead;
 use game_session::Session;
+use grid_world::Place;
 use job_core::names::JobName;
-use std::alloc::Global;
 use std::marker::Model;
-use std::sync::Arc;
 
 /// An agent's tick in a frame that stands at one of its path questions.
 pub struct Parked<'t> {
@@ -14,8 +13,8 @@ pub struct Parked<'t> {
     pub(crate) frame: u32,
     pub(crate) agent: u32,
     pub(crate) question: u32,
-    // Shared with the task that goes on with it.
-    pub(crate) pending: Arc<Pending<'t, Global, Global>>,
+    pub(crate) place: Place,
+    pub(crate) ahead: Ahead<'t>,
 }
 
 impl<'t> Drop for Parked<'t> {
@@ -25,24 +24,27 @@ impl<'t> Drop for Parked<'t> {
             frame: _,
             agent: _,
             question: _,
-            pending: _,
+            place: _,
+            ahead: _,
         } = self;
     }
 }
 
 impl<'t> Model for Parked<'t> {
-    ghost use Rattle.std.specs.Arc.{arc_value};
+    ghost use Rattle.std.specs.Prelude.{◌<◌, length};
     ghost use Rattle.frame_params.specs.Names.{QuestionOf, question_code};
 
     ghost Value = { QuestionOf };
 
     ghost coded = { question_code };
 
-    ghost use Rattle.frame_params.specs.Thinks.{StandsAt};
+    ghost use Rattle.frame_params.specs.Thinks.{AsksFor, IsAhead};
 
     ghost view = { λ p. record { game = p.session.now; frame = p.frame; agent = p.agent; question = p.question } };
 
-    ghost invariant = { λ p. StandsAt p.session.now p.frame p.agent p.question (arc_value p.pending) };
+    ghost invariant = { λ p. (p.agent < length p.session.now.trees)
+        × AsksFor p.session.now p.frame p.agent p.question p.place
+        × IsAhead p.session.now p.frame p.agent p.question p.ahead };
 }
 
 impl<'t> Parked<'t> {

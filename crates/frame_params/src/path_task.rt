@@ -1,6 +1,4 @@
-ghost use Rattle.std.specs.Prelude.{◌≡◌, ◌<◌, true, IfOk, length};
-ghost use Rattle.grid_world.specs.Grid.{agent_of, is_on_map, point_of};
-ghost use Rattle.grid_world.specs.World.{point};
+ghost use Rattle.std.specs.Prelude.{◌≡◌, IfOk};
 ghost use Rattle.frame_params.specs.Contents.{signals_in, way_in};
 ghost use Rattle.frame_params.specs.Distances.{IsUnderIf};
 
@@ -10,7 +8,7 @@ use crate::params::FrameParams;
 use crate::parked::Parked;
 use crate::way::Way;
 use game_session::Session;
-use grid_world::{Answer, Place, World};
+use grid_world::{Answer, Place};
 use job_core::names::JobName;
 use std::alloc::{AllocError, Allocator, Global};
 use std::marker::Model;
@@ -22,6 +20,8 @@ pub struct PathTask<'t> {
     agent: u32,
     question: u32,
     place: Place,
+    // The way, where the tick that asks has gone on with it.
+    answer: Option<Answer>,
     // The distances to the place, where they are known.
     known: Option<KeptDistances<'t>>,
 }
@@ -33,13 +33,14 @@ impl<'t> Drop for PathTask<'t> {
             agent: _,
             question: _,
             place: _,
+            answer: _,
             known: _,
         } = self;
     }
 }
 
 impl<'t> Model for PathTask<'t> {
-    ghost use Rattle.std.specs.Prelude.{◌<◌, length};
+    ghost use Rattle.std.specs.Prelude.{◌<◌, IfSome, length};
     ghost use Rattle.std.specs.Arc.{arc_value};
     ghost use Rattle.frame_params.specs.Names.{QuestionOf, question_code};
 
@@ -48,7 +49,7 @@ impl<'t> Model for PathTask<'t> {
     ghost coded = { question_code };
 
     ghost use Rattle.frame_params.specs.Contents.{signals_in};
-    ghost use Rattle.frame_params.specs.Thinks.{AsksFor};
+    ghost use Rattle.frame_params.specs.Thinks.{AsksFor, IsWayOf};
     ghost use Rattle.frame_params.specs.Distances.{IsGivenIf};
 
     ghost view = { λ t. record {
@@ -60,17 +61,8 @@ impl<'t> Model for PathTask<'t> {
 
     ghost invariant = { λ t. (t.agent < length (arc_value t.start).game.trees)
         × AsksFor (arc_value t.start).game (arc_value t.start).frame t.agent t.question t.place
+        × IfSome t.answer (IsWayOf (arc_value t.start).game (arc_value t.start).frame t.agent t.question)
         × IsGivenIf (arc_value t.start).game (signals_in (arc_value t.start).game (arc_value t.start).frame) t.place t.known };
-}
-
-// The cell of an agent.
-fn cell_of(world: &World, agent: u32) -> (u32, u32)
-    requires { agent < length world.now.agents }
-    ensures cell { point result.0 result.1 ≡ point_of (agent_of world.now agent) }
-    ensures there { is_on_map world.now (point result.0 result.1) ≡ true }
-{
-    let here = world.agents()[agent as usize];
-    (here.x, here.y)
 }
 
 impl<'t> PathTask<'t> {
@@ -85,13 +77,18 @@ impl<'t> PathTask<'t> {
         requires frame { parked.now.frame ≡ params.now.frame }
         ensures { IfOk result (λ t. t ≡ parked.now) }
     {
-        let place = parked.pending.place();
-        let known = params.known.shared_to(place)?;
+        let place = parked.place;
+        let answer = parked.ahead.answer();
+        let known = match answer {
+            Some(_) => None,
+            None => params.known.shared_to(place)?,
+        };
         Ok(PathTask {
             start: params.share()?,
             agent: parked.agent,
             question: parked.question,
             place,
+            answer,
             known,
         })
     }
@@ -112,9 +109,9 @@ impl<'t> PathTask<'t> {
         }
     }
 
-    // Whether the distances to the place are known.
+    // Whether the way or the distances to the place are known.
     pub(crate) fn is_known(&self) -> bool {
-        self.known.is_some()
+        self.answer.is_some() || self.known.is_some()
     }
 
     // The way, and the distances if they were not known.
@@ -126,14 +123,16 @@ impl<'t> PathTask<'t> {
         ensures way { IfOk result (λ parts. parts.0 ≡ way_in self.now.game self.now.frame self.now.agent self.now.question) }
         ensures found { IfOk result (λ parts. IsUnderIf self.now.game (signals_in self.now.game self.now.frame) parts.1) }
     {
+        if let Some(answer) = self.answer {
+            return Ok((answer, None));
+        }
         let start: &FrameStart<'t> = &self.start;
-        let from = cell_of(start.world(), self.agent);
         if let Some(known) = &self.known {
-            return Ok((known.way(from), None));
+            return Ok((start.way_by(known, self.place, self.agent), None));
         }
         match KeptDistances::to(alloc, scratch, start.session(), start.signals(), self.place)? {
             None => Ok((Answer::NoWay, None)),
-            Some(found) => Ok((found.way(from), Some(found))),
+            Some(found) => Ok((start.way_by(&found, self.place, self.agent), Some(found))),
         }
     }
 

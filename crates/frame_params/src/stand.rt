@@ -1,10 +1,11 @@
+use crate::thought::Thought;
 use bt_tick::Pending;
 use grid_world::Answer;
 use std::alloc::Global;
 use std::sync::Arc;
 
-// Where a tick stands that is to go on: at its start, or at a question that has its answer. A tick is shared with the one
-// that was parked.
+// Where a tick stands that is to go on: at its start, at a question that has its answer, or, where an answer was at hand
+// before, at its next question or its end. A tick is shared with the one that was parked.
 #[derive(Drop)]
 pub(crate) enum Stand<'t> {
     Start,
@@ -12,5 +13,13 @@ pub(crate) enum Stand<'t> {
         question: u32,
         pending: Arc<Pending<'t, Global, Global>>,
         answer: Answer,
+    },
+    Asks {
+        question: u32,
+        pending: Arc<Pending<'t, Global, Global>>,
+    },
+    Ended {
+        questions: u32,
+        thought: Thought<'t>,
     },
 }

@@ -52,7 +52,8 @@ impl<'t> Task<'t> {
         match self {
             Task::Logic(task) => task.is_at_start(),
             Task::Path(task) => task.is_known(),
-            Task::Think(_) | Task::Draw(_) => false,
+            Task::Think(task) => task.has_ended(),
+            Task::Draw(_) => false,
         }
     }
 

@@ -1,25 +1,17 @@
-ghost use Rattle.std.specs.Prelude.{◌≡◌, ◌+◌, ◌<◌, ℕ, List, IfOk, length};
-ghost use Rattle.grid_world.specs.Way.{way};
-ghost use Rattle.bt_nodes.specs.Plain.{Plain};
-ghost use Rattle.bt_nodes.specs.Bounds.{Fits};
-ghost use Rattle.game_rules.specs.View.{cell_of};
-ghost use Rattle.game_jobs.specs.Instance.{tree_of};
-ghost use Rattle.bt_tick.specs.Views.{view_of, IsInWorld};
-ghost use Rattle.bt_tick.specs.Outcome.{place_of};
-ghost use Rattle.bt_tick.specs.Thinking.{Thinking};
-ghost use Rattle.bt_tick.specs.declared.tick.Outcome.TheVariants.{Asks};
+ghost use Rattle.std.specs.Prelude.{◌≡◌, ◌+◌, ◌<◌, IfOk, length};
 
+use crate::ahead::Ahead;
 use crate::frame_start::FrameStart;
-use crate::kept_memory::KeptMemory;
 use crate::params::FrameParams;
 use crate::parked::Parked;
 use crate::stand::Stand;
 use crate::think_step::ThinkStep;
 use crate::thought::Thought;
+use crate::ticking::{begun, copy_gone_on};
 use crate::way::Way;
-use bt_tick::{Memory, Outcome, Pending, View, begin, resume};
+use bt_tick::Outcome;
 use game_session::Session;
-use grid_world::Answer;
+use grid_world::Place;
 use job_core::names::JobName;
 use std::alloc::{AllocError, Allocator, Global};
 use std::marker::Model;
@@ -64,48 +56,8 @@ impl<'t> Model for ThinkTask<'t> {
         × IsStand (arc_value t.start).game (arc_value t.start).frame t.agent t.stand };
 }
 
-// Begins the tick of the view's agent, with a copy of its memory. The nodes that it has open lie in `scratch`.
-fn begun<'t, A: Allocator + Clone>(
-    alloc: Global,
-    scratch: A,
-    session: &'t Session,
-    view: &View,
-    memory: &Memory,
-) -> Result<Outcome<'t, Global, A>, AllocError>
-    requires there { view.now.agent < length session.now.trees }
-    requires agent { IsInWorld view.now }
-    requires fits { Fits (tree_of session.now view.now.agent) memory.now }
-    ensures { IfOk result (λ o. Thinking (view_of view.now) (tree_of session.now view.now.agent) memory.now 0 o) }
-{
-    let tree = session.tree_of(view.agent);
-    match begin(scratch, tree, view, memory.copy(alloc)?) {
-        Ok(outcome) => Ok(outcome),
-        Err(_) => Err(AllocError),
-    }
-}
-
-// Goes on with a copy in `scratch` of a tick that stands, by the way to the place for which it asks.
-fn resumed<'t, A: Allocator + Clone>(
-    scratch: A,
-    view: &View,
-    pending: &Pending<'t, Global, Global>,
-    answer: Answer,
-) -> Result<Outcome<'t, Global, A>, AllocError>
-    requires agent { IsInWorld view.now }
-    requires way { answer ≡ way view.now.world.now view.now.signals (cell_of (view_of view.now)) (place_of pending.now) }
-    ensures { IfOk result (λ o. (tree : Plain) (memory : List ℕ) (i : ℕ)
-        → Thinking (view_of view.now) tree memory i (Asks (place_of pending.now) pending.now)
-        → Thinking (view_of view.now) tree memory (i + 1) o) }
-{
-    let copy = pending.copy_in(scratch.clone()?)?;
-    match resume(scratch, copy, view, answer) {
-        Ok(outcome) => Ok(outcome),
-        Err(_) => Err(AllocError),
-    }
-}
-
 impl<'t> ThinkTask<'t> {
-    ghost use Rattle.frame_params.specs.Thinks.{ThinksTo, IsThinkStep};
+    ghost use Rattle.frame_params.specs.Thinks.{ThinksTo, AsksFor, IsAhead, IsThinkStep};
 
     /// An agent's thought in a frame at its start. What it reads is the frame's own, so nothing is copied.
     pub fn start(
@@ -139,16 +91,17 @@ impl<'t> ThinkTask<'t> {
         let nodes = parked.session.tree_of(parked.agent).size();
         prove!(u64::from(parked.question) < nodes);
         let start = params.share()?;
-        let pending = Arc::try_clone(&parked.pending)?;
+        let stand = parked.ahead.stand(parked.question, way.answer())?;
         Ok(ThinkTask {
             start,
             agent: parked.agent,
-            stand: Stand::Answered {
-                question: parked.question,
-                pending,
-                answer: way.answer(),
-            },
+            stand,
         })
+    }
+
+    // Whether the tick has ended before, so that there is next to nothing to do.
+    pub(crate) fn has_ended(&self) -> bool {
+        matches!(self.stand, Stand::Ended { .. })
     }
 
     pub fn session(&self) -> &'t Session
@@ -179,56 +132,60 @@ impl<'t> ThinkTask<'t> {
         match &self.stand {
             Stand::Start => 0,
             Stand::Answered { question, .. } => *question + 1,
+            Stand::Asks { question, .. } => *question,
+            Stand::Ended { questions, .. } => *questions,
         }
     }
 
-    // Ticks the tree from where it stands, to its end or to its next question.
-    fn ticked<A: Allocator + Clone>(
-        &self,
-        alloc: Global,
-        scratch: A,
-    ) -> Result<Outcome<'t, Global, A>, AllocError>
-        ensures there { self.now.agent < length self.now.game.trees }
-        ensures thinks { IfOk result (λ o. ThinksTo self.now.game self.now.frame self.now.agent self.now.answered o) }
+    // The tick at its next question.
+    fn parked(&self, place: Place, ahead: Ahead<'t>) -> Parked<'t>
+        requires there { self.now.agent < length self.now.game.trees }
+        requires asks { AsksFor self.now.game self.now.frame self.now.agent self.now.answered place }
+        requires ahead { IsAhead self.now.game self.now.frame self.now.agent self.now.answered ahead }
+        ensures { result ≡ record { game = self.now.game; frame = self.now.frame; agent = self.now.agent; question = self.now.answered } }
     {
-        let start: &FrameStart<'t> = &self.start;
-        let view = View {
-            world: start.world(),
-            signals: start.signals(),
-            agent: self.agent,
-        };
-        match &self.stand {
-            Stand::Start => Ok(begun(
-                alloc,
-                scratch,
-                start.session(),
-                &view,
-                start.memory_of(self.agent),
-            )?),
-            Stand::Answered {
-                question: _,
-                pending,
-                answer,
-            } => Ok(resumed(scratch, &view, pending, *answer)?),
-        }
-    }
-
-    // A tick that stands at the next question, taken out of where it was ticked.
-    fn parked<A: Allocator>(
-        &self,
-        alloc: Global,
-        pending: Pending<'t, Global, A>,
-    ) -> Result<Parked<'t>, AllocError>
-        requires { ThinksTo self.now.game self.now.frame self.now.agent self.now.answered (Asks (place_of pending) pending) }
-        ensures { IfOk result (λ p. p ≡ record { game = self.now.game; frame = self.now.frame; agent = self.now.agent; question = self.now.answered }) }
-    {
-        Ok(Parked {
+        Parked {
             session: self.session(),
             frame: self.frame(),
             agent: self.agent,
             question: self.answered(),
-            pending: Arc::new(alloc, pending.move_in(alloc)?)?,
-        })
+            place,
+            ahead,
+        }
+    }
+
+    // The step of a tick that came to this. Where the answer to its next question is at hand it goes on at once.
+    fn step<A: Allocator + Clone>(
+        &self,
+        alloc: Global,
+        scratch: A,
+        outcome: Outcome<'t, Global, A>,
+    ) -> Result<ThinkStep<'t>, AllocError>
+        requires there { self.now.agent < length self.now.game.trees }
+        requires thinks { ThinksTo self.now.game self.now.frame self.now.agent self.now.answered outcome }
+        ensures { IfOk result (λ step. IsThinkStep self.now step) }
+    {
+        let start: &FrameStart<'t> = &self.start;
+        match outcome {
+            Outcome::Ended {
+                status,
+                memory,
+                intent,
+            } => Ok(ThinkStep::Ended(Thought::at_end(
+                alloc,
+                start,
+                self.agent,
+                self.answered(),
+                status,
+                memory,
+                intent,
+            )?)),
+            Outcome::Asks { place: _, pending } => {
+                let place = pending.place();
+                let ahead = Ahead::of(alloc, scratch, start, self.agent, self.answered(), pending)?;
+                Ok(ThinkStep::Asks(self.parked(place, ahead)))
+            }
+        }
     }
 
     /// Ticks the tree to its end or to its next question, in the world of the frame before, whatever other agents came
@@ -249,23 +206,30 @@ impl<'t> ThinkTask<'t> {
     ) -> Result<ThinkStep<'t>, AllocError>
         ensures { IfOk result (λ step. IsThinkStep self.now step) }
     {
-        match self.ticked(alloc, scratch)? {
-            Outcome::Ended {
-                status,
-                memory,
-                intent,
-            } => Ok(ThinkStep::Ended(Thought {
-                session: self.session(),
-                frame: self.frame(),
-                agent: self.agent,
-                questions: self.answered(),
-                status,
-                memory: KeptMemory::new(alloc, memory)?,
-                intent,
-            })),
-            Outcome::Asks { place: _, pending } => {
-                Ok(ThinkStep::Asks(self.parked(alloc, pending)?))
+        let start: &FrameStart<'t> = &self.start;
+        match &self.stand {
+            Stand::Start => {
+                let outcome = begun(alloc, scratch.clone()?, start, self.agent)?;
+                Ok(self.step(alloc, scratch, outcome)?)
             }
+            Stand::Answered {
+                question: _,
+                pending,
+                answer,
+            } => {
+                let outcome = copy_gone_on(scratch.clone()?, start, self.agent, pending, *answer)?;
+                Ok(self.step(alloc, scratch, outcome)?)
+            }
+            Stand::Asks { question, pending } => {
+                let ahead = Ahead::of_shared(
+                    alloc, scratch, start, self.agent, *question, pending,
+                )?;
+                Ok(ThinkStep::Asks(self.parked(pending.place(), ahead)))
+            }
+            Stand::Ended {
+                questions: _,
+                thought,
+            } => Ok(ThinkStep::Ended(thought.share()?)),
         }
     }
 }

@@ -1,12 +1,9 @@
 use Rattle.std.proofs.Common.{◌<◌, subst}
-use Rattle.std.specs.Arc.{arc_value}
 use Rattle.frame_params.specs.Names.{QuestionOf}
 use Rattle.frame_params.specs.Contents.{questions_in}
-use Rattle.frame_params.proofs.CutThoughts.{asks_for}
 use Rattle.frame_params.proofs.parked.Parked.index.Goals as goal
 
 pub returns-clause-asks : goal.returns-clause-asks
 returns-clause-asks c =
     let x = c.self.inside in
-    subst (λ (q : QuestionOf). x.question < questions_in q.game q.frame q.agent) c.self.view_is
-    (asks_for x.session.now x.frame x.agent x.question (arc_value x.pending) c.self.invariant).asks
+    subst (λ (q : QuestionOf). x.question < questions_in q.game q.frame q.agent) c.self.view_is c.self.invariant.1.asks
