@@ -7,7 +7,6 @@ use Rattle.grid_world.specs.Way.{way}
 use Rattle.grid_world.specs.declared.cell.Answer.{Answer}
 use Rattle.grid_world.specs.declared.cell.Intent.{Intent}
 use Rattle.bt_nodes.specs.declared.node.Status.{Status}
-use Rattle.bt_nodes.specs.Plain.{Plain}
 use Rattle.bt_nodes.specs.Sizes.{size}
 use Rattle.game_rules.specs.Game.{Game, signals}
 use Rattle.game_rules.specs.Play.{play}
@@ -23,7 +22,7 @@ use Rattle.bt_tick.specs.declared.tick.Outcome.TheVariants.{Ended, Asks}
 use Rattle.bt_tick.proofs.CutTicks.{asks_now, still_asks, ended_asks, thinking_copied, thinking_ended, thinking_resumed}
 use Rattle.frame_params.specs.Names.{FrameOf}
 use Rattle.frame_params.specs.Contents.{world_after, memories_after, signals_in, seen, memory_before, thought_in, questions_in, ways_in, place_in, way_in, way_to_in}
-use Rattle.frame_params.specs.Thinks.{Sees, ThinksTo, StandsAt, AsksFor, IsWayOf}
+use Rattle.frame_params.specs.Thinks.{Sees, ThinksTo, StandsAt, AsksFor, IsWayOf, EndsAt}
 
 -- what an agent sees
 pub sees_is : (g : Game) (f a : ℕ) (world : Grid) (on : List Bool) → Sees g f a world on → view on world a ≡ seen g f a
@@ -81,6 +80,13 @@ module _ (g : Game) (f a i : ℕ) where
       → record { status = st; memory = memory; intent = intent } ≡ thought_in g f a
   unfolding thought_in
   ended_thought st memory intent t = thinking_ended (seen g f a) (tree_of g a) (memory_before g f a) i st memory intent t
+
+  pub ends_at : {A : Type 0} (st : Status) (memory : List ℕ) (intent : Intent) → ThinksTo {A = A} g f a i (Ended st memory intent) → EndsAt g f a i st memory intent
+  ends_at st memory intent t = record {
+    all = ended_all st memory intent t;
+    thought_is = ended_thought st memory intent t;
+    fits = t.tree;
+  }
 
 -- the job core's number of questions
 pub asked_is : (g : Game) (f a : ℕ) → 0 < f → questions_in g f a ≡ asked_in g f a

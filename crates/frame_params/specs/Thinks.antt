@@ -4,6 +4,9 @@ use Rattle.std.specs.Arc.{arc_value}
 use Rattle.std.specs.declared.alloc.Global.{Global}
 use Rattle.grid_world.specs.Grid.{Grid}
 use Rattle.grid_world.specs.declared.cell.Answer.{Answer}
+use Rattle.grid_world.specs.declared.cell.Intent.{Intent}
+use Rattle.bt_nodes.specs.declared.node.Status.{Status}
+use Rattle.bt_nodes.specs.Bounds.{Fits}
 use Rattle.game_rules.specs.Game.{Game}
 use Rattle.game_jobs.specs.Instance.{tree_of}
 use Rattle.bt_tick.specs.Thinking.{Thinking}
@@ -11,8 +14,8 @@ use Rattle.bt_tick.specs.Outcome.{place_of}
 use Rattle.bt_tick.specs.declared.tick.Pending.{Pending}
 use Rattle.bt_tick.specs.declared.tick.Outcome.{Outcome}
 use Rattle.bt_tick.specs.declared.tick.Outcome.TheVariants.{Asks}
-use Rattle.frame_params.specs.Names.{PartOf, ThinkOf, part_of, question_of}
-use Rattle.frame_params.specs.Contents.{signals_in, world_after, seen, memory_before, questions_in, place_in, way_in}
+use Rattle.frame_params.specs.Names.{ThinkOf, part_of, question_of}
+use Rattle.frame_params.specs.Contents.{signals_in, world_after, seen, memory_before, thought_in, questions_in, place_in, way_in}
 use Rattle.frame_params.specs.declared.ahead.Ahead.{Ahead}
 use Rattle.frame_params.specs.declared.ahead.Ahead.TheVariants.{Waits, Asks as AsksAhead, Ended as EndedAhead}
 use Rattle.frame_params.specs.declared.stand.Stand.{Stand}
@@ -53,29 +56,30 @@ pub record GoesOn {A : Type 0} (g : Game) (f a i : ℕ) (p : Pending Global A) (
   pub few : i < 255
 
 -- that tick with its first n answers, where it has ended
-pub record EndsAt (g : Game) (f a n : ℕ) (t : PartOf) : Type 0 where
+pub record EndsAt (g : Game) (f a n : ℕ) (status : Status) (memory : List ℕ) (intent : Intent) : Type 0 where
   pub all : n ≡ questions_in g f a
-  pub thought_is : t ≡ part_of g f a
+  pub thought_is : record { status = status; memory = memory; intent = intent } ≡ thought_in g f a
+  pub fits : Fits (tree_of g a) memory
 
 -- how a tick that stands at question i goes on: it waits for the answer, or has it and has gone on
 abbrev pub IsAhead : Game → (f a i : ℕ) → Ahead → Type 0
 IsAhead g f a i (Waits p) = StandsAt g f a i (arc_value p)
 IsAhead g f a i (AsksAhead answer p) = IsWayOf g f a i answer × StandsAt g f a (i + 1) (arc_value p)
-IsAhead g f a i (EndedAhead answer t) = IsWayOf g f a i answer × EndsAt g f a (i + 1) t
+IsAhead g f a i (EndedAhead answer status memory intent) = IsWayOf g f a i answer × EndsAt g f a (i + 1) status memory intent
 
 -- a task's tick stands at its start, at a question to which it has the answer, at one that it has yet to ask, or at its end
 abbrev pub IsStand : Game → ℕ → ℕ → Stand → Type 0
 IsStand g f a Start = Unit {0}
 IsStand g f a (Answered i pending answer) = GoesOn g f a i (arc_value pending) answer
 IsStand g f a (AsksStand i pending) = StandsAt g f a i (arc_value pending)
-IsStand g f a (EndedStand n t) = EndsAt g f a n t
+IsStand g f a (EndedStand n status memory intent) = EndsAt g f a n status memory intent
 
 -- how many questions are answered
 abbrev pub answered_at : Stand → ℕ
 answered_at Start = 0
 answered_at (Answered i pending answer) = i + 1
 answered_at (AsksStand i pending) = i
-answered_at (EndedStand n t) = n
+answered_at (EndedStand n status memory intent) = n
 
 -- it ends exactly where all its questions are answered, and else it asks the first of the others
 abbrev pub IsThinkStep : ThinkOf → ThinkStep → Type 0

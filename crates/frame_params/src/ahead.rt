@@ -4,11 +4,12 @@ ghost use Rattle.game_rules.specs.Game.{Game};
 ghost use Rattle.frame_params.specs.Thinks.{ThinksTo, StandsAt, IsWayOf, IsAhead, IsStand, answered_at};
 
 use crate::frame_start::FrameStart;
+use crate::kept_memory::KeptMemory;
 use crate::stand::Stand;
-use crate::thought::Thought;
 use crate::ticking::{copy_gone_on, gone_on};
+use bt_nodes::Status;
 use bt_tick::{Outcome, Pending};
-use grid_world::Answer;
+use grid_world::{Answer, Intent};
 use std::alloc::{AllocError, Allocator, Global};
 use std::sync::Arc;
 
@@ -26,7 +27,9 @@ pub(crate) enum Ahead<'t> {
     // With this answer it has ended.
     Ended {
         answer: Answer,
-        thought: Thought<'t>,
+        status: Status,
+        memory: KeptMemory,
+        intent: Intent,
     },
 }
 
@@ -50,16 +53,12 @@ impl<'t> Ahead<'t> {
                 status,
                 memory,
                 intent,
-            } => {
-                // A tick asks at most as often as its tree has nodes.
-                let nodes = start.session().tree_of(agent).size();
-                prove!(u64::from(question) < nodes);
-                let questions = question + 1;
-                let thought = Thought::at_end(
-                    alloc, start, agent, questions, status, memory, intent,
-                )?;
-                Ok(Ahead::Ended { answer, thought })
-            }
+            } => Ok(Ahead::Ended {
+                answer,
+                status,
+                memory: KeptMemory::new(alloc, memory)?,
+                intent,
+            }),
             Outcome::Asks { place: _, pending } => {
                 let pending = Arc::new(alloc, pending.move_in(alloc)?)?;
                 Ok(Ahead::Asks { answer, pending })
@@ -136,9 +135,16 @@ impl<'t> Ahead<'t> {
                 question: question + 1,
                 pending: Arc::try_clone(pending)?,
             }),
-            Ahead::Ended { answer: _, thought } => Ok(Stand::Ended {
+            Ahead::Ended {
+                answer: _,
+                status,
+                memory,
+                intent,
+            } => Ok(Stand::Ended {
                 questions: question + 1,
-                thought: thought.share()?,
+                status: *status,
+                memory: memory.share()?,
+                intent: *intent,
             }),
         }
     }

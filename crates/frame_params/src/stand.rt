@@ -1,6 +1,7 @@
-use crate::thought::Thought;
+use crate::kept_memory::KeptMemory;
+use bt_nodes::Status;
 use bt_tick::Pending;
-use grid_world::Answer;
+use grid_world::{Answer, Intent};
 use std::alloc::Global;
 use std::sync::Arc;
 
@@ -20,6 +21,8 @@ pub(crate) enum Stand<'t> {
     },
     Ended {
         questions: u32,
-        thought: Thought<'t>,
+        status: Status,
+        memory: KeptMemory,
+        intent: Intent,
     },
 }

@@ -2,6 +2,7 @@ ghost use Rattle.std.specs.Prelude.{◌≡◌, ◌+◌, ◌<◌, IfOk, length};
 
 use crate::ahead::Ahead;
 use crate::frame_start::FrameStart;
+use crate::kept_memory::KeptMemory;
 use crate::params::FrameParams;
 use crate::parked::Parked;
 use crate::stand::Stand;
@@ -171,15 +172,17 @@ impl<'t> ThinkTask<'t> {
                 status,
                 memory,
                 intent,
-            } => Ok(ThinkStep::Ended(Thought::at_end(
-                alloc,
-                start,
-                self.agent,
-                self.answered(),
-                status,
-                memory,
-                intent,
-            )?)),
+            } => {
+                let memory = KeptMemory::new(alloc, memory)?;
+                Ok(ThinkStep::Ended(Thought::at_end(
+                    start,
+                    self.agent,
+                    self.answered(),
+                    status,
+                    memory,
+                    intent,
+                )))
+            }
             Outcome::Asks { place: _, pending } => {
                 let place = pending.place();
                 let ahead = Ahead::of(alloc, scratch, start, self.agent, self.answered(), pending)?;
@@ -227,9 +230,16 @@ impl<'t> ThinkTask<'t> {
                 Ok(ThinkStep::Asks(self.parked(pending.place(), ahead)))
             }
             Stand::Ended {
-                questions: _,
-                thought,
-            } => Ok(ThinkStep::Ended(thought.share()?)),
+                questions,
+                status,
+                memory,
+                intent,
+            } => {
+                let memory = memory.share()?;
+                Ok(ThinkStep::Ended(Thought::at_end(
+                    start, self.agent, *questions, *status, memory, *intent,
+                )))
+            }
         }
     }
 }

@@ -1,16 +1,15 @@
-ghost use Rattle.std.specs.Prelude.{◌≡◌, IfOk};
+ghost use Rattle.std.specs.Prelude.{◌≡◌};
 ghost use Rattle.bt_nodes.specs.Bounds.{Fits};
 ghost use Rattle.game_jobs.specs.Instance.{tree_of};
 ghost use Rattle.frame_params.specs.Contents.{thought_in, questions_in};
+ghost use Rattle.frame_params.specs.Thinks.{EndsAt};
 
 use crate::frame_start::FrameStart;
 use crate::kept_memory::KeptMemory;
 use bt_nodes::Status;
-use bt_tick::Memory;
 use game_session::Session;
 use grid_world::Intent;
 use job_core::names::JobName;
-use std::alloc::{AllocError, Global};
 use std::marker::Model;
 
 /// What an agent thought in a frame: its tick's answer, its memory after it, and what it wants to do.
@@ -88,43 +87,25 @@ impl<'t> Thought<'t> {
 
     // That of an agent whose tick has ended with its answers to so many questions.
     pub(crate) fn at_end(
-        alloc: Global,
         start: &FrameStart<'t>,
         agent: u32,
         questions: u32,
         status: Status,
-        memory: Memory,
+        memory: KeptMemory,
         intent: Intent,
-    ) -> Result<Thought<'t>, AllocError>
-        requires thought { record { status = status; memory = memory; intent = intent } ≡ thought_in start.now.game start.now.frame agent }
-        requires all { questions ≡ questions_in start.now.game start.now.frame agent }
-        requires fits { Fits (tree_of start.now.game agent) memory }
-        ensures { IfOk result (λ t. t ≡ record { game = start.now.game; frame = start.now.frame; number = agent }) }
+    ) -> Thought<'t>
+        requires { EndsAt start.now.game start.now.frame agent questions status memory intent }
+        ensures { result ≡ record { game = start.now.game; frame = start.now.frame; number = agent } }
     {
-        Ok(Thought {
+        Thought {
             session: start.session(),
             frame: start.frame(),
             agent,
             questions,
             status,
-            memory: KeptMemory::new(alloc, memory)?,
+            memory,
             intent,
-        })
-    }
-
-    // The same thought once more; nothing is copied.
-    pub(crate) fn share(&self) -> Result<Thought<'t>, AllocError>
-        ensures { IfOk result (λ t. t ≡ self.now) }
-    {
-        Ok(Thought {
-            session: self.session,
-            frame: self.frame,
-            agent: self.agent,
-            questions: self.questions,
-            status: self.status,
-            memory: self.memory.share()?,
-            intent: self.intent,
-        })
+        }
     }
 
     // The tick's answer.

@@ -1,5 +1,4 @@
-use Rattle.std.proofs.Common.{◌∙◌, ◌-◌, ap, sym}
-use Rattle.std.specs.Prelude.{true}
+use Rattle.std.proofs.Common.{◌∙◌, ◌-◌, ap}
 use Rattle.grid_world.specs.Grid.{is_on_map}
 use Rattle.grid_world.specs.Way.{way}
 use Rattle.grid_world.specs.World.{point}

@@ -1,6 +1,4 @@
-use Rattle.std.proofs.Common.{◌≡◌, ◌<◌, ◌∙◌, ap, sym, subst, length, Bool, ℕ, List, Option}
-use Rattle.std.specs.Prelude.{IfSome}
-use Rattle.grid_world.specs.declared.cell.Answer.{Answer}
+use Rattle.std.proofs.Common.{◌∙◌, ap, sym, subst, Bool, List}
 use Rattle.game_rules.specs.Game.{Game}
 use Rattle.frame_params.specs.Names.{FrameOf, QuestionOf}
 use Rattle.frame_params.specs.Contents.{signals_in, way_in}

@@ -1,10 +1,5 @@
-use Rattle.std.proofs.Common.{◌≡◌, ◌<◌, ◌∙◌, ap, sym, subst, arith, length, ℕ}
-use Rattle.std.specs.Arc.{arc_value}
+use Rattle.std.proofs.Common.{ap, arith}
 use Rattle.bt_nodes.specs.Sizes.{size}
-use Rattle.game_rules.specs.Game.{Game}
-use Rattle.frame_params.specs.Names.{FrameOf, QuestionOf}
-use Rattle.frame_params.specs.Contents.{questions_in, way_in}
-use Rattle.frame_params.specs.Thinks.{IsAhead}
 use Rattle.frame_params.proofs.CutThoughts.{few_asked}
 use Rattle.frame_params.proofs.think_task.ThinkTask.resume.Goals as goal
 
