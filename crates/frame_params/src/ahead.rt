@@ -108,6 +108,7 @@ impl<'t> Ahead<'t> {
         }
     }
 
+    #[inline(always)]
     // The answer to its question, where it was at hand.
     pub(crate) fn answer(&self) -> Option<Answer>
         ensures { (g : Game) (f a i : ℕ) → IsAhead g f a i self.now → IfSome result (IsWayOf g f a i) }
@@ -118,6 +119,7 @@ impl<'t> Ahead<'t> {
         }
     }
 
+    #[inline(always)]
     // Where the tick stands with the answer to its question. Nothing is copied.
     pub(crate) fn stand(&self, question: u32, answer: Answer) -> Result<Stand<'t>, AllocError>
         requires { question < 255 }

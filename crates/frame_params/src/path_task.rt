@@ -66,6 +66,7 @@ impl<'t> Model for PathTask<'t> {
 }
 
 impl<'t> PathTask<'t> {
+    #[inline(always)]
     /// The search for the way to the place that a parked tick of the frame asks for. What it reads is the frame's own, and so
     /// are the distances to the place where they are known; nothing is copied.
     pub fn of(

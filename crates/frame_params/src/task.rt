@@ -43,8 +43,8 @@ impl<'t> Task<'t> {
         }
     }
 
-    /// Whether there is next to nothing to do, and no memory to take: a frame's logic at its start, or a path question whose
-    /// distances are known.
+    /// Whether there is next to nothing to do, and no memory to take: a frame's logic at its start, a path question whose
+    /// answer or distances are known, or a thought that has ended ahead of its answer.
     pub fn is_at_hand(&self) -> bool
         ensures yes { result ≡ true → IsAtHand self.now }
         ensures begins { IsBeginning self.now → result ≡ true }

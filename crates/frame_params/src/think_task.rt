@@ -76,6 +76,7 @@ impl<'t> ThinkTask<'t> {
         })
     }
 
+    #[inline(always)]
     /// The thought of a parked tick of the frame, with the way of its question. The tick is shared with the parked one.
     pub fn resume(
         _alloc: Global,
@@ -192,7 +193,8 @@ impl<'t> ThinkTask<'t> {
     }
 
     /// Ticks the tree to its end or to its next question, in the world of the frame before, whatever other agents came
-    /// to. It works on a copy of the memory or of the tick that it has.
+    /// to. It works on a copy of the memory or of the tick that it has. Where the distances to the place that is asked for
+    /// were known before the frame, the tick goes on at once, as far as the question after that.
     pub fn work(&self, alloc: Global) -> Result<ThinkStep<'t>, AllocError>
         ensures { IfOk result (λ step. IsThinkStep self.now step) }
     {
