@@ -60,7 +60,7 @@ module _ (g : Grid) (on : List Bool) where
   pub length-row_glyphs : (y : ℕ) → length (row_glyphs g on y) ≡ g.width
   length-row_glyphs y = length-map-count_up (λ x. glyph g on (point x y)) 0 g.width
 
-  length-line : (y : ℕ) → length (line g on y) ≡ g.width + 1
+  pub length-line : (y : ℕ) → length (line g on y) ≡ g.width + 1
   length-line y = length-append (row_glyphs g on y) (10 ∷ []) ∙ ap (λ n. n + 1) (length-row_glyphs y)
 
   pub length-lines : (first n : ℕ) → length (lines g on first n) ≡ n * (g.width + 1)
