@@ -9,6 +9,7 @@ use crate::cell::{Agent, Cell};
 use crate::fault::MapFault;
 use crate::glyph::glyph_of;
 use crate::ground::Ground;
+use crate::items::Items;
 use crate::map::{
     agents_in, cells_in, first_width, has_letters, has_size, items_in, marks_in, strange_mark,
 };
@@ -26,12 +27,11 @@ pub use changes::resolve;
 
 /// A world: its cells, the items that lie on them, and the agents.
 ///
-/// What never changes is shared by all worlds that come from one map; a world of its own holds only
-/// its agents and a table of the cells with an item.
+/// What never changes is shared by all worlds that come from one map, and the table of the cells with an
+/// item by worlds that follow one another until it changes; a world of its own holds only its agents.
 pub struct World {
     ground: Arc<Ground>,
-    // for each cell whether an item lies there
-    has_item: Vec<bool>,
+    has_item: Items,
     crew: Vec<Agent>,
 }
 
@@ -61,9 +61,9 @@ impl Model for World {
 
     ghost Value = { Grid };
 
-    ghost view = { λ w. furnished (arc_value w.ground) w.has_item.items w.crew.items };
+    ghost view = { λ w. furnished (arc_value w.ground) w.has_item w.crew.items };
 
-    ghost invariant = { λ w. IsWorld (furnished (arc_value w.ground) w.has_item.items w.crew.items) };
+    ghost invariant = { λ w. IsWorld (furnished (arc_value w.ground) w.has_item w.crew.items) };
 }
 
 impl World {
@@ -96,9 +96,10 @@ impl World {
             return Err(MapFault::Letters);
         }
         let kinds = cells_in(alloc, &marks)?;
-        let has_item = items_in(alloc, &marks)?;
+        let items = items_in(alloc, &marks)?;
         let crew = agents_in(alloc, columns, &marks)?;
         let ground = Ground::new(alloc, columns, rows.len() as u32, kinds)?;
+        let has_item = Items::new(alloc, items)?;
         match Arc::new(alloc, ground) {
             Ok(ground) => Ok(World {
                 ground,
@@ -111,13 +112,13 @@ impl World {
 }
 
 impl World {
-    /// The same world. Its ground is shared, so this costs a byte for each cell, and the agents.
+    /// The same world. Its ground and its items are shared, so this costs the agents alone.
     pub fn copy(&self, alloc: Global) -> Result<World, AllocError>
         ensures { IfOk result (λ w. w ≡ self.now) }
     {
         Ok(World {
             ground: Arc::try_clone(&self.ground)?,
-            has_item: Vec::from_slice(alloc, &self.has_item)?,
+            has_item: self.has_item.share()?,
             crew: Vec::from_slice(alloc, &self.crew)?,
         })
     }
@@ -165,7 +166,7 @@ impl World {
         ensures { result ≡ (is_on_map self.now (point x y) && has_item self.now (point x y)) }
     {
         match self.ground.index_of(x, y) {
-            Some(i) => self.has_item[i as usize],
+            Some(i) => self.has_item.cells()[i as usize],
             None => false,
         }
     }

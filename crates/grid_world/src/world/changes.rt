@@ -11,14 +11,14 @@ use super::{World, agent_on};
 use crate::cell::{Agent, Dir, Intent};
 use crate::fault::ResolveFault;
 use crate::signal::Signals;
-use std::alloc::Global;
+use std::alloc::{AllocError, Global};
 
 /// The world after a frame's intents, one for each agent by number, each applied to the world as changed so far.
 ///
 /// A move leads to an open cell on which no agent stands at that point; an agent takes an item of its
 /// cell with empty hands, and drops its item where none lies. What can't be done changes nothing.
-/// Takes time linear in the number of agents, and copies a byte for each cell: the ground is shared with
-/// `world`.
+/// Takes time linear in the number of agents; where an item is taken or dropped, it copies a byte for each
+/// cell once: the ground is shared with `world`, and the items as long as they are the same.
 pub fn resolve(
     alloc: Global,
     world: &World,
@@ -34,7 +34,7 @@ pub fn resolve(
     }
     let mut after = world.copy(alloc)?;
     'agents: for (number, intent) in intents.iter().enumerate() {
-        after.apply(signals, number, *intent);
+        after.apply(signals, number, *intent)?;
     }
     Ok(after)
 }
@@ -53,13 +53,16 @@ fn neighbour(dir: Dir, x: u32, y: u32) -> Option<(u32, u32)>
 }
 
 impl World {
-    fn apply(&mut self, signals: Signals, number: usize, intent: Intent)
+    fn apply(&mut self, signals: Signals, number: usize, intent: Intent) -> Result<(), AllocError>
         requires { number < length self.old.agents }
-        ensures { self.new ≡ apply self.old signals number intent }
+        ensures { IfOk result (λ _. self.new ≡ apply self.old signals number intent) }
     {
         match intent {
-            Intent::Stay => {}
-            Intent::Move(dir) => self.step(signals, number, dir),
+            Intent::Stay => Ok(()),
+            Intent::Move(dir) => {
+                self.step(signals, number, dir);
+                Ok(())
+            }
             Intent::Take => self.take_item(number),
             Intent::Drop => self.drop_item(number),
         }
@@ -77,41 +80,43 @@ impl World {
         }
     }
 
-    fn take_item(&mut self, number: usize)
+    fn take_item(&mut self, number: usize) -> Result<(), AllocError>
         requires { number < length self.old.agents }
-        ensures { self.new ≡ apply self.old [] number Take }
+        ensures { IfOk result (λ _. self.new ≡ apply self.old [] number Take) }
     {
         let agent = self.crew[number];
         if agent.carrying {
-            return;
+            return Ok(());
         }
         if let Some(cell) = self.ground.index_of(agent.x, agent.y) {
-            if self.has_item[cell as usize] {
-                self.has_item[cell as usize] = false;
+            if self.has_item.cells()[cell as usize] {
+                self.has_item.set(cell as usize, false)?;
                 self.crew[number] = Agent {
                     carrying: true,
                     ..agent
                 };
             }
         }
+        Ok(())
     }
 
-    fn drop_item(&mut self, number: usize)
+    fn drop_item(&mut self, number: usize) -> Result<(), AllocError>
         requires { number < length self.old.agents }
-        ensures { self.new ≡ apply self.old [] number Drop }
+        ensures { IfOk result (λ _. self.new ≡ apply self.old [] number Drop) }
     {
         let agent = self.crew[number];
         if !agent.carrying {
-            return;
+            return Ok(());
         }
         if let Some(cell) = self.ground.index_of(agent.x, agent.y) {
-            if !self.has_item[cell as usize] {
-                self.has_item[cell as usize] = true;
+            if !self.has_item.cells()[cell as usize] {
+                self.has_item.set(cell as usize, true)?;
                 self.crew[number] = Agent {
                     carrying: false,
                     ..agent
                 };
             }
         }
+        Ok(())
     }
 }

@@ -28,7 +28,7 @@ impl World {
             let from = k as usize * stride;
             let row = &mut rows[from..from + width];
             let start = (first + k) as usize * width;
-            let items = &self.has_item[start..start + width];
+            let items = &self.has_item.cells()[start..start + width];
             draw_items(items, row);
         }
         // Once over all agents, and not again for each row.

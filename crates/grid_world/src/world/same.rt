@@ -38,7 +38,7 @@ impl World {
         if !are_same_agents(&self.crew, &other.crew) {
             return false;
         }
-        if !are_same_items(&self.has_item, &other.has_item) {
+        if !are_same_items(self.has_item.cells(), other.has_item.cells()) {
             return false;
         }
         are_same_cells(self.cells(), other.cells())

@@ -34,10 +34,10 @@ pub slice_bounds-items-end : goal.slice_bounds-items-end
 slice_bounds-items-end c =
     let g = c.args.self.now in
     let inside : c.args.first + c.rows.k < g.height = omega (arith, c.requires, c.rows-test.true) in
-    let long : length c.self.inside.has_item.items ≡ g.width * g.height =
+    let long : length c.self.inside.has_item ≡ g.width * g.height =
     ap (λ h. length h.items) c.self.view_is ∙ c.width-width.ensures.world.all_items in
-    let fits : (c.args.first + c.rows.k) * c.width-width.result + c.width-width.result ≤ length c.deref-in-rows.result.now =
-    rw (c.deref-in-rows.ensures.value, long, c.width-width.ensures.value) (row_within g.width g.height (c.args.first + c.rows.k) inside) in
+    let fits : (c.args.first + c.rows.k) * c.width-width.result + c.width-width.result ≤ length c.cells.result.now =
+    rw (c.cells.ensures, long, c.width-width.ensures.value) (row_within g.width g.height (c.args.first + c.rows.k) inside) in
     omega (arith, fits)
 
 pub rows-preserved : goal.rows-preserved
@@ -50,14 +50,14 @@ rows-preserved c =
     let rows = c.rows.rows.items in
     let row = c.draw_items.new.row in
     let start = (first + k) * c.width-width.result in
-    let items = take ((start + c.width-width.result) - start) (drop start c.deref-in-rows.result.now) in
-    let kept : c.deref-in-rows.result.now ≡ g.items = c.deref-in-rows.ensures.value ∙ ap (λ h. h.items) c.self.view_is in
+    let items = take ((start + c.width-width.result) - start) (drop start c.cells.result.now) in
+    let kept : c.cells.result.now ≡ g.items = c.cells.ensures ∙ ap (λ h. h.items) c.self.view_is in
     let ground = row_read (with_crew g []) on first k c.args.count rows c.rows-test.true c.rows.invariant
     c.width-width.result wide c.deref_mut.result.now c.deref_mut.ensures.value in
     let long = ap length ground ∙ length-row_glyphs (emptied g) on (first + k) in
     let drawn : row ≡ row_glyphs (with_crew g []) on (first + k) =
     row_glyphs-drawn_over g c.width-width.ensures.world on (first + k) items
-    (λ x column. part_of_row c.deref-in-rows.result.now start c.width-width.result x (rw wide column) ∙ rw (kept, wide) refl)
+    (λ x column. part_of_row c.cells.result.now start c.width-width.result x (rw wide column) ∙ rw (kept, wide) refl)
     _ row ground (c.draw_items.auto.row ∙ long)
     (λ x column. c.draw_items.ensures x (subst (λ n. x < n) (sym long) column)) in
     row_written (with_crew g []) on first k c.args.count rows c.rows-test.true c.rows.invariant

@@ -46,7 +46,7 @@ invariant_of-result c =
     } in
     rw (c.in-Ok.ensures.ok, c.in_ok-ground.ensures)
     (IsWorld-parts rows size _ _ _ _ _ parts
-    (c.in_ok-has_item.ensures ∙ ap (map (λ c. c == 42)) (c.deref-4.ensures.value ∙ c.in_ok-marks.ensures))
+    (c.in_ok-has_item.ensures ∙ c.in_ok-items.ensures ∙ ap (map (λ c. c == 42)) (c.deref-4.ensures.value ∙ c.in_ok-marks.ensures))
     (c.in_ok-crew.ensures
     ∙ rw (c.first_width-columns.ensures, c.deref-5.ensures.value, c.in_ok-marks.ensures) refl))
 

@@ -13,7 +13,7 @@ invariant_of-self c =
     let agent = c.index-agent.result.now in
     let new : Agent = record agent { x = c.in-Some.x; y = c.in-Some.y } in
     let within : c.args.number < length inside.crew.items = rw (← c.self.view_is) at c.requires in
-    IsWorld-moved inside.ground.value inside.has_item.items inside.crew.items c.self.invariant c.args.number new c.args.signals within
+    IsWorld-moved inside.ground.value inside.has_item inside.crew.items c.self.invariant c.args.number new c.args.signals within
     (rw c.deref.ensures at (sym c.is_open.ensures ∙ c.if-is_open.true))
     (rw (c.deref-then-is_open.ensures.value) at
     (sym c.agent_on.ensures.value ∙ none_found c.agent_on.result c.if-is_none.ensures))
@@ -25,9 +25,9 @@ returns-then-is_none c =
     let p = point c.in-Some.x c.in-Some.y in
     let within : c.args.number < length inside.crew.items = rw (← c.self.view_is) at c.requires in
     rw (← c.self.view_is)
-    (moved-there inside.ground.value inside.has_item.items inside.crew.items c.args.number agent within c.index-agent.ensures c.args.signals _ p
+    (moved-there inside.ground.value inside.has_item inside.crew.items c.args.number agent within c.index-agent.ensures c.args.signals _ p
     (ap (λ b. next c.args.dir (point_of b))
-    (agent_of-at inside.ground.value inside.has_item.items inside.crew.items c.args.number agent within c.index-agent.ensures) ∙ sym c.in-Some.ensures)
+    (agent_of-at inside.ground.value inside.has_item inside.crew.items c.args.number agent within c.index-agent.ensures) ∙ sym c.in-Some.ensures)
     (rw c.deref.ensures at (sym c.is_open.ensures ∙ c.if-is_open.true))
     (rw (c.deref-then-is_open.ensures.value) at
     (sym c.agent_on.ensures.value ∙ none_found c.agent_on.result c.if-is_none.ensures)))
@@ -39,13 +39,13 @@ returns-else-is_open c =
     let p = point c.in-Some.x c.in-Some.y in
     let within : c.args.number < length inside.crew.items = rw (← c.self.view_is) at c.requires in
     let leads = ap (λ b. next c.args.dir (point_of b))
-    (agent_of-at inside.ground.value inside.has_item.items inside.crew.items c.args.number agent within c.index-agent.ensures) ∙ sym c.in-Some.ensures in
+    (agent_of-at inside.ground.value inside.has_item inside.crew.items c.args.number agent within c.index-agent.ensures) ∙ sym c.in-Some.ensures in
     rw (← c.self.view_is)
     (elim c.else-is_open.branch [
-      | else-is_open-via-then-is_open+else-is_none w ↦ moved-taken inside.ground.value inside.has_item.items inside.crew.items c.args.number agent within c.index-agent.ensures c.args.signals _ p leads
+      | else-is_open-via-then-is_open+else-is_none w ↦ moved-taken inside.ground.value inside.has_item inside.crew.items c.args.number agent within c.index-agent.ensures c.args.signals _ p leads
           (rw (w.deref-then-is_open.ensures.value) at
           (ap is_none (sym w.agent_on.ensures.value)
           ∙ is_none-some w.agent_on.result w.if-is_none.ensures))
-      | else-is_open-via-else-is_open w ↦ moved-shut inside.ground.value inside.has_item.items inside.crew.items c.args.number agent within c.index-agent.ensures c.args.signals _ p leads
+      | else-is_open-via-else-is_open w ↦ moved-shut inside.ground.value inside.has_item inside.crew.items c.args.number agent within c.index-agent.ensures c.args.signals _ p leads
           (rw c.deref.ensures at (sym c.is_open.ensures ∙ w.if-is_open.false))
     ])

@@ -5,7 +5,7 @@ use Rattle.grid_world.proofs.world.changes.resolve.Goals as goal
 
 pub agents-preserved : goal.agents-preserved
 agents-preserved c =
-    rw c.apply.ensures (
+    rw c.in_ok-apply.ensures (
       length-apply c.agents.after c.args.signals c.agents.number _ ∙ c.agents.invariant.0,
       sym (apply_all-left c.agents.after c.args.signals c.agents.number c.args.intents.now Stay c.agents-test.true) ∙ c.agents.invariant.1,
     )
