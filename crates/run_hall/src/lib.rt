@@ -2,9 +2,7 @@
 #![tactic(auto)]
 
 mod hall;
-mod putting;
 mod worked;
 
 pub use hall::Hall;
-pub use putting::put_band;
 pub use worked::Worked;

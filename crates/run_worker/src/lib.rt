@@ -3,6 +3,7 @@
 
 mod at_hand;
 mod gate;
+mod putting;
 mod scratch;
 mod worker;
 

@@ -1,9 +1,9 @@
 ghost use Rattle.std.specs.Prelude.{◌≡◌, true, false};
 ghost use Rattle.band_mail.specs.Mails.{IsPutterOf, with_put};
 
-use crate::hall::Hall;
 use band_mail::Putter;
 use frame_print::RunBand;
+use run_hall::Hall;
 use run_ledger::RunLedger;
 use std::hint;
 use std::rt::Clock;

@@ -1,6 +1,6 @@
 use Rattle.std.proofs.Common.{◌≡◌}
 use Rattle.band_mail.specs.Mails.{IsPutterOf}
-use Rattle.run_hall.proofs.putting.put_band.Given as goal
+use Rattle.run_worker.proofs.putting.put_band.Given as goal
 
 -- a full queue takes nothing, and hands the band back
 abbrev pub invariant-tries : goal.invariant-tries
