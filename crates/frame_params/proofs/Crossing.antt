@@ -94,7 +94,7 @@ pub pending_sync : (κ : NamedLft) → IsSync (Pending.the_row κ Global.the_row
 pending_sync κ = search (of_parts, of_ticks, sendable, crosses) depth 40 fits 100000
 
 pub parked : (κ : NamedLft) → IsSend (Parked.the_row κ)
-parked κ = search (session, of_parts, thought, pending_send, pending_sync, sendable, crosses) depth 40 fits 100000
+parked κ = search (session, of_parts, pending_send, pending_sync, sendable, crosses) depth 40 fits 100000
 
 pub step : (κ : NamedLft) → IsSend (Step.the_row κ)
 step κ = search (way, thought, turn, band_out, parked, sendable, crosses) depth 40
@@ -116,7 +116,7 @@ board_step_field κ = search (way, thought, turn, band_mark, parked, sendable, c
 -- ---- tasks
 
 pub think_task : (κ : NamedLft) → IsSend (ThinkTask.the_row κ)
-think_task κ = search (frame_start_send, frame_start_sync, of_parts, thought, pending_send, pending_sync, sendable, crosses) depth 40 fits 100000
+think_task κ = search (frame_start_send, frame_start_sync, of_parts, pending_send, pending_sync, sendable, crosses) depth 40 fits 100000
 
 pub path_task : (κ : NamedLft) → IsSend (PathTask.the_row κ)
 path_task κ = search (frame_start_send, frame_start_sync, of_parts, kept_distances_send, sendable, crosses) depth 40
