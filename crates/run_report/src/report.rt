@@ -1,6 +1,6 @@
-ghost use Rattle.std.specs.Prelude.{◌≡◌, ◌<◌, IfOk, IfErr, count_by, sum, Some};
+ghost use Rattle.std.specs.Prelude.{◌≡◌, ◌==◌, ℕ, IfOk, IfErr, IfSome, count_by, sum, Some, None, false};
 ghost use Rattle.job_core.specs.Core.{IsComplete};
-ghost use Rattle.shared_board.specs.Counts.{names, names_worker, steps_of};
+ghost use Rattle.shared_board.specs.Counts.{names, names_worker};
 ghost use Rattle.shared_board.specs.Runs.{setup_for};
 ghost use Rattle.run_report.specs.Reports.{AreStepsOf};
 
@@ -20,36 +20,34 @@ pub struct RunReport {
     pub steps: Vec<u64>,
 }
 
-// Whether the event names the worker.
-fn is_by(event: &Event, worker: u32) -> bool
-    ensures { result ≡ names worker event.now }
+// The worker that the event names.
+fn worker_of(event: &Event) -> Option<u32>
+    ensures some { IfSome result (λ worker. (w : ℕ) → names w event.now ≡ (worker == w)) }
+    ensures none { result ≡ None → (w : ℕ) → names w event.now ≡ false }
 {
     match event {
-        Event::Start { worker: w, .. } => *w == worker,
-        Event::Resume { worker: w, .. } => *w == worker,
-        Event::Ask { worker: w, .. } => *w == worker,
-        Event::Spread { worker: w, .. } => *w == worker,
-        Event::Hold { worker: w, .. } => *w == worker,
-        Event::Finish { worker: w, .. } => *w == worker,
-        Event::Emit { .. } => false,
-        Event::Stop => false,
+        Event::Start { worker, .. } => Some(*worker),
+        Event::Resume { worker, .. } => Some(*worker),
+        Event::Ask { worker, .. } => Some(*worker),
+        Event::Spread { worker, .. } => Some(*worker),
+        Event::Hold { worker, .. } => Some(*worker),
+        Event::Finish { worker, .. } => Some(*worker),
+        Event::Emit { .. } => None,
+        Event::Stop => None,
     }
-}
-
-// How many events name the worker.
-fn count_steps(events: &[Event], worker: u32) -> u64
-    ensures { result ≡ steps_of worker events.now }
-{
-    events.iter().filter(|e| is_by(e, worker)).count() as u64
 }
 
 // The steps of each worker.
 fn all_steps(alloc: Global, events: &[Event], workers: u32) -> Result<Vec<u64>, AllocError>
     ensures { IfOk result (λ v. AreStepsOf workers events.now v.items) }
 {
-    let mut all = Vec::with_capacity(alloc, workers as usize)?;
-    'workers: for worker in 0..workers {
-        all.push(count_steps(events, worker))?;
+    let mut all = Vec::from_elem(alloc, 0, workers as usize)?;
+    'events: for event in events {
+        if let Some(worker) = worker_of(event) {
+            if let Some(steps) = all.get_mut(worker as usize) {
+                *steps += 1;
+            }
+        }
     }
     Ok(all)
 }
@@ -66,7 +64,7 @@ pub fn report_on<L: RunLedger, M: Ledger>(
     alloc: Global,
     session: &Session,
     settings: Settings,
-    board: &mut SharedBoard<'_, L, M>,
+    board: SharedBoard<'_, L, M>,
     all: &mut Share<L>,
     emits: &mut Share<M>,
 ) -> Result<RunReport, RunFault>
@@ -79,13 +77,10 @@ pub fn report_on<L: RunLedger, M: Ledger>(
     ensures sum { IfOk result (λ r. sum r.steps.items ≡ count_by names_worker r.events.items) }
     ensures shares { IfOk result (λ r. sum r.steps.items ≡ all.old.amount) }
 {
-    let Some(events) = board.events(session, settings, all, emits) else {
+    let Some(events) = board.into_events(session, settings, all, emits) else {
         return Err(fault(Cause::Stranger, settings.frames()));
     };
-    let Ok(steps) = all_steps(alloc, events, settings.workers()) else {
-        return Err(fault(Cause::OutOfMemory, settings.frames()));
-    };
-    let Ok(events) = events.to_vec(alloc) else {
+    let Ok(steps) = all_steps(alloc, &events, settings.workers()) else {
         return Err(fault(Cause::OutOfMemory, settings.frames()));
     };
     Ok(RunReport {

@@ -180,23 +180,28 @@ impl<'t, L: RunLedger, M: Ledger> SharedBoard<'t, L, M> {
     }
 
     /// The events, once all shares are joined; None where they are not a complete list.
-    pub fn events(
-        &mut self,
+    pub fn into_events(
+        self,
         session: &Session,
         settings: Settings,
         all: &mut Share<L>,
         emits: &mut Share<M>,
-    ) -> Option<&[Event]>
+    ) -> Option<Vec<Event>>
         requires run { (L.game ≡ Some session.now) × (L.numbers ≡ Some settings) }
         requires whole { (all.old.parts ≡ L.parts) × (emits.old.parts ≡ M.parts) }
-        ensures complete { IfSome result (λ events. IsComplete (setup_for session.now settings) events.now) }
-        ensures named { IfSome result (λ events. count_by names_worker events.now ≡ all.old.amount) }
-        ensures emitted { IfSome result (λ events. count_by is_emit events.now ≡ emits.old.amount) }
+        ensures complete { IfSome result (λ events. IsComplete (setup_for session.now settings) events.items) }
+        ensures named { IfSome result (λ events. count_by names_worker events.items ≡ all.old.amount) }
+        ensures emitted { IfSome result (λ events. count_by is_emit events.items ≡ emits.old.amount) }
     {
-        self.named.audit(all);
-        self.emitted.audit(emits);
-        if self.board.is_done() {
-            return Some(self.board.events());
+        let SharedBoard {
+            board,
+            mut named,
+            mut emitted,
+        } = self;
+        named.audit(all);
+        emitted.audit(emits);
+        if board.is_done() {
+            return Some(board.into_events());
         }
         None
     }
