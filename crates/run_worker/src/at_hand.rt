@@ -14,9 +14,35 @@ use task_board::BoardFault;
 const MOST: u32 = 4;
 
 // Works the next task within the hold of the lock while it is at hand, as the answer to a question mostly is: that takes
-// less than to hand the lock on. A gate that is to be asked is asked with the lock free, so there nothing is at hand.
-// Whether there is a next task.
+// less than to hand the lock on. Whether there is a next task.
+#[inline(always)]
 pub(crate) fn work_at_hand<'t, L: RunLedger, M: Ledger, G: Gate>(
+    alloc: Global,
+    session: &Session,
+    gate: &G,
+    board: &mut SharedBoard<'t, L, M>,
+    worker: u32,
+    share: &mut Share<L>,
+    next: &mut Option<Task<'t>>,
+) -> Result<bool, BoardFault>
+    requires run { L.game ≡ Some session.now }
+    requires part { share.old.parts ≡ 1 }
+    requires next { IsNextIn session.now next.old }
+    ensures part { share.new.parts ≡ 1 }
+    ensures next { IsNextIn session.now next.new }
+{
+    let Some(task) = &*next else {
+        return Ok(false);
+    };
+    // Most holds end here, and needn't make room for what the work comes to.
+    if !task.is_at_hand() {
+        return Ok(true);
+    }
+    work_while_at_hand(alloc, session, gate, board, worker, share, next)
+}
+
+// A gate that is to be asked is asked with the lock free, so there nothing is at hand.
+fn work_while_at_hand<'t, L: RunLedger, M: Ledger, G: Gate>(
     alloc: Global,
     session: &Session,
     gate: &G,
