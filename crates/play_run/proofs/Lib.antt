@@ -1,4 +1,1 @@
 mod Spelled
-mod Once
-pub mod Leaving
-pub mod Reported

@@ -6,25 +6,17 @@ use Rattle.game_rules.specs.Text.{texts}
 use Rattle.level_text.specs.Levels.{spelled, IsFaultOf}
 use Rattle.level_text.specs.Scripts.{script_of}
 use Rattle.level_text.specs.declared.script_file.ScriptFault.TheVariants.{OutOfMemory}
-use Rattle.job_core.specs.declared.names.JobName.{JobName}
-use Rattle.job_core.specs.declared.names.Event.{Event}
-use Rattle.job_core.specs.Core.{Setup, IsJob, IsComplete}
-use Rattle.job_core.specs.Amounts.{starts, finishes}
+use Rattle.job_core.specs.Core.{IsComplete}
 use Rattle.job_machine.specs.Numbers.{Numbers}
 use Rattle.shared_board.specs.Counts.{names_worker}
 use Rattle.shared_board.specs.Runs.{setup_for}
 use Rattle.run_fault.specs.Printed.{WrotePart}
 use Rattle.run_report.specs.Reports.{AreStepsOf}
 use Rattle.run_report.specs.declared.report.RunReport.{RunReport}
+use Rattle.run_threads.specs.Once.{RunsEachJobOnce}
 use Rattle.play_run.specs.Games.{spelled_game}
 use Rattle.play_run.specs.declared.fault.PlayFault.{PlayFault}
 use Rattle.play_run.specs.declared.fault.PlayFault.TheVariants.{Level, Script, Run}
-
--- each job of the run is started and finished once, and no other
-abbrev pub RunsEachJobOnce : Setup → List Event → Type 0
-RunsEachJobOnce s events =
-    (job : JobName) → (IsJob s job → (starts job events ≡ 1) × (finishes job events ≡ 1))
-    × ((IsJob s job → ⊥) → (starts job events ≡ 0) × (finishes job events ≡ 0))
 
 -- All frames are written and nothing else, by a complete list of events, and the report counts them.
 pub record IsPlayed (old new : Option (List ℕ)) (g : Game) (n : Numbers) (r : RunReport) : Type 0 where

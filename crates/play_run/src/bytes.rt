@@ -3,10 +3,10 @@ ghost use Rattle.play_run.specs.Games.{spelled_game};
 ghost use Rattle.play_run.specs.Plays.{IsPlayed, IsPlayFault};
 
 use crate::fault::PlayFault;
-use crate::whole_run::run;
 use game_session::Session;
 use level_text::{read_level, read_script};
 use run_report::RunReport;
+use run_threads::run;
 use run_worker::Gate;
 use std::alloc::Global;
 use std::io::Write;

@@ -1,9 +1,6 @@
-//! The printer of a run: it takes the bands out of the mail, and shows and writes the frames in order.
+//! The printer of a run: it writes the frames in order.
 #![tactic(auto)]
 
-mod inbox;
 mod printer;
-mod showing;
 
-pub use inbox::Inbox;
 pub use printer::print;

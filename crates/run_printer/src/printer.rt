@@ -3,13 +3,12 @@ ghost use Rattle.std.specs.Io.KnownBytes.{Appends};
 ghost use Rattle.game_rules.specs.Text.{texts};
 ghost use Rattle.run_fault.specs.Printed.{WrotePart};
 
-use crate::inbox::Inbox;
-use crate::showing::next_text;
 use byte_streams::write_whole;
 use game_session::Session;
 use run_fault::{Cause, RunFault};
 use run_hall::Hall;
 use run_ledger::RunLedger;
+use run_showing::{Inbox, next_text};
 use std::alloc::Global;
 use std::io::Write;
 use std::rt::Clock;

@@ -3,7 +3,6 @@
 
 mod at_hand;
 mod gate;
-mod putting;
 mod scratch;
 mod worker;
 

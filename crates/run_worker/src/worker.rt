@@ -6,7 +6,6 @@ ghost use Rattle.run_worker.specs.Own.{IsNextIn, IsWorkIn};
 
 use crate::at_hand::work_at_hand;
 use crate::gate::Gate;
-use crate::putting::put_band;
 use crate::scratch::Scratch;
 use band_mail::Putter;
 use frame_params::{BoardStep, Step, Task};
@@ -15,6 +14,7 @@ use game_session::Session;
 use run_fault::Cause;
 use run_hall::{Hall, Worked};
 use run_ledger::RunLedger;
+use run_putting::put_band;
 use shared_board::SharedBoard;
 use std::alloc::Global;
 use std::rt::Clock;

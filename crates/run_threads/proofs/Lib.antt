@@ -1,0 +1,3 @@
+mod Once
+pub mod Leaving
+pub mod Reported
