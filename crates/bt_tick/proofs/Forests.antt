@@ -1,9 +1,11 @@
 -- The children of a node beside the list of nodes that they stand for.
 use Rattle.std.proofs.Common.{◌≡◌, ℕ, zero, suc, ◌+◌, ◌<◌, List, [], ◌∷◌, length, get_or, drop, refl, sym, ap, ◌∙◌, arith}
 use Rattle.std.specs.Prelude.{Option, Some, None, MatchOption}
-use Rattle.bt_nodes.specs.Plain.{Plain, tree, plain, plains}
+use Rattle.bt_nodes.specs.Plain.{Plain, Composite, CompositeStar, Parallel, tree, plain, plains}
+use Rattle.bt_nodes.specs.Heads.{listed}
 use Rattle.bt_nodes.specs.declared.node.Node.{Node}
 use Rattle.bt_tick.specs.Children.{children_of, from_child}
+use Rattle.bt_tick.specs.Kinds.{HasList}
 
 child_in : {T : Type 0} (xs : List (Node T)) (k : ℕ) (d : Node T) → k < length xs → from_child k (plains xs) ≡ tree (plain (get_or xs k d)) (from_child (k + 1) (plains xs))
 child_in [] k d h = absurd (omega arith)
@@ -18,6 +20,13 @@ pub child_at : {T : Type 0} (p : Plain) (xs : List (Node T)) (k : ℕ) (c : Node
 child_at p xs k c e h is =
     ap (from_child k) e ∙ child_in xs k c h ∙ ap (λ n. tree (plain n) (from_child (k + 1) (plains xs))) (sym is)
     ∙ ap (λ cs. tree (plain c) (from_child (k + 1) cs)) (sym e)
+
+-- the children of a node that lists them are those that it lists
+pub listed_children : (p : Plain) → HasList p → children_of p ≡ listed p
+listed_children (Composite kind cs) list = refl
+listed_children (CompositeStar kind cs) list = refl
+listed_children (Parallel m cs) list = refl
+listed_children _ list = absurd list
 
 -- ---- the innermost frame
 

@@ -33,6 +33,16 @@ impl<'t, T: Allocator, A: Allocator + Clone> Machine<'t, T, A> {
             weight self.new m ≤ weight_of (opened frame.entry) + weight_all (opens self.old.stack)) }
         ensures tree { self.new.tree ≡ self.old.tree }
     {
+        let children = frame.node.listed();
+        let next = frame.next;
+        if (next as usize) < children.len() {
+            let child = &children[next as usize];
+            self.open(Frame {
+                next: next + 1,
+                ..frame
+            })?;
+            return Ok(Mode::Down(child, at));
+        }
         self.open(frame)?;
         Ok(self.advance(frame, at))
     }
