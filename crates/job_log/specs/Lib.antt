@@ -1,3 +1,4 @@
 pub mod Logged
 pub mod Ends
 pub mod Looks
+pub mod AtOnce
