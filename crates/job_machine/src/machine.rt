@@ -305,12 +305,13 @@ impl Machine {
         ensures { self.new ≡ running self.old worker (JobName.Think frame agent) (question + 1) }
     {
         let fiber = self.fiber_of(worker);
+        let step = question + 1;
         self.hold_on(
             worker,
             fiber,
             Some(Held {
                 job: JobName::Think { frame, agent },
-                step: question + 1,
+                step,
                 worker: Some(worker),
             }),
         );
