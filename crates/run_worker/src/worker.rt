@@ -4,6 +4,7 @@ ghost use Rattle.frame_params.specs.BoardSteps.{IsToldIn};
 ghost use Rattle.frame_params.specs.Tasks.{game_of};
 ghost use Rattle.run_worker.specs.Own.{IsNextIn, IsWorkIn};
 
+use crate::asking::ask_at_once;
 use crate::at_hand::work_at_hand;
 use crate::gate::Gate;
 use crate::scratch::Scratch;
@@ -147,6 +148,7 @@ fn hand_in_and_take<'t, L: RunLedger, M: Ledger, G: Gate>(
     ensures part { share.new.parts ≡ 1 }
     ensures next { IsNextIn session.now next.new }
 {
+    let told = ask_at_once(session, gate, board, worker, told, share)?;
     if rests {
         board.hand_in(worker, session, told, share)?;
         return Ok(false);

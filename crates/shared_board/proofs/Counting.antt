@@ -1,4 +1,4 @@
--- One event more, in the counts.
+-- More events, in the counts.
 use Rattle.std.proofs.Common.{◌≡◌, ℕ, ◌+◌, ◌≤◌, Bool, true, false, List, [], ◌∷◌, ◌++◌, count_by, Some, refl, sym, ap, subst, arith, inl, inr, add-zero}
 use Rattle.std.proofs.lemmas.Grind.{common_steps}
 use Rattle.game_rules.specs.Game.{Game}
@@ -10,17 +10,18 @@ use Rattle.frame_params.specs.Tasks.{game_of, job_of, IsTaskAt}
 use Rattle.frame_params.specs.declared.task.Task.{Task}
 use Rattle.frame_params.specs.declared.task.Task.TheVariants.{Logic as LogicTask, Think as ThinkTask, Path as PathTask, Draw as DrawTask}
 use Rattle.job_core.specs.Core.{Setup, State, IsComplete, after, after_all, opening, state}
-use Rattle.frame_params.specs.Names.{FrameOf}
+use Rattle.frame_params.specs.Names.{FrameOf, QuestionOf}
 use Rattle.task_board.specs.Boards.{Played, Happens, IsTaken, IsShown, setup_in}
+use Rattle.task_board.specs.AtOnce.{HappensAtOnce}
 use Rattle.shared_board.specs.Counts.{names_worker, is_emit}
 use Rattle.job_machine.specs.Numbers.{Numbers}
 use Rattle.shared_board.specs.Runs.{setup_for, IsByWorker}
 
--- the run with an event more, of a worker
-pub record OfWorker (old new : Played) : Type 0 where
+-- the run with so many events more, each of a worker
+pub record OfWorker (many : ℕ) (old new : Played) : Type 0 where
   pub game : new.game ≡ old.game
   pub numbers : new.numbers ≡ old.numbers
-  pub named : count_by names_worker new.events ≡ count_by names_worker old.events + 1
+  pub named : count_by names_worker new.events ≡ count_by names_worker old.events + many
   pub emitted : count_by is_emit new.events ≡ count_by is_emit old.events
 
 of_task : (g : Game) (j : JobName) (k : ℕ) (t : Task) → IsTaskAt g j k t → game_of t ≡ g
@@ -47,17 +48,20 @@ count_one p e h = rw h refl
 count_none : (p : Event → Bool) (e : Event) → p e ≡ false → count_by p (e ∷ []) ≡ 0
 count_none p e h = rw h refl
 
-counted : (p : Event → Bool) (es : List Event) (e : Event) → count_by p (es ++ e ∷ []) ≡ count_by p es + count_by p (e ∷ [])
-counted p es e = grind (arith, common_steps)
+counted : (p : Event → Bool) (es more : List Event) → count_by p (es ++ more) ≡ count_by p es + count_by p more
+counted p es more = grind (arith, common_steps)
 
--- a worker's event happened
-by_worker : (old new : Played) (e : Event) → Happens old new e → names_worker e ≡ true → is_emit e ≡ false → OfWorker old new
-by_worker old new e h y n = record {
-  game = ap (λ b. b.game) h.logged;
-  numbers = ap (λ b. b.numbers) h.logged;
-  named = rw h.logged (rw (counted names_worker old.events e) (rw (count_one names_worker e y) refl));
-  emitted = rw h.logged (rw (counted is_emit old.events e) (rw (count_none is_emit e n) (add-zero _)));
+-- events of workers happened
+by_workers : (many : ℕ) (old new : Played) (more : List Event) → new ≡ record old { events = old.events ++ more } → count_by names_worker more ≡ many → count_by is_emit more ≡ 0 → OfWorker many old new
+by_workers many old new more e all none = record {
+  game = ap (λ b. b.game) e;
+  numbers = ap (λ b. b.numbers) e;
+  named = rw e (rw (counted names_worker old.events more, all) refl);
+  emitted = rw e (rw (counted is_emit old.events more, none) (add-zero _));
 }
+
+by_worker : (old new : Played) (e : Event) → Happens old new e → names_worker e ≡ true → is_emit e ≡ false → OfWorker 1 old new
+by_worker old new e h y n = by_workers 1 old new (e ∷ []) h.logged (count_one names_worker e y) (count_none is_emit e n)
 
 not_emit : (e : Event) → names_worker e ≡ true → is_emit e ≡ false
 not_emit (Start w j) h = refl
@@ -69,11 +73,15 @@ not_emit (Finish w j) h = refl
 not_emit (Emit f) h = cc
 not_emit Stop h = cc
 
-pub of_worker : (old new : Played) → IsByWorker old new → OfWorker old new
+pub of_worker : (old new : Played) → IsByWorker old new → OfWorker 1 old new
 of_worker old new (e, h, y) = by_worker old new e h y (not_emit e y)
 
+-- a question was asked and answered at once
+pub of_question : (old new : Played) (w : ℕ) (q : QuestionOf) → HappensAtOnce old new w q → OfWorker 4 old new
+of_question old new w q h = by_workers 4 old new _ h.logged refl refl
+
 -- a task was taken, of the board's game
-pub taken_is : (old new : Played) (w : ℕ) (t : Task) → IsTaken old new w (Some t) → OfWorker old new × (game_of t ≡ old.game)
+pub taken_is : (old new : Played) (w : ℕ) (t : Task) → IsTaken old new w (Some t) → OfWorker 1 old new × (game_of t ≡ old.game)
 taken_is old new w t (inl s) = (by_worker old new (Start w (job_of t)) s.happens refl refl, of_task old.game (job_of t) 0 t s.is_task)
 taken_is old new w t (inr r) = (by_worker old new (Resume w (job_of t)) r.happens refl refl, of_task old.game (job_of t) r.step t r.is_task)
 
@@ -111,8 +119,8 @@ pub shown_is : (old new : Played) (f : FrameOf) → IsShown old new f
     × (count_by names_worker new.events ≡ count_by names_worker old.events) × (f.frame ≤ old.numbers.frames) × (new.game ≡ old.game) × (new.numbers ≡ old.numbers)
 shown_is old new f (game, h) = (
   omega (arith, h.legal.1.0, emitted-state (setup_in old) old.events),
-  rw h.logged (rw (counted is_emit old.events (Emit f.frame)) refl),
-  rw h.logged (rw (counted names_worker old.events (Emit f.frame)) (add-zero _)),
+  rw h.logged (rw (counted is_emit old.events (Emit f.frame ∷ [])) refl),
+  rw h.logged (rw (counted names_worker old.events (Emit f.frame ∷ [])) (add-zero _)),
   h.legal.1.1,
   ap (λ b. b.game) h.logged,
   ap (λ b. b.numbers) h.logged,

@@ -1,4 +1,4 @@
-ghost use Rattle.std.specs.Prelude.{◌≡◌, ◌+◌, ◌<◌, ◌≤◌, ◌⊎◌, MatchResult, MatchOption, IfOk, IfSome, count_by, [], Some};
+ghost use Rattle.std.specs.Prelude.{◌≡◌, ◌+◌, ◌<◌, ◌≤◌, ◌⊎◌, MatchResult, MatchOption, IfOk, IfErr, IfSome, count_by, [], Some};
 ghost use Rattle.std.specs.Coded.{Coded-set, coded_option};
 ghost use Rattle.game_session.specs.GameCode.{game_code};
 ghost use Rattle.job_core.specs.Core.{IsComplete};
@@ -8,11 +8,11 @@ ghost use Rattle.shared_board.specs.Counts.{names_worker, is_emit};
 ghost use Rattle.shared_board.specs.Runs.{setup_for};
 
 use crate::handing::hand_in;
-use frame_params::{BoardStep, Task};
+use frame_params::{BoardStep, Parked, Task, Way};
 use game_session::Session;
 use run_ledger::RunLedger;
 use std::sync::ledger::{Book, Ledger, Share};
-use task_board::{BoardFault, Event, Settings, Shown, Spent, TaskBoard};
+use task_board::{BoardFault, Event, Refused, Settings, Shown, Spent, TaskBoard};
 
 /// A board with two books: one of its events that name a worker, one of those that show a frame. A thread that makes
 /// such an event happen adds one to its share of the book.
@@ -96,6 +96,36 @@ impl<'t, L: RunLedger, M: Ledger> SharedBoard<'t, L, M> {
                 Ok(())
             }
             Err(fault) => Err(fault),
+        }
+    }
+
+    /// Asks the question at which a worker's Think stands, and hands in its answer. Refused as Illegal where the path of the
+    /// question would not be taken before all else; then the question can be handed in by `hand_in`.
+    #[inline(always)]
+    pub fn ask_at_once(
+        &mut self,
+        worker: u32,
+        session: &Session,
+        parked: Parked<'t>,
+        way: Way<'t>,
+        mine: &mut Share<L>,
+    ) -> Result<(), Refused<Parked<'t>>>
+        requires run { L.game ≡ Some session.now }
+        requires own { parked.game ≡ session.now }
+        requires way { way ≡ parked }
+        requires part { 0 < mine.old.parts }
+        ensures parts { mine.new.parts ≡ mine.old.parts }
+        ensures counted { MatchResult result (λ _. mine.new.amount ≡ mine.old.amount + 4) (λ _. mine.new.amount ≡ mine.old.amount) }
+        ensures back { IfErr result (λ r. r.value ≡ parked.entry) }
+    {
+        let SharedBoard { board, named, .. } = self;
+        let _ = session;
+        match board.ask_at_once(worker, parked, way) {
+            Ok(()) => {
+                named.add(mine, 4);
+                Ok(())
+            }
+            Err(refused) => Err(refused),
         }
     }
 

@@ -5,3 +5,4 @@ pub mod Beginning
 pub mod Handing
 pub mod Idling
 pub mod Crossing
+pub mod AtOnce

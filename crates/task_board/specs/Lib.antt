@@ -3,3 +3,4 @@ pub mod BoardCode
 pub mod Parked
 pub mod HandedIn
 pub mod Given
+pub mod AtOnce

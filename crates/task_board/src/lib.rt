@@ -1,6 +1,7 @@
 // The task board: the jobs of a run over a session, handed out as tasks, with what their work came to.
 #![tactic(auto)]
 
+mod at_once;
 mod board;
 mod fitting;
 mod hand_in;
