@@ -5,7 +5,8 @@ use std::alloc::AllocError;
 use std::io::Write;
 use thiserror::Error;
 
-/// What the program says on standard error, in one line, where it does not do what its words ask for.
+/// What the program says on standard error where it does not do what its words ask for: one line, or more where the name
+/// of a tree or a path has line feeds.
 #[derive(Debug, Drop, Error)]
 pub enum Fault {
     #[error("file: {0}")]

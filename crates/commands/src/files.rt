@@ -11,7 +11,7 @@ use std::io::{ErrorKind, Write};
 use std::rt::Files;
 use std::{fs, io};
 
-/// Whether the system had no memory for what was asked.
+/// Why a file could not be opened or made: for want of memory, or else by its name.
 fn file_fault(path: String, error: &io::Error) -> Fault
     ensures memory { error_kind error.now ≡ ErrorKind.OutOfMemory → result ≡ Fault.OutOfMemory }
     ensures file { error_kind error.now ≢ ErrorKind.OutOfMemory → result ≡ Fault.File path }

@@ -6,7 +6,7 @@ pub enum BoardFault {
     NoWorker,
     /// The worker runs a job already.
     Busy,
-    /// The worker runs no job.
+    /// The worker runs no job; of an event that is given, also: it runs one that was handed out.
     NotRunning,
     /// The value is of another job, question or session.
     WrongResult,

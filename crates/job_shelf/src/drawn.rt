@@ -92,13 +92,14 @@ impl<'t> Drawn<'t> {
         }
     }
 
-    /// The frame to show.
-    pub(crate) fn into_shown(self, frame: u32) -> Shown<'t>
-        requires { self.drawn ≡ turned frame (parts frame (bands_in self.game)) }
-        ensures { result ≡ frame_of self.entry.game frame }
+    /// Takes out the frame to show; nothing stands in its place, with the same room.
+    pub(crate) fn show(&mut self, frame: u32) -> Shown<'t>
+        requires { self.old.drawn ≡ turned frame (parts frame (bands_in self.old.game)) }
+        ensures shown { result ≡ frame_of self.old.game frame }
+        ensures nothing { self.new ≡ record self.old { drawn = nothing } }
     {
-        let Drawn { turn, .. } = self;
-        match turn {
+        self.bands.clear();
+        match self.turn.take() {
             Some(turn) => Shown { turn },
             None => unreachable!(),
         }

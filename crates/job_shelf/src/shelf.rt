@@ -294,8 +294,7 @@ impl<'t> Shelf<'t> {
     }
 
     /// Takes out a frame that is shown; nothing stands in its place.
-    pub fn show(&mut self, frame: u32, empty: Drawn<'t>) -> Shown<'t>
-        requires empty { empty ≡ record { game = self.old.game; drawn = nothing } }
+    pub fn show(&mut self, frame: u32) -> Shown<'t>
         requires slot { IsInSlot (sizes self.old) self.old.stored frame }
         requires drawn { slice_get self.old.stored.drawn (frame % length self.old.stored.slots) ≡ Some (turned frame (parts frame (bands_in self.old.game))) }
         ensures shown { result ≡ frame_of self.old.game frame }
@@ -304,6 +303,6 @@ impl<'t> Shelf<'t> {
         let params = self.slots.take(frame);
         let at = frame as usize % self.drawn.len();
         self.spent.params = params;
-        mem::replace(&mut self.drawn[at], empty).into_shown(frame)
+        self.drawn[at].show(frame)
     }
 }

@@ -9,7 +9,7 @@ use Rattle.level_text.specs.declared.script_file.ScriptFault.TheVariants.{OutOfM
 use Rattle.job_core.specs.Core.{IsComplete}
 use Rattle.job_machine.specs.Numbers.{Numbers}
 use Rattle.shared_board.specs.Counts.{names_worker}
-use Rattle.shared_board.specs.Runs.{setup_for}
+use Rattle.task_board.specs.Setups.{setup_for}
 use Rattle.run_fault.specs.Printed.{WrotePart}
 use Rattle.run_report.specs.Reports.{AreStepsOf}
 use Rattle.run_report.specs.declared.report.RunReport.{RunReport}

@@ -8,7 +8,8 @@ pub enum Cause {
     Write,
     /// The gate answered false.
     GateClosed,
-    /// The board refused a call for a reason that no other cause names.
+    /// What no other cause names: the board refused a call, a shown frame lacked a band, or the events were not complete.
+    /// No run is known to end so.
     Stranger,
 }
 

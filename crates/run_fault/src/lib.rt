@@ -2,5 +2,7 @@
 #![tactic(auto)]
 
 mod fault;
+mod joining;
 
 pub use fault::{Cause, RunFault};
+pub use joining::joined;

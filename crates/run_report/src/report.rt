@@ -1,7 +1,7 @@
 ghost use Rattle.std.specs.Prelude.{◌≡◌, ◌==◌, ℕ, IfOk, IfErr, IfSome, count_by, sum, Some, None, false};
 ghost use Rattle.job_core.specs.Core.{IsComplete};
 ghost use Rattle.shared_board.specs.Counts.{names, names_worker};
-ghost use Rattle.shared_board.specs.Runs.{setup_for};
+ghost use Rattle.task_board.specs.Setups.{setup_for};
 ghost use Rattle.run_report.specs.Reports.{AreStepsOf};
 
 use game_session::Session;

@@ -40,11 +40,10 @@ fn wait_for_frame<'m, 't, L: RunLedger, M: Ledger, R: Wait + Clock>(
     }
     hall.waiting.unlock(board);
     inbox.take_all(rt, hall);
-    let board = hall.waiting.lock(rt, &hall.board);
     if hall.waiting.room.count() != 0 {
         hall.waiting.room.call_all();
     }
-    board
+    hall.waiting.lock(rt, &hall.board)
 }
 
 // Shows the next frame, once all of it is drawn. The workers are told: a Logic may have waited for the frame's slot.
@@ -82,8 +81,13 @@ fn emit<'t, L: RunLedger, M: Ledger, R: Wait + Clock>(
                 return Ok(shown);
             }
             Err(BoardFault::Illegal) => board = wait_for_frame(rt, hall, inbox, rest, board),
-            Err(BoardFault::OutOfMemory) => return Err(Cause::OutOfMemory),
-            Err(_) => return Err(Cause::Stranger),
+            Err(fault) => {
+                hall.waiting.unlock(board);
+                return Err(match fault {
+                    BoardFault::OutOfMemory => Cause::OutOfMemory,
+                    _ => Cause::Stranger,
+                });
+            }
         }
     }
     unreachable!()

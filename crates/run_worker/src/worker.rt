@@ -119,11 +119,15 @@ fn wait_for_task<'t, L: RunLedger, M: Ledger, G: Gate, R: Wait + Clock>(
             }
             Ok(false) => {
                 if board.is_done() {
+                    hall.waiting.unlock(board);
                     return Ok(());
                 }
                 (board, is_news) = await_news(rt, hall, rest, board, is_news);
             }
-            Err(fault) => return end_of(fault),
+            Err(fault) => {
+                hall.waiting.unlock(board);
+                return end_of(fault);
+            }
         }
     }
     unreachable!()

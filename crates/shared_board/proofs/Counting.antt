@@ -15,7 +15,8 @@ use Rattle.task_board.specs.Boards.{Played, Happens, IsTaken, IsShown, setup_in}
 use Rattle.task_board.specs.AtOnce.{HappensAtOnce}
 use Rattle.shared_board.specs.Counts.{names_worker, is_emit}
 use Rattle.job_machine.specs.Numbers.{Numbers}
-use Rattle.shared_board.specs.Runs.{setup_for, IsByWorker}
+use Rattle.task_board.specs.Setups.{setup_for}
+use Rattle.shared_board.specs.Runs.{IsByWorker}
 
 -- the run with so many events more, each of a worker
 pub record OfWorker (many : ℕ) (old new : Played) : Type 0 where

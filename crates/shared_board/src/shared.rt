@@ -5,7 +5,7 @@ ghost use Rattle.job_core.specs.Core.{IsComplete};
 ghost use Rattle.frame_params.specs.Tasks.{game_of};
 ghost use Rattle.frame_params.specs.BoardSteps.{IsToldIn};
 ghost use Rattle.shared_board.specs.Counts.{names_worker, is_emit};
-ghost use Rattle.shared_board.specs.Runs.{setup_for};
+ghost use Rattle.task_board.specs.Setups.{setup_for};
 
 use crate::handing::hand_in;
 use frame_params::{BoardStep, Parked, Task, Way};

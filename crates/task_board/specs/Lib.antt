@@ -4,3 +4,4 @@ pub mod Parked
 pub mod HandedIn
 pub mod Given
 pub mod AtOnce
+pub mod Setups

@@ -48,7 +48,7 @@ impl<'t> TaskBoard<'t> {
         Some(next)
     }
 
-    /// Whether a worker runs this very job.
+    /// Whether a worker runs this very job. False on a stopped board.
     pub fn is_run_by(&self, worker: u32, job: JobName) -> bool
         ensures yes { result ≡ true → (step : ℕ) × ((state_in self.now).phase job ≡ Runs worker step) }
         ensures no { result ≡ false → (state_in self.now).stopped ≡ false → (step : ℕ) → (state_in self.now).phase job ≡ Runs worker step → ⊥ }

@@ -6,12 +6,12 @@ ghost use Rattle.task_board.specs.Boards.{setup_in, state_in, Happens, IsRefused
 ghost use Rattle.job_shelf.specs.Dones.{game_done, job_done, IsOtherDone};
 ghost use Rattle.task_board.specs.Parked.{IsOtherParked};
 
-use super::board::{TaskBoard, bands_of};
+use super::board::TaskBoard;
 use super::fitting::{is_of, is_parked_at};
 use super::refused::Refused;
 use frame_params::Parked;
 use job_log::BoardFault;
-use job_shelf::{Done, Drawn, Shown, next_of};
+use job_shelf::{Done, Shown, next_of};
 
 // The calls that hand a result in, and those that hand one out.
 impl<'t> TaskBoard<'t> {
@@ -179,13 +179,10 @@ impl<'t> TaskBoard<'t> {
             Ok(frame) => frame,
             Err(fault) => return Err(fault),
         };
-        let Ok(empty) = Drawn::new(self.alloc, self.session, bands_of(self.session)) else {
-            return Err(BoardFault::OutOfMemory);
-        };
         let Ok(()) = self.jobs.emit(frame) else {
             return Err(BoardFault::OutOfMemory);
         };
-        Ok(self.shelf.show(frame, empty))
+        Ok(self.shelf.show(frame))
     }
 
     /// Nothing happens any more; a second call changes nothing.

@@ -78,13 +78,13 @@ impl Sleepers {
         true
     }
 
-    /// Calls one of them. With the lock free.
+    /// Calls one of them. It is a call of the system, so with the lock free but where the caller is about to give it up.
     pub fn call_one(&self) {
         self.calls.add_one();
         self.calls.wake_one();
     }
 
-    /// Calls all of them. With the lock free.
+    /// Calls all of them, in the same way.
     pub fn call_all(&self) {
         self.calls.add_one();
         self.calls.wake_all();

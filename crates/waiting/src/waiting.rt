@@ -101,14 +101,19 @@ impl Waiting {
         self.workers.spin(rt, lock, &self.held, patience, nanos)
     }
 
-    /// Looks for news of a frame to show, and takes the lock. Whether there were any.
+    /// Looks for news of a frame to show, and takes the lock. Whether there were any. Where all processors work it doesn't
+    /// wait for them, since the printer takes a processor from a worker as long as it looks.
     pub fn look_for_frame<'m, T, R: Wait + Clock>(
         &self,
         rt: &R,
         lock: &'m Mutex<T>,
         patience: &mut Patience,
     ) -> (MutexGuard<'m, T>, bool) {
-        let nanos = patience.length();
+        let nanos = if self.awake() < self.processors {
+            patience.length()
+        } else {
+            0
+        };
         self.printer.spin(rt, lock, &self.held, patience, nanos)
     }
 

@@ -1,5 +1,5 @@
 use Rattle.std.proofs.Common.{rules, ◌∙◌}
-use Rattle.shared_board.specs.Runs.{setup_for}
+use Rattle.task_board.specs.Setups.{setup_for}
 use Rattle.run_report.specs.Reports.{AreStepsOf}
 use Rattle.run_report.proofs.Steps.{sum_steps}
 use Rattle.run_report.proofs.report.report_on.Goals as goal
