@@ -68,12 +68,14 @@ impl<'t> Board<'t> {
         Ok(Board { run, works })
     }
 
+    /// The level and the script that it plays.
     pub fn session(&self) -> &'t Session
         ensures { result.now ≡ self.now.run.game }
     {
         self.run.session()
     }
 
+    /// The numbers that it was opened with.
     pub fn settings(&self) -> Settings
         ensures { result ≡ self.now.run.numbers }
     {
@@ -88,6 +90,7 @@ impl<'t> Board<'t> {
         self.run.events()
     }
 
+    /// Whether it was stopped, so that nothing happens any more.
     pub fn is_stopped(&self) -> bool
         ensures { result ≡ (state_in self.now.run).stopped }
     {

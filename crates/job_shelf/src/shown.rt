@@ -22,8 +22,9 @@ impl<'t> Model for Shown<'t> {
 }
 
 impl<'t> Shown<'t> {
-    ghost use Rattle.frame_params.specs.Contents.{signals_in, world_after, statuses_in, bands_in};
+    ghost use Rattle.frame_params.specs.Contents.{signals_in, world_after, statuses_in};
 
+    /// Its number; frames count from 1.
     pub fn frame(&self) -> u32
         ensures { result ≡ self.now.frame }
     {
@@ -43,13 +44,6 @@ impl<'t> Shown<'t> {
         ensures agents { length result.now.agents ≡ length self.now.game.trees }
     {
         self.turn.world()
-    }
-
-    /// How many bands the frame has.
-    pub fn band_count(&self) -> u32
-        ensures { result ≡ bands_in self.now.game }
-    {
-        self.turn.bands()
     }
 
     /// The answer of each agent's tick, by agent number.

@@ -3,6 +3,7 @@ use task_board::JobName;
 /// Asked by a worker for each job that it is given: once before the work, and once after it where the work succeeded. It is
 /// asked with the board's lock free, so it may wait until other workers have come. A run whose gate answers false ends.
 pub trait Gate: Sync {
+    /// Whether the worker may go on with this job. `worked` says that it is asked behind the work.
     fn pass(&self, worker: u32, job: JobName, worked: bool) -> bool;
 
     /// Whether it lets every job pass, and need not be asked. Then a worker does what is at hand without giving the lock up

@@ -27,6 +27,7 @@ impl Rest {
         Duration::from_millis(self.millis)
     }
 
+    /// There was nothing to do: the next sleep is twice as long, a second at most.
     pub fn lengthen(&mut self) {
         self.millis = self.millis.saturating_mul(2).min(LONGEST);
     }

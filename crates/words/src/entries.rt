@@ -11,7 +11,7 @@ use std::alloc::{AllocError, Global};
 pub fn missing(alloc: Global, name: &str) -> WordsFault
     ensures { IsNoHelp result }
 {
-    match String::from_str(alloc, name) {
+    match format!(in alloc; "error: no {name}\n") {
         Ok(text) => WordsFault::Refused(text),
         Err(_) => WordsFault::OutOfMemory,
     }

@@ -1,37 +1,38 @@
 // A number below 0, which clap takes for an option that it doesn't know.
+use crate::table::{Argument, Form, SUBCOMMANDS};
 use std::alloc::{AllocError, Global};
 
 /// An option that takes a number, and the numbers that it takes.
 #[derive(Clone, Copy)]
 struct NumberOption {
     name: &'static str,
-    range: &'static str,
+    least: u32,
+    most: u32,
 }
 
-static NUMBER_OPTIONS: [NumberOption; 4] = [
-    NumberOption {
-        name: "frames",
-        range: "0..=9999",
-    },
-    NumberOption {
-        name: "workers",
-        range: "1..=16",
-    },
-    NumberOption {
-        name: "fibers",
-        range: "3..=64",
-    },
-    NumberOption {
-        name: "slots",
-        range: "1..=16",
-    },
-];
+fn arguments_of(command: &str) -> &'static [Argument] {
+    for subcommand in &SUBCOMMANDS {
+        if subcommand.name == command {
+            return subcommand.arguments;
+        }
+    }
+    &[]
+}
 
-fn option_of(word: &str) -> Option<NumberOption> {
+fn option_of(arguments: &[Argument], word: &str) -> Option<NumberOption> {
     let name = word.strip_prefix("--")?;
-    for option in &NUMBER_OPTIONS {
-        if option.name == name {
-            return Some(*option);
+    for argument in arguments {
+        if argument.name == name {
+            return match argument.form {
+                Form::Number { least, most } | Form::Default { least, most, .. } => {
+                    Some(NumberOption {
+                        name: argument.name,
+                        least,
+                        most,
+                    })
+                }
+                Form::Place | Form::Path => None,
+            };
         }
     }
     None
@@ -44,20 +45,44 @@ fn is_below_zero(word: &str) -> bool {
     }
 }
 
-/// What is said of the first such number, in the form of clap's own text for a number that is out of its range.
-pub fn negative_text(alloc: Global, words: &[String]) -> Result<Option<String>, AllocError> {
+/// Whether clap's text is about this number, which it takes for short options and tells by the first of them.
+fn is_about(told: &str, number: &str) -> bool {
+    match told.strip_prefix("error: unexpected argument '") {
+        Some(rest) => {
+            let (option, number) = (rest.as_bytes(), number.as_bytes());
+            option.len() > 1 && number.len() > 1 && option[..2] == number[..2]
+        }
+        None => false,
+    }
+}
+
+/// What is said of such a number behind an option, where clap's text `told` is about it: in the form of clap's own text for
+/// a number that is out of its range.
+pub fn negative_text(
+    alloc: Global,
+    words: &[String],
+    told: &str,
+) -> Result<Option<String>, AllocError> {
+    let Some((command, words)) = words.split_first() else {
+        return Ok(None);
+    };
+    let arguments = arguments_of(command.as_str());
     let mut before: Option<NumberOption> = None;
     for word in words {
-        if let Some(option) = before {
-            if is_below_zero(word.as_str()) {
-                let text = format!(in alloc;
-                    "error: invalid value '{word}' for '--{} <{}>': {word} is not in {}\n\nFor more information, try '--help'.\n",
-                    option.name, option.name, option.range
-                )?;
-                return Ok(Some(text));
+        if is_below_zero(word.as_str()) {
+            let Some(option) = before else {
+                return Ok(None);
+            };
+            if !is_about(told, word.as_str()) {
+                return Ok(None);
             }
+            let text = format!(in alloc;
+                "error: invalid value '{word}' for '--{} <{}>': {word} is not in {}..={}\n\nFor more information, try '--help'.\n",
+                option.name, option.name, option.least, option.most
+            )?;
+            return Ok(Some(text));
         }
-        before = option_of(word.as_str());
+        before = option_of(arguments, word.as_str());
     }
     Ok(None)
 }

@@ -20,20 +20,19 @@ fn fault_of(alloc: Global, words: &[String], error: &Error) -> WordsFault
     if error.kind() == ErrorKind::OutOfMemory {
         return WordsFault::OutOfMemory;
     }
-    if error.kind() == ErrorKind::UnknownArgument {
-        match negative_text(alloc, words) {
-            Ok(Some(text)) => return WordsFault::Refused(text),
-            Ok(None) => {}
-            Err(_) => return WordsFault::OutOfMemory,
-        }
-    }
     let Ok(text) = error.to_string(alloc) else {
         return WordsFault::OutOfMemory;
     };
     if error.kind() == ErrorKind::DisplayHelp {
-        WordsFault::Help(text)
-    } else {
-        WordsFault::Refused(text)
+        return WordsFault::Help(text);
+    }
+    if error.kind() != ErrorKind::UnknownArgument {
+        return WordsFault::Refused(text);
+    }
+    match negative_text(alloc, words, text.as_str()) {
+        Ok(Some(text)) => WordsFault::Refused(text),
+        Ok(None) => WordsFault::Refused(text),
+        Err(_) => WordsFault::OutOfMemory,
     }
 }
 

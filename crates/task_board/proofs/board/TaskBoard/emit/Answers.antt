@@ -22,9 +22,6 @@ show-requires-clause-drawn c = (there_for c.self.inside.session.now c.self.insid
 pub returns-in_default-clause-refused : goal.returns-in_default-clause-refused
 returns-in_default-clause-refused c = subst (λ b. IsEmitRefused b OutOfMemory) c.self.view_is (c.in-Ok.frame, (known c.self.inside.session.now c.self.inside.jobs c.self.inside.shelf c.self.invariant (IsToShow (Ok c.in-Ok.frame)) c.in-Ok.ensures))
 
-pub returns-in_default-emit-clause-refused : goal.returns-in_default-emit-clause-refused
-returns-in_default-emit-clause-refused c = subst (λ b. IsEmitRefused b OutOfMemory) c.self.view_is (c.in-Ok.frame, (known c.self.inside.session.now c.self.inside.jobs c.self.inside.shelf c.self.invariant (IsToShow (Ok c.in-Ok.frame)) c.in-Ok.ensures))
-
 pub invariant_of-self-2 : goal.invariant_of-self-2
 invariant_of-self-2 c = kept_after c.self.inside.session.now c.self.inside.jobs c.self.inside.shelf c.self.invariant (Emit c.in-Ok.frame) (known c.self.inside.session.now c.self.inside.jobs c.self.inside.shelf c.self.invariant (IsToShow (Ok c.in-Ok.frame)) c.in-Ok.ensures) c.emit.new.self c.in-Ok-emit.ensures.ok c.show.new.self (c.show.ensures.stored (state_in (seen_as c.self.inside.session.now c.self.inside.jobs)))
 
