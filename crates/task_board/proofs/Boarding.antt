@@ -1,5 +1,5 @@
 -- A board that keeps itself, before an event and after it.
-use Rattle.std.proofs.Common.{◌≡◌, ◌≤◌, ◌<◌, ◌+◌, ◌-◌, ◌↔◌, ℕ, zero, suc, true, false, Err, Some, length, refl, sym, ap, ◌∙◌, subst, inl, inr, arith}
+use Rattle.std.proofs.Common.{◌≡◌, ◌≤◌, ◌<◌, ◌+◌, ◌-◌, ◌↔◌, ℕ, zero, suc, true, false, Err, Some, length, refl, sym, ap, ◌∙◌, subst, inl, inr, ⊎_elim, arith}
 use Rattle.game_rules.specs.Game.{Game}
 use Rattle.job_core.specs.declared.names.Event.{Event}
 use Rattle.job_core.specs.Core.{Setup, State, IsJob, IsAtEnd, same, opening, Runs, Waits, IsLegal, IsLegalList, step_of}
@@ -25,7 +25,7 @@ use Rattle.frame_params.specs.declared.task.Task.{Task}
 use Rattle.task_board.specs.Boards.{Played, jobs_of, setup_in, state_in, with_event, Happens, IsStart, IsResume, Starts, Resumes, IsOn, IsBeginning, NeedsBeginning, IsRefused, IsTakeRefused, IsEmitRefused, NoOther, IsBoard}
 use Rattle.frame_params.specs.Names.{QuestionOf}
 use Rattle.frame_params.specs.Contents.{questions_in, seen, memory_before, world_after, memories_after}
-use Rattle.job_shelf.specs.Dones.{game_done, job_done, IsDoneAt}
+use Rattle.job_shelf.specs.Dones.{game_done, job_done, IsOtherDone, IsDoneAt}
 use Rattle.job_shelf.specs.declared.done.Done.{Done}
 use Rattle.job_shelf.specs.declared.done.Done.TheVariants.{Turned, Thought, Way, Drawn}
 use Rattle.board_law.specs.Stored.{store}
@@ -34,6 +34,7 @@ use Rattle.job_machine.specs.Numbers.{IsWithinLimits}
 use Rattle.job_shelf.specs.Shelf.{Shelved, Stores, sizes}
 use Rattle.task_board.proofs.Sized.{shelf_of, there_of, stored_next}
 use Rattle.task_board.specs.Given.{MayBeTakenUp}
+use Rattle.task_board.specs.Parked.{IsOtherParked}
 use Rattle.task_board.proofs.Tasked.{job_is}
 
 -- as a board sees itself
@@ -132,10 +133,10 @@ not_running b w other event OutOfMemory h = absurd h
 
 module _ (b : Played) (w : ℕ) (event : JobName → Event) (j : JobName) (k : ℕ) (on : IsOn b w) (runs : (state_in b).phase j ≡ Runs w k) (needs : NeedsBeginning b w event) where
   pub not_a_logic : ((f : ℕ) → j ≡ Logic f → ⊥) → IsRefused b w NoOther event Illegal
-  not_a_logic never = (on, (j, k, runs, λ m. let n = needs j m in never n.0 n.1))
+  not_a_logic never = (on, (j, k, runs, λ o. o, λ m. let n = needs j m in never n.0 n.1))
 
   pub not_at_start : (k ≡ 0 → ⊥) → IsRefused b w NoOther event Illegal
-  not_at_start never = (on, (j, k, runs, λ m. let n = needs j m in let z : Runs w k ≡ Runs w 0 = sym runs ∙ (ap (state_in b).phase n.1 ∙ n.2) in let y : k ≡ 0 = cc in never y))
+  not_at_start never = (on, (j, k, runs, λ o. o, λ m. let n = needs j m in let z : Runs w k ≡ Runs w 0 = sym runs ∙ (ap (state_in b).phase n.1 ∙ n.2) in let y : k ≡ 0 = cc in never y))
 
 pub spread_needs : (b : Played) (w : ℕ) → NeedsBeginning b w (Spread w)
 spread_needs b w (Logic f) m = (f, refl, m.1.0)
@@ -151,16 +152,22 @@ hold_needs b w (Draw f d) m = absurd m.1
 
 module _ (b : Played) (w f : ℕ) (at_start : IsBeginning b w f) where
   pub spread_refused : (state_in b).emitted + b.numbers.slots < f → IsRefused b w NoOther (Spread w) Illegal
-  spread_refused l = (at_start.on, (Logic f, 0, at_start.runs, λ m. let a = m.1.1 in omega arith))
+  spread_refused l = (at_start.on, (Logic f, 0, at_start.runs, λ o. o, λ m. let a = m.1.1 in omega arith))
 
   pub hold_refused : f ≤ (state_in b).emitted + b.numbers.slots → IsRefused b w NoOther (Hold w) Illegal
-  hold_refused l = (at_start.on, (Logic f, 0, at_start.runs, λ m. let a = m.1.1 in omega arith))
+  hold_refused l = (at_start.on, (Logic f, 0, at_start.runs, λ o. o, λ m. let a = m.1.1 in omega arith))
 
   pub spread_legal : f ≤ (state_in b).emitted + b.numbers.slots → IsLegal (setup_in b) (state_in b) (Spread w (Logic f))
   spread_legal l = (at_start.on.0, (at_start.runs, l))
 
   pub hold_legal : (state_in b).emitted + b.numbers.slots < f → IsLegal (setup_in b) (state_in b) (Hold w (Logic f))
   hold_legal l = (at_start.on.0, (at_start.runs, l))
+
+  pub spread_full : f ≤ (state_in b).emitted + b.numbers.slots → IsRefused b w NoOther (Spread w) OutOfMemory
+  spread_full l = (Logic f, 0, at_start.runs, λ o. o, spread_legal l)
+
+  pub hold_full : (state_in b).emitted + b.numbers.slots < f → IsRefused b w NoOther (Hold w) OutOfMemory
+  hold_full l = (Logic f, 0, at_start.runs, λ o. o, hold_legal l)
 
 -- ---- what an idle worker is given
 
@@ -240,6 +247,9 @@ module _ (b : Played) (lawful : IsLegalList (setup_in b) b.events) (w : ℕ) (on
       let many : asked_in b.game p.frame p.agent ≡ questions_in p.game p.frame p.agent = asked_is b.game p.frame p.agent job.0.0 ∙ ap (λ x. questions_in x p.frame p.agent) (sym g) in
       (on.0, (k, ap (state_in b).phase e ∙ runs, omega arith))
 
+  pub ask_full : (p : QuestionOf) → Think p.frame p.agent ≡ j → p.question ≡ k → p.game ≡ b.game → k < questions_in p.game p.frame p.agent → IsRefused b w (IsOtherParked p b.game) (Ask w) OutOfMemory
+  ask_full p e q g l = (j, k, runs, ⊎_elim (λ n. n e) (⊎_elim (λ n. n q) (λ n. n g)), subst (λ x. IsLegal (setup_in b) (state_in b) (Ask w x)) e (ask_legal p e q g l))
+
   at_end : (done : Done) → job_done done ≡ j → game_done done ≡ b.game → IsJob (setup_in b) (job_done done) → IsDoneAt done k ↔ IsAtEnd (setup_in b) (job_done done) k
   at_end (Turned t) e g job = (λ x. x, λ x. x)
   at_end (Thought t) e g job =
@@ -253,14 +263,21 @@ module _ (b : Played) (lawful : IsLegalList (setup_in b) b.events) (w : ℕ) (on
       let job : IsJob (setup_in b) (job_done done) = subst (IsJob (setup_in b)) (sym e) a_job in
       (on.0, (k, runs, subst (λ x. IsAtEnd (setup_in b) x k) e ((at_end done e g job).0 d)))
 
-  pub finish_refused : (other : JobName → ℕ → Type 0) (done : Done) → job_done done ≡ j → game_done done ≡ b.game → (IsDoneAt done k → ⊥) → IsRefused b w other (Finish w) Illegal
-  finish_refused other done e g never =
+  not_other : (done : Done) → job_done done ≡ j → game_done done ≡ b.game → IsOtherDone done b.game j k → ⊥
+  not_other done e g = ⊎_elim (λ n. n e) (λ n. n g)
+
+  pub finish_full : (done : Done) → job_done done ≡ j → game_done done ≡ b.game → IsDoneAt done k → IsRefused b w (IsOtherDone done b.game) (Finish w) OutOfMemory
+  finish_full done e g d = (j, k, runs, not_other done e g, finish_legal done e g d)
+
+  pub finish_refused : (done : Done) → job_done done ≡ j → game_done done ≡ b.game → (IsDoneAt done k → ⊥) → IsRefused b w (IsOtherDone done b.game) (Finish w) Illegal
+  finish_refused done e g never =
       let job : IsJob (setup_in b) (job_done done) = subst (IsJob (setup_in b)) (sym e) a_job in (
         on,
         (
           j,
           k,
           runs,
+          not_other done e g,
           λ m.
               let both : Runs w m.1.0 ≡ Runs w k = sym m.1.1 ∙ runs in
               let step : m.1.0 ≡ k = cc in

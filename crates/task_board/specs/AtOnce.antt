@@ -1,7 +1,8 @@
 -- A question that is asked and answered in one call, and why that is refused.
 use Rattle.std.specs.Prelude.{◌≡◌, ℕ, ◌++◌}
+use Rattle.job_core.specs.declared.names.JobName.TheVariants.{Think}
 use Rattle.job_core.specs.declared.names.Event.TheVariants.{Ask}
-use Rattle.job_core.specs.Core.{IsLegalFrom}
+use Rattle.job_core.specs.Core.{Runs, IsLegalFrom}
 use Rattle.board_law.specs.Board.{core_of}
 use Rattle.frame_params.specs.Names.{QuestionOf}
 use Rattle.job_log.specs.AtOnce.{asked_at_once, GoesFirst}
@@ -19,7 +20,8 @@ pub record HappensAtOnce (old new : Played) (w : ℕ) (q : QuestionOf) : Type 0 
 abbrev pub GoesFirstOn : Played → QuestionOf → Type 0
 GoesFirstOn b q = GoesFirst (core_of (setup_in b) b.events) q.frame q.agent q.question
 
--- illegal where its path would not be taken before all else, and for the rest as a question that waits for its answer
+-- illegal where the worker stands at it and its path would not be taken before all else, and for the rest as a question that
+-- waits for its answer
 abbrev pub IsAtOnceRefused : Played → ℕ → QuestionOf → BoardFault → Type 0
-IsAtOnceRefused b w q Illegal = IsOn b w × (GoesFirstOn b q → ⊥)
+IsAtOnceRefused b w q Illegal = IsOn b w × ((state_in b).phase (Think q.frame q.agent) ≡ Runs w q.question) × (q.game ≡ b.game) × (GoesFirstOn b q → ⊥)
 IsAtOnceRefused b w q fault = IsRefused b w (IsOtherParked q b.game) (Ask w) fault

@@ -128,8 +128,8 @@ IsRefused b w other event Stopped = (state_in b).stopped ≡ true
 IsRefused b w other event NoWorker = ((state_in b).stopped ≡ false) × (b.numbers.workers ≤ w)
 IsRefused b w other event NotRunning = IsOn b w × IsIdle (state_in b) w
 IsRefused b w other event WrongResult = IsOn b w × ((j : JobName) × (k : ℕ) × ((state_in b).phase j ≡ Runs w k) × other j k)
-IsRefused b w other event Illegal = IsOn b w × ((j : JobName) × (k : ℕ) × ((state_in b).phase j ≡ Runs w k) × (IsLegal (setup_in b) (state_in b) (event j) → ⊥))
-IsRefused b w other event OutOfMemory = (j : JobName) × IsLegal (setup_in b) (state_in b) (event j)
+IsRefused b w other event Illegal = IsOn b w × ((j : JobName) × (k : ℕ) × ((state_in b).phase j ≡ Runs w k) × (other j k → ⊥) × (IsLegal (setup_in b) (state_in b) (event j) → ⊥))
+IsRefused b w other event OutOfMemory = (j : JobName) × (k : ℕ) × ((state_in b).phase j ≡ Runs w k) × (other j k → ⊥) × IsLegal (setup_in b) (state_in b) (event j)
 IsRefused b w other event Busy = ⊥
 
 abbrev pub IsEmitRefused : Played → BoardFault → Type 0

@@ -8,7 +8,7 @@ use Rattle.job_log.specs.declared.fault.BoardFault.TheVariants.{WrongResult, Out
 use Rattle.task_board.specs.Boards.{Played, setup_in, state_in, IsOn}
 use Rattle.task_board.specs.AtOnce.{GoesFirstOn, IsAtOnceRefused}
 use Rattle.task_board.specs.Parked.{IsOtherParked}
-use Rattle.task_board.proofs.Boarding.{known, other_result, ask_legal, seen_as}
+use Rattle.task_board.proofs.Boarding.{known, other_result, ask_legal, ask_full, seen_as}
 use Rattle.task_board.proofs.AtOnce.{at_once_legal, at_once_not_running}
 use Rattle.task_board.proofs.board.TaskBoard.ask_at_once.Goals as goal
 
@@ -27,7 +27,13 @@ returns-then-not-is_parked_at-clause-refused c =
 pub returns-then-not-goes_first-clause-refused : goal.returns-then-not-goes_first-clause-refused
 returns-then-not-goes_first-clause-refused c =
     let run = known c.self.inside.session.now c.self.inside.jobs c.self.inside.shelf c.self.invariant (IsRunning c.args.worker (Ok c.in-Ok.held)) c.in-Ok.ensures in
-    (subst (λ b. IsOn b c.args.worker) c.self.view_is run.0, c.goes_first.ensures.no c.if-not-goes_first.true)
+    let yes = c.is_parked_at.ensures.yes c.if-not-is_parked_at.false in
+    let runs = ap (state_in (seen_as c.self.inside.session.now c.self.inside.jobs)).phase yes.0 ∙ (run.1 ∙ ap (Runs c.args.worker) (sym yes.1)) in (
+      subst (λ b. IsOn b c.args.worker) c.self.view_is run.0,
+      subst (λ (b : Played). (state_in b).phase (Think c.args.parked.frame c.args.parked.agent) ≡ Runs c.args.worker c.args.parked.question) c.self.view_is runs,
+      c.requires.game,
+      c.goes_first.ensures.no c.if-not-goes_first.true,
+    )
 
 pub park_answered-requires-clause-legal : goal.park_answered-requires-clause-legal
 park_answered-requires-clause-legal c =
@@ -55,4 +61,4 @@ returns-in-Err-park_answered-clause-refused c =
     let yes = c.is_parked_at.ensures.yes c.if-not-is_parked_at.false in
     let game : c.args.parked.game ≡ c.self.inside.session.now = c.requires.game ∙ sym (ap (λ (b : Played). b.game) c.self.view_is) in
     subst (λ b. IsAtOnceRefused b c.args.worker c.args.parked OutOfMemory) c.self.view_is
-    (Think c.args.parked.frame c.args.parked.agent, ask_legal (seen_as c.self.inside.session.now c.self.inside.jobs) c.self.invariant.lawful c.args.worker run.0 c.in-Ok.held.job c.in-Ok.held.step run.1 c.args.parked yes.0 yes.1 game yes.2)
+    (ask_full (seen_as c.self.inside.session.now c.self.inside.jobs) c.self.invariant.lawful c.args.worker run.0 c.in-Ok.held.job c.in-Ok.held.step run.1 c.args.parked yes.0 yes.1 game yes.2)

@@ -1,12 +1,11 @@
 use Rattle.std.proofs.Common.{◌≡◌, Ok, Err, sym, ap, ◌∙◌, inl, inr, ⊎_elim, subst}
-use Rattle.job_core.specs.declared.names.JobName.TheVariants.{Think}
 use Rattle.job_core.specs.declared.names.Event.TheVariants.{Ask}
 use Rattle.job_log.specs.Looks.{IsRunning}
 use Rattle.job_log.specs.declared.fault.BoardFault.TheVariants.{WrongResult, OutOfMemory}
 use Rattle.job_core.specs.Core.{Runs}
 use Rattle.task_board.specs.Boards.{Played, IsRefused, state_in}
 use Rattle.task_board.specs.Parked.{IsOtherParked}
-use Rattle.task_board.proofs.Boarding.{known, not_running, other_result, ask_legal, seen_as}
+use Rattle.task_board.proofs.Boarding.{known, not_running, other_result, ask_legal, ask_full, seen_as}
 use Rattle.task_board.proofs.board.TaskBoard.ask_own.Goals as goal
 
 pub returns-in-Err-clause-refused : goal.returns-in-Err-clause-refused
@@ -37,4 +36,4 @@ returns-in-Err-park-clause-refused c =
     let run = known c.self.inside.session.now c.self.inside.jobs c.self.inside.shelf c.self.invariant (IsRunning c.args.worker (Ok c.in-Ok.held)) c.in-Ok.ensures in
     let yes = c.is_parked_at.ensures.yes c.if-not-is_parked_at.false in
     let game : c.args.parked.game ≡ c.self.inside.session.now = c.requires ∙ sym (ap (λ (b : Played). b.game) c.self.view_is) in
-    subst (λ b. IsRefused b c.args.worker (IsOtherParked c.args.parked b.game) (Ask c.args.worker) OutOfMemory) c.self.view_is (Think c.args.parked.frame c.args.parked.agent, ask_legal (seen_as c.self.inside.session.now c.self.inside.jobs) c.self.invariant.lawful c.args.worker run.0 c.in-Ok.held.job c.in-Ok.held.step run.1 c.args.parked yes.0 yes.1 game yes.2)
+    subst (λ b. IsRefused b c.args.worker (IsOtherParked c.args.parked b.game) (Ask c.args.worker) OutOfMemory) c.self.view_is (ask_full (seen_as c.self.inside.session.now c.self.inside.jobs) c.self.invariant.lawful c.args.worker run.0 c.in-Ok.held.job c.in-Ok.held.step run.1 c.args.parked yes.0 yes.1 game yes.2)

@@ -6,7 +6,7 @@ use Rattle.job_log.specs.Looks.{IsRunning}
 use Rattle.job_log.specs.declared.fault.BoardFault.TheVariants.{WrongResult, Illegal, OutOfMemory}
 use Rattle.task_board.specs.Boards.{Played, IsRefused, setup_in, state_in}
 use Rattle.job_shelf.specs.Dones.{game_done, IsOtherDone}
-use Rattle.task_board.proofs.Boarding.{known, not_running, other_result, finish_legal, finish_refused, seen_as}
+use Rattle.task_board.proofs.Boarding.{known, not_running, other_result, finish_legal, finish_full, finish_refused, seen_as}
 use Rattle.task_board.proofs.board.TaskBoard.finish_own.Goals as goal
 
 pub returns-in-Err-clause-refused : goal.returns-in-Err-clause-refused
@@ -26,7 +26,7 @@ returns-then-not-is_at-clause-refused c =
     let job = c.is_of.ensures.yes c.if-not-is_of.false in
     let game : game_done c.args.done ≡ c.self.inside.session.now = c.requires ∙ sym (ap (λ (b : Played). b.game) c.self.view_is) in
     subst (λ b. IsRefused b c.args.worker (IsOtherDone c.args.done b.game) (Finish c.args.worker) Illegal) c.self.view_is
-    (finish_refused (seen_as c.self.inside.session.now c.self.inside.jobs) c.self.invariant.lawful c.args.worker run.0 c.held.inside.job c.held.inside.step runs (IsOtherDone c.args.done c.self.inside.session.now) c.args.done job game (c.is_at.ensures.no c.if-not-is_at.true))
+    (finish_refused (seen_as c.self.inside.session.now c.self.inside.jobs) c.self.invariant.lawful c.args.worker run.0 c.held.inside.job c.held.inside.step runs c.args.done job game (c.is_at.ensures.no c.if-not-is_at.true))
 
 pub end-requires-clause-legal : goal.end-requires-clause-legal
 end-requires-clause-legal c =
@@ -43,4 +43,4 @@ returns-in-Err-end-clause-refused c =
     let runs = subst (λ (h : Held). (state_in (seen_as c.self.inside.session.now c.self.inside.jobs)).phase h.job ≡ Runs c.args.worker h.step) (sym c.held.view_is) run.1 in
     let job = c.is_of.ensures.yes c.if-not-is_of.false in
     let game : game_done c.args.done ≡ c.self.inside.session.now = c.requires ∙ sym (ap (λ (b : Played). b.game) c.self.view_is) in
-    subst (λ b. IsRefused b c.args.worker (IsOtherDone c.args.done b.game) (Finish c.args.worker) OutOfMemory) c.self.view_is (c.held.inside.job, finish_legal (seen_as c.self.inside.session.now c.self.inside.jobs) c.self.invariant.lawful c.args.worker run.0 c.held.inside.job c.held.inside.step runs c.args.done job game (c.is_at.ensures.yes c.if-not-is_at.false))
+    subst (λ b. IsRefused b c.args.worker (IsOtherDone c.args.done b.game) (Finish c.args.worker) OutOfMemory) c.self.view_is (finish_full (seen_as c.self.inside.session.now c.self.inside.jobs) c.self.invariant.lawful c.args.worker run.0 c.held.inside.job c.held.inside.step runs c.args.done job game (c.is_at.ensures.yes c.if-not-is_at.false))
