@@ -313,7 +313,8 @@ pub fn work<'t, L: RunLedger, M: Ledger, G: Gate, R: Wait + Clock>(
     requires run { L.game ≡ Some session.now }
     requires part { share.parts ≡ 1 }
     requires putter { IsPutterOf hall.now.mail putter }
-    ensures { IsPutterOf hall.now.mail result.putter × (result.putter.worker ≡ putter.entry.worker) }
+    ensures mail { IsPutterOf hall.now.mail result.putter }
+    ensures worker { result.putter.worker ≡ putter.entry.worker }
 {
     let mut share = share;
     let mut putter = putter;

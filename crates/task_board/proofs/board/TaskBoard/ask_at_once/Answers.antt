@@ -61,4 +61,4 @@ returns-in-Err-park_answered-clause-refused c =
     let yes = c.is_parked_at.ensures.yes c.if-not-is_parked_at.false in
     let game : c.args.parked.game ≡ c.self.inside.session.now = c.requires.game ∙ sym (ap (λ (b : Played). b.game) c.self.view_is) in
     subst (λ b. IsAtOnceRefused b c.args.worker c.args.parked OutOfMemory) c.self.view_is
-    (ask_full (seen_as c.self.inside.session.now c.self.inside.jobs) c.self.invariant.lawful c.args.worker run.0 c.in-Ok.held.job c.in-Ok.held.step run.1 c.args.parked yes.0 yes.1 game yes.2)
+    (subst (λ b. GoesFirstOn b c.args.parked) (sym c.self.view_is) (c.goes_first.ensures.yes c.if-not-goes_first.false), ask_full (seen_as c.self.inside.session.now c.self.inside.jobs) c.self.invariant.lawful c.args.worker run.0 c.in-Ok.held.job c.in-Ok.held.step run.1 c.args.parked yes.0 yes.1 game yes.2)
