@@ -1,4 +1,4 @@
-ghost use Rattle.std.specs.Prelude.{◌≡◌, OnOk, IsOk, IfErr};
+ghost use Rattle.std.specs.Prelude.{◌≡◌, OnOk, IsOk, IfErr, None};
 ghost use Rattle.run_fault.specs.Printed.{frames_of};
 
 use crate::fault::{Cause, RunFault};
@@ -8,6 +8,7 @@ use crate::fault::{Cause, RunFault};
 /// is answered.
 pub fn joined(printed: Result<(), RunFault>, met: Option<Cause>, last: u32) -> Result<(), RunFault>
     ensures ok { OnOk result (IsOk printed) }
+    ensures met { OnOk result (met ≡ None) }
     ensures frames { IfErr result (λ e. e.frames ≡ frames_of printed last) }
 {
     match (printed, met) {
