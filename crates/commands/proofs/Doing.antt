@@ -27,7 +27,7 @@ on_err_map (Err e) P Q f p = f p
 -- each fault has a status of its own
 above_zero : (f : Fault) → 0 < status_of f
 above_zero (faults.File path) = omega arith
-above_zero faults.Input = omega arith
+above_zero faults.StandardInput = omega arith
 above_zero faults.Json = omega arith
 above_zero faults.Shape = omega arith
 above_zero faults.MapSize = omega arith
@@ -37,11 +37,11 @@ above_zero faults.AgentCount = omega arith
 above_zero (faults.BadTree name limit) = omega arith
 above_zero (faults.NoTree letter) = omega arith
 above_zero (faults.NoPlace name) = omega arith
-above_zero (faults.Line n) = omega arith
-above_zero (faults.Order n) = omega arith
+above_zero (faults.ScriptLine n) = omega arith
+above_zero (faults.ScriptOrder n) = omega arith
 above_zero faults.LogHead = omega arith
 above_zero (faults.LogLine n) = omega arith
-above_zero (faults.Illegal n) = omega arith
+above_zero (faults.IllegalEvent n) = omega arith
 above_zero (faults.Incomplete shown frames) = omega arith
 above_zero faults.Write = omega arith
 above_zero faults.Spawn = omega arith

@@ -13,13 +13,13 @@ use Rattle.run_fault.specs.declared.fault.Cause.TheVariants as causes
 use Rattle.play_run.specs.declared.fault.PlayFault.{PlayFault}
 use Rattle.play_run.specs.declared.fault.PlayFault.TheVariants.{Level, Script, Run}
 use Rattle.commands.specs.declared.faults.Fault.{Fault}
-use Rattle.commands.specs.declared.faults.Fault.TheVariants.{File, Input, Json, Shape, MapSize, MapChar, Letters, AgentCount, BadTree, NoTree, NoPlace, Line, Order, LogHead, LogLine, Write, Spawn, GateClosed, Stranger, OutOfMemory}
+use Rattle.commands.specs.declared.faults.Fault.TheVariants.{File, StandardInput, Json, Shape, MapSize, MapChar, Letters, AgentCount, BadTree, NoTree, NoPlace, ScriptLine, ScriptOrder, LogHead, LogLine, Write, Spawn, GateClosed, Stranger, OutOfMemory}
 use Rattle.play_run.specs.Games.{spelled_game}
 
 -- a file or a write failed; refused words or files; want of memory, or the run failed otherwise
 abbrev pub status_of : Fault → ℕ
 status_of (File path) = 1
-status_of Input = 1
+status_of StandardInput = 1
 status_of Write = 1
 status_of Spawn = 3
 status_of GateClosed = 3
@@ -48,8 +48,8 @@ IsOfLevel (levels.NoPlace name) fault = fault ≡ NoPlace name
 
 abbrev pub IsOfScript : ScriptFault → Fault → Type 0
 IsOfScript scripts.OutOfMemory fault = fault ≡ OutOfMemory
-IsOfScript (scripts.Line n) fault = fault ≡ Line n
-IsOfScript (scripts.Order n) fault = fault ≡ Order n
+IsOfScript (scripts.Line n) fault = fault ≡ ScriptLine n
+IsOfScript (scripts.Order n) fault = fault ≡ ScriptOrder n
 
 abbrev pub IsOfLog : LogFault → Fault → Type 0
 IsOfLog logs.OutOfMemory fault = fault ≡ OutOfMemory

@@ -56,8 +56,8 @@ impl From<ScriptFault> for Fault {
     fn from(fault: ScriptFault) -> Fault {
         match fault {
             ScriptFault::OutOfMemory => Fault::OutOfMemory,
-            ScriptFault::Line { n } => Fault::Line(n),
-            ScriptFault::Order { n } => Fault::Order(n),
+            ScriptFault::Line { n } => Fault::ScriptLine(n),
+            ScriptFault::Order { n } => Fault::ScriptOrder(n),
         }
     }
 }

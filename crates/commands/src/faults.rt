@@ -12,7 +12,7 @@ pub enum Fault {
     #[error("file: {0}")]
     File(String),
     #[error("file: standard input")]
-    Input,
+    StandardInput,
     #[error("level: json")]
     Json,
     #[error("level: shape")]
@@ -32,15 +32,15 @@ pub enum Fault {
     #[error("level: tree {name} names a place that is not on the map")]
     NoPlace { name: String },
     #[error("script: line {0}")]
-    Line(u64),
+    ScriptLine(u64),
     #[error("script: order at line {0}")]
-    Order(u64),
+    ScriptOrder(u64),
     #[error("log: head")]
     LogHead,
     #[error("log: line {0}")]
     LogLine(u64),
     #[error("log: illegal event {0}")]
-    Illegal(u64),
+    IllegalEvent(u64),
     #[error("log: incomplete, {shown} of {frames} frames")]
     Incomplete { shown: u32, frames: u32 },
     #[error("run: write")]
@@ -72,7 +72,7 @@ impl Fault {
         ensures { result ≡ status_of self.now }
     {
         match self {
-            Fault::File(_) | Fault::Input | Fault::Write => 1,
+            Fault::File(_) | Fault::StandardInput | Fault::Write => 1,
             Fault::Spawn | Fault::GateClosed | Fault::Stranger | Fault::OutOfMemory => 3,
             _ => 2,
         }

@@ -38,7 +38,7 @@ pub fn play_input<H: Threads + Wait + Clock + Sync, R: Read, W: Write>(
     let bytes = match read_whole(alloc, input) {
         Ok(bytes) => bytes,
         Err(ReadFault::OutOfMemory) => return Err(Fault::OutOfMemory),
-        Err(ReadFault::Read) => return Err(Fault::Input),
+        Err(ReadFault::Read) => return Err(Fault::StandardInput),
     };
     match play_bytes(rt, alloc, &bytes, &[], few_frames(), out) {
         Ok(_) => Ok(()),
