@@ -98,6 +98,7 @@ impl<A: Allocator> Tree<A> {
         u64::from(self.subtrees[node as usize])
     }
 
+    /// The root, below which are all the nodes. It has the number 0.
     pub fn root(&self) -> &Node<A>
         ensures value { plain result.now ≡ plain_of self.now }
         ensures within { tree_fault (plain result.now) ≡ None }

@@ -34,6 +34,7 @@ impl Memory {
         })
     }
 
+    /// The same numbers, in memory of `alloc`. Takes time linear in the number of nodes.
     pub fn copy(&self, alloc: Global) -> Result<Memory, AllocError>
         ensures { IfOk result (λ m. m ≡ self.now) }
     {

@@ -90,6 +90,7 @@ pub struct Case {
 }
 
 impl Case {
+    /// A case of no acts and no files, whose input is empty, and that wants no output and the status 0.
     pub fn new(alloc: Global, name: String) -> Case {
         Case {
             name,

@@ -13,6 +13,7 @@ use job_queues::Fiber;
 use std::alloc::Global;
 use std::marker::Model;
 
+/// Why a call changes no counter.
 #[derive(Clone, Copy, Debug, PartialEq, Eq)]
 pub enum CounterFault {
     OutOfMemory,
@@ -79,6 +80,7 @@ fn place(all: &[Counter], key: CounterKey) -> Option<usize>
 }
 
 impl Counters {
+    /// No counter is in use. It takes no memory before the first starts; all is taken from `alloc`.
     pub fn new(alloc: Global) -> Counters
         ensures { result ≡ [] }
     {

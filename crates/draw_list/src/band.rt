@@ -18,12 +18,14 @@ impl Model for Rows {
 }
 
 impl Rows {
+    /// Rows of this text, which is not copied.
     pub fn new(text: Vec<u8>) -> Rows
         ensures { result ≡ text.items }
     {
         Rows { text }
     }
 
+    /// The text of all its rows, in ASCII.
     pub fn as_bytes(&self) -> &[u8]
         ensures { result.now ≡ self.now }
     {

@@ -7,11 +7,13 @@ pub struct Frame<'t, T: Allocator> {
     pub node: &'t Node<T>,
     /// The node's number, in preorder from 0.
     pub number: u16,
-    /// The index of the child to be ticked next.
+    /// How many of its children were begun or passed over: the index of the one to be ticked next, if there is one.
     pub next: u16,
-    /// How many children have answered Success.
+    /// How many children of a `Par` have answered Success in this tick; 0 in a node of another kind.
     pub successes: u16,
-    /// How many children have answered Failure.
+    /// How many children of a `Par` have answered Failure in this tick. Of `Tries` and `Ticks` it is what the agent's
+    /// memory had for the node when it was opened: the failures of the child so far, or its Running answers in a row.
+    /// 0 in a node of another kind.
     pub failures: u16,
 }
 

@@ -27,6 +27,7 @@ impl<F: Copy, A: Allocator> Model for Pile<F, A> {
 }
 
 impl<F: Copy, A: Allocator> Pile<F, A> {
+    /// A stack of no values. It takes no memory before the first push.
     pub fn empty(alloc: A) -> Self
         ensures { result ≡ [] }
     {
@@ -35,6 +36,7 @@ impl<F: Copy, A: Allocator> Pile<F, A> {
         }
     }
 
+    /// How many values are on it, in constant time.
     pub fn depth(&self) -> u32
         ensures { result ≡ length self.now }
     {

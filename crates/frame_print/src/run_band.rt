@@ -18,6 +18,7 @@ pub struct RunBand<'t, L: RunLedger> {
 }
 
 impl<'t, L: RunLedger> RunBand<'t, L> {
+    /// A band of this run: its game is that of the run's session.
     pub fn new(session: &Session, band: BandOut<'t>) -> RunBand<'t, L>
         requires run { L.game ≡ Some session.now }
         requires own { band.game ≡ session.now }

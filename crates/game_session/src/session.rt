@@ -43,6 +43,7 @@ impl Model for Session {
 }
 
 impl Session {
+    /// A session of any level and any script: a script may name signals of which the map has no door.
     pub fn new(level: Level, script: Script) -> Session
         ensures { result ≡ game_of (value_of level) script }
     {
@@ -72,6 +73,7 @@ impl Session {
         &self.level
     }
 
+    /// The changes of signals, by frame.
     pub fn script(&self) -> &Script
         ensures { result.now ≡ self.now.changes }
     {

@@ -6,12 +6,16 @@ ghost use Rattle.grid_world.specs.Glyphs.{base_glyph, content_glyph, glyph_of};
 use crate::cell::Cell;
 use crate::signal::Signals;
 
+/// What a wall is drawn as.
 pub const WALL: u8 = b'#';
 
+/// What floor is drawn as with nobody and no item there.
 pub const FLOOR: u8 = b'.';
 
+/// What a door is drawn as while its signal is on; a shut one is drawn as the letter of its signal.
 pub const OPEN_DOOR: u8 = b'/';
 
+/// What an item is drawn as where no agent stands, on whatever ground it lies.
 pub const ITEM: u8 = b'*';
 
 /// What a cell is drawn as where nothing is on it.

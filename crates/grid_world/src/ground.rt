@@ -96,6 +96,7 @@ impl Ground {
         &self.doors
     }
 
+    /// The number of columns, from 1 to 128.
     pub fn width(&self) -> u32
         ensures value { result ≡ self.now.width }
         ensures sized { IsSized self.now }
@@ -103,6 +104,7 @@ impl Ground {
         self.columns
     }
 
+    /// The number of rows, from 1 to 128.
     pub fn height(&self) -> u32
         ensures value { result ≡ self.now.height }
         ensures sized { IsSized self.now }
@@ -124,6 +126,7 @@ impl Ground {
         }
     }
 
+    /// A cell by its column and its row, in constant time; `None` off the map.
     pub fn cell(&self, x: u32, y: u32) -> Option<Cell>
         ensures { result ≡ (if is_on_map self.now (point x y) then Some (cell_at self.now (point x y)) else None) }
     {
@@ -134,6 +137,7 @@ impl Ground {
         }
     }
 
+    /// Whether a cell can be stepped on under these signals, whoever stands there; not so off the map.
     pub fn is_open(&self, signals: Signals, x: u32, y: u32) -> bool
         ensures { result ≡ is_open self.now signals (point x y) }
     {
@@ -143,6 +147,7 @@ impl Ground {
         }
     }
 
+    /// The cell of a place, as its column and its row, in constant time; `None` where the map lacks the place.
     pub fn place(&self, place: Place) -> Option<(u32, u32)>
         ensures { option_map (λ cell. point cell.0 cell.1) result ≡ place_of self.now place }
     {

@@ -26,6 +26,7 @@ impl Model for Items {
 }
 
 impl Items {
+    /// A table that nobody shares yet: for each cell, row after row, whether an item lies there.
     pub fn new(alloc: Global, table: Vec<bool>) -> Result<Items, AllocError>
         ensures { IfOk result (λ items. items ≡ table.items) }
     {
@@ -44,6 +45,7 @@ impl Items {
         })
     }
 
+    /// For each cell, row after row, whether an item lies there.
     pub fn cells(&self) -> &[bool]
         ensures { result.now ≡ self.now }
     {

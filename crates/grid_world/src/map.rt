@@ -16,6 +16,7 @@ fn row_width(row: &String) -> usize
     row.chars().count()
 }
 
+/// How many characters the first row has, 0 where there is no row; they are Unicode scalar values.
 pub fn first_width(rows: &[String]) -> usize
     ensures { result ≡ width_of (rows_of rows.now) }
 {
@@ -25,6 +26,7 @@ pub fn first_width(rows: &[String]) -> usize
     }
 }
 
+/// Whether there are from 1 to 128 rows, each of from 1 to 128 characters, and all of one length.
 pub fn has_size(rows: &[String]) -> bool
     ensures { result ≡ has_size (rows_of rows.now) }
 {
@@ -46,6 +48,7 @@ fn row_marks(alloc: Global, row: &String) -> Result<Vec<char>, AllocError>
     row.chars().collect(alloc)
 }
 
+/// The characters of all rows, one row after another.
 pub fn marks_in(alloc: Global, rows: &[String]) -> Result<Vec<char>, AllocError>
     ensures { IfOk result (λ marks. marks.items ≡ marks_of (rows_of rows.now)) }
 {
@@ -63,6 +66,7 @@ fn is_mark(c: char) -> bool
     matches!(c, '#' | '.' | '*' | 'a'..='z' | '0'..='9' | 'A'..='Z')
 }
 
+/// The place of the first character that no map has.
 pub fn strange_mark(marks: &[char]) -> Option<usize>
     ensures is { result ≡ position (λ c. not (is_mark c)) marks.now }
     ensures within { IfSome result (λ i. i < length marks.now) }
@@ -91,6 +95,7 @@ fn letters_in(marks: &[char]) -> usize
     marks.iter().filter(|c| **c >= 'A' && **c <= 'Z').count()
 }
 
+/// Whether the capital letters are `A` onwards without a gap, each once, and no digit stands twice.
 pub fn has_letters(marks: &[char]) -> bool
     ensures { result ≡ has_letters marks.now }
 {
@@ -144,6 +149,7 @@ fn push_some(agents: &mut Vec<Agent>, agent: Option<Agent>) -> Result<(), AllocE
     Ok(())
 }
 
+/// The agents in the order of their letters, each with empty hands. Walks over the characters once for each letter.
 pub fn agents_in(alloc: Global, width: u32, marks: &[char]) -> Result<Vec<Agent>, AllocError>
     requires wide { 0 < width }
     requires few { length marks.now ≤ 16384 }
@@ -176,6 +182,7 @@ fn cell_in(c: char) -> Cell
     Cell::Floor
 }
 
+/// The ground of each cell, row after row: a letter of an agent and the mark of an item stand on floor.
 pub fn cells_in(alloc: Global, marks: &[char]) -> Result<Vec<Cell>, AllocError>
     ensures { IfOk result (λ cells. cells.items ≡ map cell_of marks.now) }
 {

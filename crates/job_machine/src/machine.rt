@@ -103,6 +103,7 @@ impl Machine {
         })
     }
 
+    /// Stops the board: no event is legal from then on, and nothing undoes it. All else stays as it is.
     pub fn stop(&mut self)
         ensures { (s : Setup) → self.new ≡ core_after s self.old Event.Stop }
     {

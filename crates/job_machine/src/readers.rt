@@ -50,12 +50,14 @@ impl Machine {
         Some(Fiber(place as u32))
     }
 
+    /// Whether a job is queued, still to be started. Takes time linear in the number of queued jobs.
     pub fn is_queued(&self, job: JobName) -> bool
         ensures { result ≡ has (same job) (all self.now.queues.fresh) }
     {
         self.queues.is_queued(job)
     }
 
+    /// Whether a fiber is ready to go on. Takes time linear in the number of ready fibers.
     pub fn is_ready(&self, fiber: Fiber) -> bool
         ensures { result ≡ has (λ other. fiber == other) (all self.now.queues.ready) }
     {
@@ -76,6 +78,7 @@ impl Machine {
         self.emitted
     }
 
+    /// Whether the board is stopped; it stays so.
     pub fn is_stopped(&self) -> bool
         ensures { result ≡ self.now.stopped }
     {

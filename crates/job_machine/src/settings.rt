@@ -70,6 +70,7 @@ impl Settings {
         })
     }
 
+    /// How many frames are run, at most 9999; there may be none.
     pub fn frames(&self) -> u32
         ensures value { result ≡ self.now.frames }
         ensures most { result ≤ 9999 }
@@ -77,6 +78,7 @@ impl Settings {
         self.frames
     }
 
+    /// How many workers there are, from 1 to 16.
     pub fn workers(&self) -> u32
         ensures value { result ≡ self.now.workers }
         ensures least { 1 ≤ result }
@@ -85,6 +87,7 @@ impl Settings {
         self.workers
     }
 
+    /// How many fibers the pool has, from 3 to 64.
     pub fn fibers(&self) -> u32
         ensures value { result ≡ self.now.fibers }
         ensures least { 3 ≤ result }
@@ -93,6 +96,7 @@ impl Settings {
         self.fibers
     }
 
+    /// How many frames may be under way at once, from 1 to 16.
     pub fn slots(&self) -> u32
         ensures value { result ≡ self.now.slots }
         ensures least { 1 ≤ result }

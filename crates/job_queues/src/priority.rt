@@ -35,6 +35,7 @@ pub fn fibers_wanted(job: JobName) -> u32
     }
 }
 
+/// Whether two names are of one job.
 pub fn is_same(one: JobName, other: JobName) -> bool
     ensures { result ≡ same one other }
 {

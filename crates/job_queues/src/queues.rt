@@ -16,6 +16,7 @@ use job_core::names::JobName;
 use std::alloc::{AllocError, Global};
 use std::marker::Model;
 
+/// Why a queue is unchanged.
 #[derive(Clone, Copy, Debug, PartialEq, Eq)]
 pub enum QueueFault {
     OutOfMemory,

@@ -16,6 +16,7 @@ pub enum Done<'t> {
 impl<'t> Done<'t> {
     ghost use Rattle.job_shelf.specs.Dones.{game_done, job_done, step_done, IsDoneAt};
 
+    /// The session that its frame is played in.
     pub fn session(&self) -> &'t Session
         ensures { result.now ≡ game_done self.now }
     {

@@ -110,6 +110,7 @@ pub fn next_of<'t>(alloc: Global, done: &Done<'t>) -> Result<Option<FrameParams<
 }
 
 impl<'t> Shelf<'t> {
+    /// A shelf of nothing but the parameters of the first frame, with room for each slot, agent and band of a frame.
     pub fn new(
         alloc: Global,
         session: &'t Session,

@@ -54,6 +54,7 @@ impl<'t> Shown<'t> {
         self.turn.statuses()
     }
 
+    /// The turn of the frame, which it is made of.
     pub fn into_turn(self) -> Turn<'t>
         ensures { result ≡ self.entry }
     {

@@ -32,6 +32,7 @@ impl<'t, L: RunLedger, M: Ledger> Drop for Hall<'t, L, M> {
 }
 
 impl<'t, L: RunLedger, M: Ledger> Hall<'t, L, M> {
+    /// A hall in which nobody waits yet, with places beside the lock for so many workers and the printer.
     pub fn new<R: Threads>(
         rt: &R,
         board: SharedBoard<'t, L, M>,

@@ -18,4 +18,5 @@ impl<'m, 't, L: RunLedger> Promise<Worked<'t, L>> for SeatOf<'m, 't, L> {
     ghost kept_by = { λ p r. IsPutterOf p.mail.now r.putter × (r.putter.worker ≡ p.worker) };
 }
 
+/// The handle of a worker's thread, with the promise of what it hands back once it is joined.
 pub type Seat<'m, 't, L> = PromisedHandle<Worked<'t, L>, SeatOf<'m, 't, L>>;

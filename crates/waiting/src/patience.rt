@@ -16,6 +16,7 @@ pub struct Patience {
 }
 
 impl Patience {
+    /// The patience of a thread that has not waited yet: it looks for long at first.
     pub fn new() -> Patience {
         Patience {
             finds: true,

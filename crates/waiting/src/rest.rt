@@ -15,6 +15,7 @@ pub struct Rest {
 }
 
 impl Rest {
+    /// A rest whose first sleep is the shortest, a millisecond.
     pub fn new() -> Rest {
         Rest {
             millis: SHORTEST,

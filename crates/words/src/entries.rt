@@ -17,6 +17,7 @@ pub fn missing(alloc: Global, name: &str) -> WordsFault
     }
 }
 
+/// The number of an entry that has to be there. The fault is `missing`'s, also where the text is no number below 2^32.
 pub fn number_entry(alloc: Global, matches: &ArgMatches<'_>, name: &str) -> Result<u32, WordsFault>
     ensures number { IfOk result (λ n. IsNumber (first_of name.now (rows_of (found_of matches.now))) n) }
     ensures fault { IfErr result IsNoHelp }
@@ -30,6 +31,7 @@ pub fn number_entry(alloc: Global, matches: &ArgMatches<'_>, name: &str) -> Resu
     }
 }
 
+/// The text of an entry that has to be there. The fault is `missing`'s, or want of memory.
 pub fn text_entry(alloc: Global, matches: &ArgMatches<'_>, name: &str) -> Result<String, WordsFault>
     ensures text { IfOk result (λ t. first_of name.now (rows_of (found_of matches.now)) ≡ Some (string_bytes t)) }
     ensures fault { IfErr result IsNoHelp }
@@ -40,6 +42,7 @@ pub fn text_entry(alloc: Global, matches: &ArgMatches<'_>, name: &str) -> Result
     }
 }
 
+/// The text of an entry that may be absent.
 pub fn optional_entry(
     alloc: Global,
     matches: &ArgMatches<'_>,

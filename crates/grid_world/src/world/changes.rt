@@ -17,8 +17,9 @@ use std::alloc::{AllocError, Global};
 ///
 /// A move leads to an open cell on which no agent stands at that point; an agent takes an item of its
 /// cell with empty hands, and drops its item where none lies. What can't be done changes nothing.
-/// Takes time linear in the number of agents; where an item is taken or dropped, it copies a byte for each
-/// cell once: the ground is shared with `world`, and the items as long as they are the same.
+/// Each move looks at all agents, so time grows with their number times the number of moves; where an item is
+/// taken or dropped, it copies a byte for each cell once: the ground is shared with `world`, and the items as
+/// long as they are the same.
 pub fn resolve(
     alloc: Global,
     world: &World,
