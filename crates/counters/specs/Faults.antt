@@ -12,14 +12,11 @@ abbrev pub lower_fault : Option Row → Option CounterFault
 lower_fault None = Some NotThere
 lower_fault (Some row) = if row.left == 0 then Some NotThere else None
 
-abbrev pub wait_fault : Option Row → Option CounterFault
-wait_fault None = Some NotThere
-wait_fault (Some row) = None
+-- where the counter only has to be there
+abbrev pub absent_fault : Option Row → Option CounterFault
+absent_fault None = Some NotThere
+absent_fault (Some row) = None
 
 abbrev pub end_fault : Option Row → Option CounterFault
 end_fault None = Some NotThere
 end_fault (Some row) = if row.left == 0 then None else Some Busy
-
-abbrev pub cancel_fault : Option Row → Option CounterFault
-cancel_fault None = Some NotThere
-cancel_fault (Some row) = None

@@ -5,7 +5,7 @@ ghost use Rattle.job_queues.specs.Places.{IsFirstPlace};
 ghost use Rattle.counters.specs.Keys.{counter_of};
 ghost use Rattle.counters.specs.Rows.{started, left_in, less};
 ghost use Rattle.counters.specs.Replies.{IsLowered, IsWaiting};
-ghost use Rattle.counters.specs.Faults.{start_fault, lower_fault, wait_fault, end_fault, cancel_fault};
+ghost use Rattle.counters.specs.Faults.{start_fault, lower_fault, absent_fault, end_fault};
 
 use super::counter::Counter;
 use super::key::CounterKey;
@@ -171,8 +171,8 @@ impl Counters {
     #[inline(always)]
     pub fn wait(&mut self, key: CounterKey, fiber: Fiber) -> Result<Waits, CounterFault>
         ensures answer { IfOk result (λ answer. IsWaiting (counter_of key) fiber answer self.old self.new) }
-        ensures ok { OnOk result (wait_fault (first_row (counter_of key) self.old) ≡ None) }
-        ensures fault { IfErr result (λ e. e ≡ unwrap_or (wait_fault (first_row (counter_of key) self.old)) CounterFault.OutOfMemory) }
+        ensures ok { OnOk result (absent_fault (first_row (counter_of key) self.old) ≡ None) }
+        ensures fault { IfErr result (λ e. e ≡ unwrap_or (absent_fault (first_row (counter_of key) self.old)) CounterFault.OutOfMemory) }
         ensures unchanged { OnErr result (self.new ≡ self.old) }
     {
         let Some(at) = place(&self.all, key) else {
@@ -218,8 +218,8 @@ impl Counters {
     /// no memory.
     pub fn cancel(&mut self, key: CounterKey) -> Result<(), CounterFault>
         ensures ended { OnOk result (self.new ≡ drop_first (has_key (counter_of key)) self.old) }
-        ensures ok { OnOk result (cancel_fault (first_row (counter_of key) self.old) ≡ None) }
-        ensures fault { IfErr result (λ e. Some e ≡ cancel_fault (first_row (counter_of key) self.old)) }
+        ensures ok { OnOk result (absent_fault (first_row (counter_of key) self.old) ≡ None) }
+        ensures fault { IfErr result (λ e. Some e ≡ absent_fault (first_row (counter_of key) self.old)) }
         ensures unchanged { OnErr result (self.new ≡ self.old) }
     {
         let Some(at) = place(&self.all, key) else {

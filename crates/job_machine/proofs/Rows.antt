@@ -6,7 +6,7 @@ use Rattle.board_law.specs.Board.{Row, same_counter, has_key, first_row, raise, 
 use Rattle.board_law.proofs.Kit.{by_bool}
 use Rattle.board_law.proofs.Tables.{counter_other}
 use Rattle.counters.specs.Rows.{started, left_in}
-use Rattle.counters.specs.Faults.{cancel_fault}
+use Rattle.counters.specs.Faults.{absent_fault}
 use Rattle.counters.specs.declared.counters.CounterFault.{CounterFault}
 use Rattle.counters.proofs.Pairs.{first_row_last, cancelled, change_dropped}
 
@@ -61,9 +61,9 @@ frame_undone frame number fiber rows t s =
 
 -- ---- what the calls on counters answer
 
-pub not_cancelled : (k : Counter) (rows : List Row) (e : CounterFault) → Some e ≡ cancel_fault (first_row k rows) → first_row k rows ≡ None
+pub not_cancelled : (k : Counter) (rows : List Row) (e : CounterFault) → Some e ≡ absent_fault (first_row k rows) → first_row k rows ≡ None
 not_cancelled k rows e f = go (first_row k rows) f
   where
-    go : (o : Option Row) → Some e ≡ cancel_fault o → o ≡ None
+    go : (o : Option Row) → Some e ≡ absent_fault o → o ≡ None
     go None f = refl
     go (Some row) f = absurd cc

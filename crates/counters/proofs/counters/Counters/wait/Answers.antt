@@ -3,12 +3,12 @@ use Rattle.counters.specs.Keys.{counter_of}
 use Rattle.board_law.specs.Board.{with_waiter}
 use Rattle.counters.specs.declared.counters.CounterFault.TheVariants.{OutOfMemory}
 use Rattle.counters.specs.Rows.{left_in}
-use Rattle.counters.specs.Faults.{wait_fault}
+use Rattle.counters.specs.Faults.{absent_fault}
 use Rattle.counters.proofs.Changes.{none_there, row_there, changed_there, on_ok}
 use Rattle.counters.proofs.counters.Counters.wait.Goals as goal
 
 pub returns-in_default-clause-fault : goal.returns-in_default-clause-fault
-returns-in_default-clause-fault c = rw (← c.self.view_is) (sym (ap (λ row. unwrap_or (wait_fault row) OutOfMemory) (none_there (counter_of c.args.key) c.deref.result.now c.self.inside.all.items c.deref.ensures.value c.in_default.ensures)))
+returns-in_default-clause-fault c = rw (← c.self.view_is) (sym (ap (λ row. unwrap_or (absent_fault row) OutOfMemory) (none_there (counter_of c.args.key) c.deref.result.now c.self.inside.all.items c.deref.ensures.value c.in_default.ensures)))
 
 pub returns-clause-answer : goal.returns-clause-answer
 returns-clause-answer c =
