@@ -106,7 +106,7 @@ impl Settings {
     }
 
     /// The numbers are within their limits.
-    pub fn is_within_limits(&self)
+    pub fn limits_hold(&self)
         ensures { IsWithinLimits self.now.frames self.now.workers self.now.fibers self.now.slots }
     {
         let _ = &self.frames;
