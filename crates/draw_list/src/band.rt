@@ -31,12 +31,6 @@ impl Rows {
     {
         &self.text
     }
-
-    pub fn into_bytes(self) -> Vec<u8>
-        ensures { result.items ≡ self }
-    {
-        self.text
-    }
 }
 
 /// A band of a map, as drawn: bands are numbered from 0 at the top, and `width` counts columns.

@@ -1,8 +1,15 @@
-// Whether bands are those of a map, by their numbers and sizes.
+// How many bands a map has, and whether bands are those of a map, by their numbers and sizes.
 ghost use Rattle.std.specs.Prelude.{◌≡◌, ◌≤◌, ◌<◌, ◌+◌};
-ghost use Rattle.draw_list.specs.Bands.{stands_at, gap_from, band_height};
+ghost use Rattle.draw_list.specs.Bands.{stands_at, gap_from, band_count, band_height};
 
 use crate::band::{BAND_ROWS, Band};
+
+/// How many bands a map of so many rows has.
+pub fn band_count(height: u32) -> u32
+    ensures { result ≡ band_count height }
+{
+    height.div_ceil(BAND_ROWS)
+}
 
 /// How many rows a band of a map has, 0 below the last band.
 pub fn band_height(height: u32, number: u32) -> u32
@@ -30,7 +37,7 @@ pub fn first_gap(width: u32, height: u32, bands: &[Band]) -> Option<u32>
     requires high { height ≤ 128 }
     ensures { result ≡ gap_from width height 0 bands.now }
 {
-    let count = height.div_ceil(BAND_ROWS);
+    let count = band_count(height);
     let mut place = 0;
     'bands: for band in bands {
         if place >= count || !stands_at(width, height, place, band) {

@@ -12,3 +12,4 @@ pub use band::{BAND_ROWS, Band, Rows};
 pub use draw::draw_band;
 pub use fault::DrawFault;
 pub use frame::frame_text;
+pub use gap::band_count;

@@ -67,12 +67,6 @@ impl Session {
         self.level.tree_of(agent)
     }
 
-    pub fn level(&self) -> &Level
-        ensures { game_of (value_of result.now) self.now.changes ≡ self.now }
-    {
-        &self.level
-    }
-
     /// The changes of signals, by frame.
     pub fn script(&self) -> &Script
         ensures { result.now ≡ self.now.changes }
