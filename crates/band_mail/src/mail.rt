@@ -1,5 +1,5 @@
 //! One queue for each worker, and one taker of all.
-ghost use Rattle.std.specs.Prelude.{◌≡◌, ◌<◌, [], length, replicate, IfOk, MatchResult, MatchOption, vec_len};
+ghost use Rattle.std.specs.Prelude.{◌≡◌, ◌<◌, [], length, replicate, IfOk, IfErr, OnOk, OnErr, IfSome, MatchOption, vec_len};
 ghost use Rattle.band_mail.specs.Mails.{IsPutterOf, IsAllDelivered, ArePuttersOf, all_put, with_put, with_taken};
 
 use crate::putter::Putter;
@@ -42,7 +42,8 @@ impl<T: Drop> BandMail<T> {
         ensures workers { IfOk result (λ r. length r.0 ≡ workers) }
         ensures putters { IfOk result (λ r. (vec_len r.1 ≡ workers) × ArePuttersOf r.0 r.1.items) }
         ensures taker { IfOk result (λ r. r.2.mail ≡ r.0) }
-        ensures fresh { IfOk result (λ r. (all_put r.1.items ≡ replicate workers []) × (r.2.taken ≡ replicate workers [])) }
+        ensures nothing_put { IfOk result (λ r. all_put r.1.items ≡ replicate workers []) }
+        ensures nothing_taken { IfOk result (λ r. r.2.taken ≡ replicate workers []) }
     {
         let Some(most) = (workers as usize).checked_mul(capacity) else {
             return Err(AllocError);
@@ -68,8 +69,11 @@ impl<T: Drop> BandMail<T> {
     /// Puts a band at the end of the Putter's queue. The band is handed back where that queue was full at one moment of the call.
     pub fn put<R: Wait>(&self, rt: &R, putter: &mut Putter<T>, band: T) -> Result<(), T>
         requires { IsPutterOf self.now putter.old }
-        ensures putter { IsPutterOf self.now putter.new × (putter.new.worker ≡ putter.old.worker) }
-        ensures put { MatchResult result (λ _. putter.new ≡ with_put putter.old band) (λ back. (back ≡ band) × (putter.new ≡ putter.old)) }
+        ensures putter { IsPutterOf self.now putter.new }
+        ensures worker { putter.new.worker ≡ putter.old.worker }
+        ensures put { OnOk result (putter.new ≡ with_put putter.old band) }
+        ensures kept { OnErr result (putter.new ≡ putter.old) }
+        ensures back { IfErr result (λ back. back ≡ band) }
     {
         let queue = &self.queues[putter.worker as usize];
         put(rt, queue, &mut putter.pass, band)
@@ -80,7 +84,8 @@ impl<T: Drop> BandMail<T> {
         requires { taker.old.mail ≡ self.now }
         ensures taker { taker.new.mail ≡ self.now }
         ensures lists { length taker.new.taken ≡ length self.now }
-        ensures taken { MatchOption result (taker.new ≡ taker.old) (λ r. (r.0 < length self.now) × (taker.new ≡ with_taken taker.old r.0 r.1)) }
+        ensures worker { IfSome result (λ r. r.0 < length self.now) }
+        ensures taken { MatchOption result (taker.new ≡ taker.old) (λ r. taker.new ≡ with_taken taker.old r.0 r.1) }
     {
         take_first(rt, &self.queues, &mut taker.passes)
     }

@@ -25,7 +25,8 @@ pub fn put_band<'t, L: RunLedger, M: Ledger, R: Wait + Clock>(
     band: RunBand<'t, L>,
 ) -> bool
     requires { IsPutterOf hall.now.mail putter.old }
-    ensures putter { IsPutterOf hall.now.mail putter.new × (putter.new.worker ≡ putter.old.worker) }
+    ensures putter { IsPutterOf hall.now.mail putter.new }
+    ensures worker { putter.new.worker ≡ putter.old.worker }
     ensures put { result ≡ true → putter.new ≡ with_put putter.old band.entry }
     ensures kept { result ≡ false → putter.new ≡ putter.old }
 {
