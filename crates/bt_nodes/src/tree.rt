@@ -1,4 +1,4 @@
-ghost use Rattle.std.specs.Prelude.{◌≡◌, ◌≢◌, ◌≤◌, ◌<◌, None, Some, IfOk, IfErr, true, false, take, slice_index};
+ghost use Rattle.std.specs.Prelude.{◌≡◌, ◌≢◌, ◌≤◌, ◌<◌, None, Some, IfOk, IfErr, OnOk, true, false, take, slice_index};
 ghost use Rattle.bt_nodes.specs.Plain.{plain};
 ghost use Rattle.bt_nodes.specs.Sizes.{size, depth, subtree_sizes};
 ghost use Rattle.bt_nodes.specs.Limits.{tree_fault};
@@ -40,8 +40,10 @@ impl<A: Allocator> Tree<A> {
     /// The tree with this root, or the first limit that it breaks, with the root handed back. It takes no memory,
     /// and walks over the nodes once for each limit and once for the sizes of its subtrees.
     pub fn new(root: Node<A>) -> Result<Tree<A>, (TreeFault, Node<A>)>
-        ensures ok { IfOk result (λ tree. (plain_of tree ≡ plain root) × (tree_fault (plain root) ≡ None)) }
-        ensures err { IfErr result (λ e. (tree_fault (plain root) ≡ Some e.0) × (e.1 ≡ root)) }
+        ensures ok { IfOk result (λ tree. plain_of tree ≡ plain root) }
+        ensures within { OnOk result (tree_fault (plain root) ≡ None) }
+        ensures err { IfErr result (λ e. tree_fault (plain root) ≡ Some e.0) }
+        ensures back { IfErr result (λ e. e.1 ≡ root) }
     {
         let nodes = root.size();
         if nodes > 255 {

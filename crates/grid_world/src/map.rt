@@ -189,7 +189,7 @@ pub fn cells_in(alloc: Global, marks: &[char]) -> Result<Vec<Cell>, AllocError>
     marks.iter().map(|c| cell_in(*c)).collect(alloc)
 }
 
-// For each cell whether an item lies on it.
+/// For each cell, row after row, whether an item lies on it.
 pub fn items_in(alloc: Global, marks: &[char]) -> Result<Vec<bool>, AllocError>
     ensures { IfOk result (λ items. items.items ≡ map (λ c. c == 42) marks.now) }
 {

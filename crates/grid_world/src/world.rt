@@ -1,4 +1,4 @@
-ghost use Rattle.std.specs.Prelude.{MatchResult, slice_index, IfOk, IfErr, ◌⊎◌, ◌≡◌, AllPairs, ◌<◌, ◌&&◌, IfSome, position, Some, None, length, map, option_map, if◌then◌else◌};
+ghost use Rattle.std.specs.Prelude.{MatchResult, slice_index, IfOk, IfErr, OnOk, ◌⊎◌, ◌≡◌, AllPairs, ◌<◌, ◌&&◌, IfSome, position, Some, None, length, map, option_map, if◌then◌else◌};
 ghost use Rattle.grid_world.specs.Grid.{is_on_map, cell_at, place_of, point_of, same_point};
 ghost use Rattle.grid_world.specs.Open.{is_open, is_passable};
 ghost use Rattle.grid_world.specs.Glyphs.{glyph};
@@ -77,7 +77,8 @@ impl World {
     /// place, `A` to `Z` an agent on floor, with empty hands. The characters of a row are Unicode scalar
     /// values. Takes time linear in the number of cells.
     pub fn from_rows(alloc: Global, rows: &[String]) -> Result<World, MapFault>
-        ensures ok { IfOk result (λ w. (map_fault (rows_of rows.now) ≡ None) × (w ≡ grid_of (rows_of rows.now))) }
+        ensures ok { IfOk result (λ w. w ≡ grid_of (rows_of rows.now)) }
+        ensures faultless { OnOk result (map_fault (rows_of rows.now) ≡ None) }
         ensures err { IfErr result (λ e. (e ≡ OutOfMemory) ⊎ (map_fault (rows_of rows.now) ≡ Some e)) }
     {
         if !has_size(rows) {

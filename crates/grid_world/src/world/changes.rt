@@ -1,5 +1,5 @@
 // How the intents of a frame change a world.
-ghost use Rattle.std.specs.Prelude.{[], ◌≡◌, ◌≢◌, ◌↔◌, ◌<◌, length, option_map, Err, IfOk};
+ghost use Rattle.std.specs.Prelude.{[], ◌≡◌, ◌≢◌, ◌↔◌, ◌<◌, length, option_map, Err, IfOk, OnOk};
 ghost use Rattle.grid_world.specs.Grid.{agent_of, point_of};
 ghost use Rattle.grid_world.specs.Intents.{apply, apply_all, moved};
 ghost use Rattle.grid_world.specs.Walks.{next};
@@ -26,8 +26,8 @@ pub fn resolve(
     signals: Signals,
     intents: &[Intent],
 ) -> Result<World, ResolveFault>
-    ensures ok { IfOk result (λ after. (length intents.now ≡ length world.now.agents)
-        × (after ≡ apply_all world.now signals 0 intents.now)) }
+    ensures ok { IfOk result (λ after. after ≡ apply_all world.now signals 0 intents.now) }
+    ensures counted { OnOk result (length intents.now ≡ length world.now.agents) }
     ensures count { result ≡ Err Count ↔ (length intents.now ≢ length world.now.agents) }
 {
     if intents.len() != world.agents().len() {

@@ -6,7 +6,7 @@ use Rattle.level_text.proofs.read.world_of.Goals as goal
 
 pub returns-in-Ok-clause-ok : goal.returns-in-Ok-clause-ok
 returns-in-Ok-clause-ok c =
-    (row_fault-None c.args.rows.now c.in-Ok.ensures.ok.0, c.in-Ok.ensures.ok.1 ∙ ap grid_of (rows_of-texts c.args.rows.now))
+    (row_fault-None c.args.rows.now c.in-Ok.ensures.faultless, c.in-Ok.ensures.ok ∙ ap grid_of (rows_of-texts c.args.rows.now))
 
 pub returns-in-Err-Size-clause-err : goal.returns-in-Err-Size-clause-err
 returns-in-Err-Size-clause-err c =
