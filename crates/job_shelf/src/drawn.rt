@@ -11,7 +11,7 @@ use std::marker::Model;
 /// What came of a frame that is not shown yet: its turn, and the marks of the bands that are drawn, by number. There is
 /// room for those of all bands.
 #[derive(Drop)]
-pub struct Drawn<'t> {
+pub(crate) struct Drawn<'t> {
     session: &'t Session,
     turn: Option<Turn<'t>>,
     bands: Vec<BandMark<'t>>,
@@ -44,7 +44,11 @@ impl<'t> Drawn<'t> {
     ghost use Rattle.frame_params.specs.Contents.{bands_in};
 
     /// Nothing yet, with room for all bands.
-    pub fn new(alloc: Global, session: &'t Session, bands: u32) -> Result<Drawn<'t>, AllocError>
+    pub(crate) fn new(
+        alloc: Global,
+        session: &'t Session,
+        bands: u32,
+    ) -> Result<Drawn<'t>, AllocError>
         requires { bands ≡ bands_in session.now }
         ensures { IfOk result (λ d. d ≡ record { game = session.now; drawn = nothing }) }
     {

@@ -11,7 +11,6 @@ mod thoughts;
 
 pub use asking::Asking;
 pub use done::Done;
-pub use drawn::Drawn;
 pub use shelf::{Shelf, next_of};
 pub use shown::Shown;
 pub use spent::Spent;
