@@ -13,7 +13,7 @@ use job_queues::Fiber;
 use std::alloc::Global;
 use std::marker::Model;
 
-/// Why a call changes no counter.
+/// Why a call of the counters is refused, which leaves them as they are.
 #[derive(Clone, Copy, Debug, PartialEq, Eq)]
 pub enum CounterFault {
     OutOfMemory,

@@ -35,7 +35,7 @@ pub fn fibers_wanted(job: JobName) -> u32
     }
 }
 
-/// Whether two names are of one job.
+/// Whether two names are of one job: of one kind, with the same numbers.
 pub fn is_same(one: JobName, other: JobName) -> bool
     ensures { result ≡ same one other }
 {

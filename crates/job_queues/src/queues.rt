@@ -16,7 +16,7 @@ use job_core::names::JobName;
 use std::alloc::{AllocError, Global};
 use std::marker::Model;
 
-/// Why a queue is unchanged.
+/// Why a call of the queues is refused, which leaves them as they are.
 #[derive(Clone, Copy, Debug, PartialEq, Eq)]
 pub enum QueueFault {
     OutOfMemory,
