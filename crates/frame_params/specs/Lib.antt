@@ -2,7 +2,5 @@ pub mod Names
 pub mod Contents
 pub mod Logic
 pub mod Slots
-pub mod Thinks
-pub mod Tasks
+pub mod Thoughts
 pub mod Distances
-pub mod BoardSteps

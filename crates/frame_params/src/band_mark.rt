@@ -23,12 +23,14 @@ impl<'t> Model for BandMark<'t> {
 }
 
 impl<'t> BandMark<'t> {
+    /// The session itself, as it was lent.
     pub fn session(&self) -> &'t Session
         ensures { result.now ≡ self.now.game }
     {
         self.session
     }
 
+    /// The job that draws it.
     pub fn name(&self) -> JobName
         ensures { result ≡ JobName.Draw self.now.frame self.now.number }
     {
@@ -38,6 +40,7 @@ impl<'t> BandMark<'t> {
         }
     }
 
+    /// The frame whose band it is.
     pub fn frame(&self) -> u32
         ensures { result ≡ self.now.frame }
     {

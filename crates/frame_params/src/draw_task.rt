@@ -62,12 +62,7 @@ impl<'t> DrawTask<'t> {
         })
     }
 
-    pub fn session(&self) -> &'t Session
-        ensures { result.now ≡ self.now.game }
-    {
-        self.session
-    }
-
+    /// The job whose task it is.
     pub fn name(&self) -> JobName
         ensures { result ≡ JobName.Draw self.now.frame self.now.number }
     {

@@ -17,9 +17,9 @@ use std::alloc::{AllocError, Global};
 use std::marker::Model;
 use std::sync::Arc;
 
-// What a frame starts from: its signals, and the world and the memories of the frame before. All tasks of the frame share
-// one. The world lies apart from it, so that who counts the shares disturbs nobody who reads the world.
-pub(crate) struct FrameStart<'t> {
+/// What a frame starts from: its signals, and the world and the memories of the frame before. All tasks of the frame share
+/// one. The world lies apart from it, so that who counts the shares disturbs nobody who reads the world.
+pub struct FrameStart<'t> {
     session: &'t Session,
     frame: u32,
     signals: Signals,
@@ -121,37 +121,38 @@ impl<'t> FrameStart<'t> {
         })
     }
 
-    pub(crate) fn session(&self) -> &'t Session
+    /// The session itself, as it was lent.
+    pub fn session(&self) -> &'t Session
         ensures { result.now ≡ self.now.game }
     {
         self.session
     }
 
-    // Frames count from 1.
-    pub(crate) fn frame(&self) -> u32
+    /// Frames count from 1.
+    pub fn frame(&self) -> u32
         ensures value { result ≡ self.now.frame }
         ensures positive { 0 < result }
     {
         self.frame
     }
 
-    // The signals of the frame.
-    pub(crate) fn signals(&self) -> Signals
+    /// The signals of the frame.
+    pub fn signals(&self) -> Signals
         ensures { result ≡ signals_in self.now.game self.now.frame }
     {
         self.signals
     }
 
-    // The world after the frame before.
-    pub(crate) fn world(&self) -> &World
+    /// The world after the frame before.
+    pub fn world(&self) -> &World
         ensures value { result.now ≡ world_after self.now.game (self.now.frame - 1) }
         ensures agents { length result.now.agents ≡ length self.now.game.trees }
     {
         &self.world
     }
 
-    // An agent's memory after the frame before.
-    pub(crate) fn memory_of(&self, agent: u32) -> &Memory
+    /// An agent's memory after the frame before.
+    pub fn memory_of(&self, agent: u32) -> &Memory
         requires { agent < length self.now.game.trees }
         ensures value { result.now ≡ memory_before self.now.game self.now.frame agent }
         ensures fits { Fits (tree_of self.now.game agent) result.now }
@@ -166,8 +167,8 @@ impl<'t> FrameStart<'t> {
         &self.known
     }
 
-    // An agent's way to the place of these distances.
-    pub(crate) fn way_by(&self, distances: &KeptDistances<'t>, place: Place, agent: u32) -> Answer
+    /// An agent's way to the place of these distances.
+    pub fn way_by(&self, distances: &KeptDistances<'t>, place: Place, agent: u32) -> Answer
         requires there { agent < length self.now.game.trees }
         requires place { IsGivenIf self.now.game (signals_in self.now.game self.now.frame) place (Some distances.now) }
         ensures { result ≡ way_to_in self.now.game self.now.frame agent place }
@@ -176,8 +177,9 @@ impl<'t> FrameStart<'t> {
         distances.way(cell_on(self.world(), agent))
     }
 
-    // An agent's way to a place, where the distances to it were known before the frame.
-    pub(crate) fn known_way(&self, place: Place, agent: u32) -> Option<Answer>
+    /// An agent's way to a place, where the distances to it were known before the frame. That it is found then is not
+    /// promised: who gets none has it searched for.
+    pub fn known_way(&self, place: Place, agent: u32) -> Option<Answer>
         requires { agent < length self.now.game.trees }
         ensures { IfSome result (λ x. x ≡ way_to_in self.now.game self.now.frame agent place) }
     {

@@ -10,8 +10,8 @@ use std::alloc::{AllocError, Allocator, Global};
 use std::marker::Model;
 use std::sync::Arc;
 
-// The distances to a place, which all that read them share.
-pub(crate) struct KeptDistances<'t> {
+/// The distances to a place, which all that read them share.
+pub struct KeptDistances<'t> {
     shared: Arc<PlaceDistances<'t>>,
 }
 
@@ -35,8 +35,9 @@ impl<'t> Model for KeptDistances<'t> {
 impl<'t> KeptDistances<'t> {
     ghost use Rattle.frame_params.specs.Distances.{distances_of};
 
-    // None where the place is not on the map.
-    pub(crate) fn to<A: Allocator + Clone>(
+    /// Those to a place on the ground of a session while the doors of these signals are open, by one search whose table and
+    /// queue lie in `scratch`; none where the place is not on the map.
+    pub fn to<A: Allocator + Clone>(
         alloc: Global,
         scratch: A,
         session: &'t Session,

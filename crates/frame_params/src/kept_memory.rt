@@ -5,8 +5,8 @@ use std::alloc::{AllocError, Global};
 use std::marker::Model;
 use std::sync::Arc;
 
-// An agent's memory after a frame. The thought that left it, the turn and the parameters of the next frame share it.
-pub(crate) struct KeptMemory {
+/// An agent's memory after a frame. The thought that left it, the turn and the parameters of the next frame share it.
+pub struct KeptMemory {
     memory: Arc<Memory>,
 }
 
@@ -26,7 +26,8 @@ impl Model for KeptMemory {
 }
 
 impl KeptMemory {
-    pub(crate) fn new(alloc: Global, memory: Memory) -> Result<KeptMemory, AllocError>
+    /// A memory that can be shared from now on. Takes memory once.
+    pub fn new(alloc: Global, memory: Memory) -> Result<KeptMemory, AllocError>
         ensures { IfOk result (λ m. m ≡ memory) }
     {
         Ok(KeptMemory {
@@ -34,8 +35,8 @@ impl KeptMemory {
         })
     }
 
-    // The same memory once more; nothing is copied.
-    pub(crate) fn share(&self) -> Result<KeptMemory, AllocError>
+    /// The same memory once more; nothing is copied.
+    pub fn share(&self) -> Result<KeptMemory, AllocError>
         ensures { IfOk result (λ m. m ≡ self.now) }
     {
         Ok(KeptMemory {
@@ -43,6 +44,7 @@ impl KeptMemory {
         })
     }
 
+    // What is shared.
     pub(crate) fn memory(&self) -> &Memory
         ensures { result.now ≡ self.now }
     {

@@ -78,20 +78,15 @@ impl<'t> LogicTask<'t> {
         })
     }
 
-    pub fn session(&self) -> &'t Session
-        ensures { result.now ≡ self.now.game }
-    {
-        self.session
-    }
-
+    /// The job whose task it is.
     pub fn name(&self) -> JobName
         ensures { result ≡ JobName.Logic self.now.frame }
     {
         JobName::Logic { frame: self.frame }
     }
 
-    // Whether its thinks are not spread yet.
-    pub(crate) fn is_at_start(&self) -> bool
+    /// Whether its thinks are not spread yet.
+    pub fn is_at_start(&self) -> bool
         ensures { result ≡ not self.now.has_spread }
     {
         self.gathered.is_none()

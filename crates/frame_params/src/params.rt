@@ -1,16 +1,15 @@
-ghost use Rattle.std.specs.Prelude.{◌≡◌, ◌+◌, ◌-◌, ◌^◌, ◌<◌, IfOk, length};
+ghost use Rattle.std.specs.Prelude.{◌≡◌, ◌+◌, ◌^◌, ◌<◌, IfOk};
 ghost use Rattle.std.specs.Arc.{arc_value};
-ghost use Rattle.bt_nodes.specs.Bounds.{Fits};
-ghost use Rattle.game_jobs.specs.Instance.{tree_of};
-ghost use Rattle.frame_params.specs.Contents.{signals_in, world_after, memory_before};
+ghost use Rattle.frame_params.specs.Contents.{signals_in};
+ghost use Rattle.frame_params.specs.Distances.{IsGivenIf};
 
 use crate::frame_start::FrameStart;
+use crate::kept_distances::KeptDistances;
 use crate::known::Known;
 use crate::turn::Turn;
 use crate::way::Way;
-use bt_tick::Memory;
 use game_session::Session;
-use grid_world::{Signals, World};
+use grid_world::Place;
 use std::alloc::{AllocError, Global};
 use std::marker::Model;
 use std::sync::Arc;
@@ -71,6 +70,7 @@ impl<'t> FrameParams<'t> {
         })
     }
 
+    /// The session itself, as it was lent.
     pub fn session(&self) -> &'t Session
         ensures { result.now ≡ self.now.game }
     {
@@ -85,35 +85,18 @@ impl<'t> FrameParams<'t> {
         self.start.frame()
     }
 
-    /// The signals of the frame.
-    pub fn signals(&self) -> Signals
-        ensures { result ≡ signals_in self.now.game self.now.frame }
-    {
-        self.start.signals()
-    }
-
-    /// The world after the frame before.
-    pub fn world(&self) -> &World
-        ensures value { result.now ≡ world_after self.now.game (self.now.frame - 1) }
-        ensures agents { length result.now.agents ≡ length self.now.game.trees }
-    {
-        self.start.world()
-    }
-
-    /// An agent's memory after the frame before.
-    pub fn memory_of(&self, agent: u32) -> &Memory
-        requires { agent < length self.now.game.trees }
-        ensures value { result.now ≡ memory_before self.now.game self.now.frame agent }
-        ensures fits { Fits (tree_of self.now.game agent) result.now }
-    {
-        self.start.memory_of(agent)
-    }
-
-    // What the frame starts from, once more; nothing is copied.
-    pub(crate) fn share(&self) -> Result<Arc<FrameStart<'t>>, AllocError>
+    /// What the frame starts from, once more; nothing is copied.
+    pub fn share(&self) -> Result<Arc<FrameStart<'t>>, AllocError>
         ensures { IfOk result (λ start. arc_value start ≡ self.now) }
     {
         Ok(Arc::try_clone(&self.start)?)
+    }
+
+    /// The distances to a place under the frame's signals once more, where they are known by now; nothing is copied.
+    pub fn known_to(&self, place: Place) -> Result<Option<KeptDistances<'t>>, AllocError>
+        ensures { IfOk result (IsGivenIf self.now.game (signals_in self.now.game self.now.frame) place) }
+    {
+        Ok(self.known.shared_to(place)?)
     }
 
     /// Keeps the distances that the search for a way of the frame found, for the tasks that are made later and for the

@@ -46,13 +46,6 @@ impl<'t> Slots<'t> {
         Ok(Slots { places })
     }
 
-    /// Whether the place of a frame holds nothing.
-    pub fn is_free(&self, frame: u32) -> bool
-        ensures { result ≡ is_free self.now frame }
-    {
-        self.places[frame as usize % self.places.len()].is_none()
-    }
-
     /// Puts parameters into the place of their frame.
     pub fn fill(&mut self, params: FrameParams<'t>)
         requires { is_free self.old params.frame ≡ true }

@@ -2,9 +2,8 @@ ghost use Rattle.std.specs.Prelude.{◌≡◌};
 ghost use Rattle.bt_nodes.specs.Bounds.{Fits};
 ghost use Rattle.game_jobs.specs.Instance.{tree_of};
 ghost use Rattle.frame_params.specs.Contents.{thought_in, questions_in};
-ghost use Rattle.frame_params.specs.Thinks.{EndsAt};
+ghost use Rattle.frame_params.specs.Thoughts.{EndsAt};
 
-use crate::frame_start::FrameStart;
 use crate::kept_memory::KeptMemory;
 use bt_nodes::Status;
 use game_session::Session;
@@ -14,13 +13,13 @@ use std::marker::Model;
 
 /// What an agent thought in a frame: its tick's answer, its memory after it, and what it wants to do.
 pub struct Thought<'t> {
-    pub(crate) session: &'t Session,
-    pub(crate) frame: u32,
-    pub(crate) agent: u32,
-    pub(crate) questions: u32,
-    pub(crate) status: Status,
-    pub(crate) memory: KeptMemory,
-    pub(crate) intent: Intent,
+    session: &'t Session,
+    frame: u32,
+    agent: u32,
+    questions: u32,
+    status: Status,
+    memory: KeptMemory,
+    intent: Intent,
 }
 
 impl<'t> Drop for Thought<'t> {
@@ -57,12 +56,38 @@ impl<'t> Model for Thought<'t> {
 }
 
 impl<'t> Thought<'t> {
+    /// That of an agent whose tick has ended with its answers to so many questions.
+    pub fn at_end(
+        session: &'t Session,
+        frame: u32,
+        agent: u32,
+        questions: u32,
+        status: Status,
+        memory: KeptMemory,
+        intent: Intent,
+    ) -> Thought<'t>
+        requires { EndsAt session.now frame agent questions status memory intent }
+        ensures { result ≡ record { game = session.now; frame = frame; number = agent } }
+    {
+        Thought {
+            session,
+            frame,
+            agent,
+            questions,
+            status,
+            memory,
+            intent,
+        }
+    }
+
+    /// The session itself, as it was lent.
     pub fn session(&self) -> &'t Session
         ensures { result.now ≡ self.now.game }
     {
         self.session
     }
 
+    /// The job whose work it is.
     pub fn name(&self) -> JobName
         ensures { result ≡ JobName.Think self.now.frame self.now.number }
     {
@@ -72,6 +97,7 @@ impl<'t> Thought<'t> {
         }
     }
 
+    /// The agent that thought.
     pub fn agent(&self) -> u32
         ensures { result ≡ self.now.number }
     {
@@ -83,29 +109,6 @@ impl<'t> Thought<'t> {
         ensures { result ≡ questions_in self.now.game self.now.frame self.now.number }
     {
         self.questions
-    }
-
-    // That of an agent whose tick has ended with its answers to so many questions.
-    pub(crate) fn at_end(
-        start: &FrameStart<'t>,
-        agent: u32,
-        questions: u32,
-        status: Status,
-        memory: KeptMemory,
-        intent: Intent,
-    ) -> Thought<'t>
-        requires { EndsAt start.now.game start.now.frame agent questions status memory intent }
-        ensures { result ≡ record { game = start.now.game; frame = start.now.frame; number = agent } }
-    {
-        Thought {
-            session: start.session(),
-            frame: start.frame(),
-            agent,
-            questions,
-            status,
-            memory,
-            intent,
-        }
     }
 
     // The tick's answer.

@@ -55,18 +55,21 @@ impl<'t> Model for Turn<'t> {
 }
 
 impl<'t> Turn<'t> {
+    /// The session itself, as it was lent.
     pub fn session(&self) -> &'t Session
         ensures { result.now ≡ self.now.game }
     {
         self.session
     }
 
+    /// The job whose work it is.
     pub fn name(&self) -> JobName
         ensures { result ≡ JobName.Logic self.now.frame }
     {
         JobName::Logic { frame: self.frame }
     }
 
+    /// Frames count from 1.
     pub fn frame(&self) -> u32
         ensures { result ≡ self.now.frame }
     {

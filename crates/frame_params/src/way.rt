@@ -1,5 +1,7 @@
 ghost use Rattle.std.specs.Prelude.{◌≡◌};
-ghost use Rattle.frame_params.specs.Contents.{way_in};
+ghost use Rattle.frame_params.specs.Contents.{signals_in, way_in};
+ghost use Rattle.frame_params.specs.Distances.{IsUnderIf};
+ghost use Rattle.frame_params.specs.Thoughts.{IsWayOf};
 
 use crate::kept_distances::KeptDistances;
 use game_session::Session;
@@ -9,11 +11,11 @@ use std::marker::Model;
 
 /// The answer to a path question of an agent in a frame.
 pub struct Way<'t> {
-    pub(crate) session: &'t Session,
+    session: &'t Session,
     pub(crate) frame: u32,
-    pub(crate) agent: u32,
-    pub(crate) question: u32,
-    pub(crate) answer: Answer,
+    agent: u32,
+    question: u32,
+    answer: Answer,
     // The distances that its search found; they are under the signals of the frame.
     pub(crate) found: Option<KeptDistances<'t>>,
 }
@@ -38,7 +40,7 @@ impl<'t> Model for Way<'t> {
 
     ghost coded = { question_code };
 
-    ghost use Rattle.frame_params.specs.Thinks.{IsWayOf};
+    ghost use Rattle.frame_params.specs.Thoughts.{IsWayOf};
     ghost use Rattle.frame_params.specs.Contents.{signals_in};
     ghost use Rattle.frame_params.specs.Distances.{IsUnderIf};
 
@@ -49,12 +51,37 @@ impl<'t> Model for Way<'t> {
 }
 
 impl<'t> Way<'t> {
+    /// The answer to a question of an agent's tick, and the distances that its search found, if it made one.
+    pub fn new(
+        session: &'t Session,
+        frame: u32,
+        agent: u32,
+        question: u32,
+        answer: Answer,
+        found: Option<KeptDistances<'t>>,
+    ) -> Way<'t>
+        requires way { IsWayOf session.now frame agent question answer }
+        requires found { IsUnderIf session.now (signals_in session.now frame) found }
+        ensures { result ≡ record { game = session.now; frame = frame; agent = agent; question = question } }
+    {
+        Way {
+            session,
+            frame,
+            agent,
+            question,
+            answer,
+            found,
+        }
+    }
+
+    /// The session itself, as it was lent.
     pub fn session(&self) -> &'t Session
         ensures { result.now ≡ self.now.game }
     {
         self.session
     }
 
+    /// The job whose work it is.
     pub fn name(&self) -> JobName
         ensures { result ≡ JobName.Path self.now.frame self.now.agent self.now.question }
     {
@@ -72,8 +99,8 @@ impl<'t> Way<'t> {
         self.agent
     }
 
-    // The first step of the way, or why there is none.
-    pub(crate) fn answer(&self) -> Answer
+    /// The first step of the way, or why there is none.
+    pub fn answer(&self) -> Answer
         ensures { result ≡ way_in self.now.game self.now.frame self.now.agent self.now.question }
     {
         self.answer

@@ -7,10 +7,10 @@ use Rattle.job_core.specs.declared.names.JobName.{JobName}
 use Rattle.job_core.specs.declared.names.JobName.TheVariants.{Logic, Think}
 use Rattle.frame_params.specs.Names.{QuestionOf}
 use Rattle.frame_params.specs.Contents.{questions_in}
-use Rattle.frame_params.specs.Tasks.{IsTaskAt}
-use Rattle.frame_params.specs.BoardSteps.{IsToldOf}
-use Rattle.frame_params.specs.declared.task.Task.{Task}
-use Rattle.frame_params.specs.declared.board_step.BoardStep.{BoardStep}
+use Rattle.frame_tasks.specs.Tasks.{IsTaskAt}
+use Rattle.frame_tasks.specs.BoardSteps.{IsToldOf}
+use Rattle.frame_tasks.specs.declared.task.Task.{Task}
+use Rattle.frame_tasks.specs.declared.board_step.BoardStep.{BoardStep}
 use Rattle.job_core.specs.Core.{Runs, IsLegalList}
 use Rattle.task_board.specs.Boards.{Played, setup_in, state_in}
 use Rattle.task_board.specs.BoardCode.{job_code}

@@ -2,7 +2,8 @@
 use denote.Ref.{NamedLft}
 use denote.Param.Send.{IsSend, sendable}
 use Rattle.std.proofs.Crossing.{crosses}
-use Rattle.frame_params.proofs.Crossing.{session, way, thought, turn, band_mark, parked, params, slots}
+use Rattle.frame_params.proofs.Crossing.{session, way, thought, turn, band_mark, params, slots}
+use Rattle.frame_tasks.proofs.Crossing.{parked}
 use Rattle.job_shelf.specs.contracts.done.Done as Done
 use Rattle.job_shelf.specs.contracts.shown.Shown as Shown
 use Rattle.job_shelf.specs.contracts.asking.Asking as Asking

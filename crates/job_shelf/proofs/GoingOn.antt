@@ -6,8 +6,8 @@ use Rattle.job_core.specs.declared.names.JobName.TheVariants.{Think}
 use Rattle.board_law.specs.Stored.{Asked, asked}
 use Rattle.board_law.specs.Needed.{HasParts}
 use Rattle.frame_params.specs.Names.{QuestionOf, ThinkOf, question_of, think_of}
-use Rattle.frame_params.specs.Tasks.{IsTaskAt}
-use Rattle.frame_params.specs.declared.task.Task.TheVariants.{Think as ThinkTask}
+use Rattle.frame_tasks.specs.Tasks.{IsTaskAt}
+use Rattle.frame_tasks.specs.declared.task.Task.TheVariants.{Think as ThinkTask}
 use Rattle.job_shelf.specs.Shelf.{Shelved, sizes}
 
 module _ (k : Shelved) (f a : ℕ) (o : Option Asked) (g : Game) (q : QuestionOf) (t : ThinkOf) (same : g ≡ k.game) (here : slice_get k.stored.asking a ≡ Some o)

@@ -4,10 +4,10 @@ use Rattle.game_rules.specs.Game.{Game}
 use Rattle.job_core.specs.declared.names.JobName.{JobName}
 use Rattle.job_core.specs.declared.names.JobName.TheVariants.{Logic, Think, Path, Draw}
 use Rattle.frame_params.specs.Contents.{questions_in}
-use Rattle.frame_params.specs.declared.board_step.BoardStep.{BoardStep}
-use Rattle.frame_params.specs.declared.board_step.BoardStep.TheVariants.{Logic as LogicStep, Think as ThinkStep, Path as PathStep, Draw as DrawStep}
+use Rattle.frame_tasks.specs.declared.board_step.BoardStep.{BoardStep}
+use Rattle.frame_tasks.specs.declared.board_step.BoardStep.TheVariants.{Logic as LogicStep, Think as ThinkStep, Path as PathStep, Draw as DrawStep}
 use Rattle.frame_params.specs.declared.logic_step.LogicStep.TheVariants.{Turned as TurnedStep}
-use Rattle.frame_params.specs.declared.think_step.ThinkStep.TheVariants.{Ended}
+use Rattle.frame_tasks.specs.declared.think_step.ThinkStep.TheVariants.{Ended}
 use Rattle.job_shelf.specs.declared.done.Done.{Done}
 use Rattle.job_shelf.specs.declared.done.Done.TheVariants.{Turned, Thought, Way, Drawn}
 

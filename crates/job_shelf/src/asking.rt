@@ -3,7 +3,8 @@ ghost use Rattle.std.specs.Option.{IsSomeAnd};
 ghost use Rattle.board_law.specs.Stored.{asked};
 ghost use Rattle.frame_params.specs.Names.{question_of};
 
-use frame_params::{Parked, Way};
+use frame_params::Way;
+use frame_tasks::Parked;
 use game_session::Session;
 use std::marker::Model;
 use std::mem;

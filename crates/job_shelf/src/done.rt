@@ -1,6 +1,7 @@
 ghost use Rattle.std.specs.Prelude.{◌≡◌, true, false};
 
-use frame_params::{BandMark, BoardStep, LogicStep, ThinkStep, Thought, Turn, Way};
+use frame_params::{BandMark, LogicStep, Thought, Turn, Way};
+use frame_tasks::{BoardStep, ThinkStep};
 use game_session::Session;
 use job_core::names::JobName;
 

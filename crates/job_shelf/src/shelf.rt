@@ -7,7 +7,7 @@ ghost use Rattle.board_law.specs.Stored.{stored_first, asked, nothing, turned, p
 ghost use Rattle.board_law.specs.Needed.{HasParts, IsInSlot, IsAsked};
 ghost use Rattle.frame_params.specs.Names.{frame_of};
 ghost use Rattle.frame_params.specs.Contents.{bands_in};
-ghost use Rattle.frame_params.specs.Tasks.{IsTaskAt};
+ghost use Rattle.frame_tasks.specs.Tasks.{IsTaskAt};
 ghost use Rattle.job_shelf.specs.Shelf.{Stores, IsWanted, IsBeforeLast, next_done, sizes};
 ghost use Rattle.job_shelf.specs.Dones.{game_done, job_done};
 
@@ -17,9 +17,8 @@ use super::drawn::Drawn;
 use super::shown::Shown;
 use super::spent::Spent;
 use super::thoughts::Thoughts;
-use frame_params::{
-    BandMark, FrameParams, LogicTask, Parked, PathTask, Slots, Task, ThinkTask, Turn, Way,
-};
+use frame_params::{BandMark, FrameParams, LogicTask, Slots, Turn, Way};
+use frame_tasks::{Parked, PathTask, Task, ThinkTask};
 use game_session::Session;
 use job_core::names::JobName;
 use std::alloc::{AllocError, Global};

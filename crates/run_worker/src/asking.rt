@@ -1,8 +1,8 @@
 ghost use Rattle.std.specs.Prelude.{◌≡◌, IfOk, Some};
-ghost use Rattle.frame_params.specs.BoardSteps.{IsToldIn};
+ghost use Rattle.frame_tasks.specs.BoardSteps.{IsToldIn};
 
 use crate::gate::Gate;
-use frame_params::{BoardStep, Parked, ThinkStep};
+use frame_tasks::{BoardStep, Parked, ThinkStep};
 use game_session::Session;
 use run_ledger::RunLedger;
 use shared_board::SharedBoard;

@@ -2,7 +2,7 @@ ghost use Rattle.std.specs.Prelude.{◌≡◌, Some};
 ghost use Rattle.run_worker.specs.Own.{IsNextIn};
 
 use crate::gate::Gate;
-use frame_params::Task;
+use frame_tasks::Task;
 use game_session::Session;
 use run_ledger::RunLedger;
 use shared_board::SharedBoard;

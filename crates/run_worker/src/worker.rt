@@ -1,7 +1,7 @@
 ghost use Rattle.std.specs.Prelude.{◌≡◌, IfOk, Some};
 ghost use Rattle.band_mail.specs.Mails.{IsPutterOf};
-ghost use Rattle.frame_params.specs.BoardSteps.{IsToldIn};
-ghost use Rattle.frame_params.specs.Tasks.{game_of};
+ghost use Rattle.frame_tasks.specs.BoardSteps.{IsToldIn};
+ghost use Rattle.frame_tasks.specs.Tasks.{game_of};
 ghost use Rattle.run_worker.specs.Own.{IsNextIn, IsWorkIn};
 
 use crate::asking::ask_at_once;
@@ -9,8 +9,8 @@ use crate::at_hand::work_at_hand;
 use crate::gate::Gate;
 use crate::scratch::Scratch;
 use band_mail::Putter;
-use frame_params::{BoardStep, Step, Task};
 use frame_print::RunBand;
+use frame_tasks::{BoardStep, Step, Task};
 use game_session::Session;
 use run_fault::Cause;
 use run_hall::{Hall, Worked};

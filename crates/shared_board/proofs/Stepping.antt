@@ -2,7 +2,7 @@
 use Rattle.std.proofs.Common.{◌≡◌, ℕ, true, refl}
 use Rattle.job_core.specs.declared.names.Event.{Event}
 use Rattle.job_core.specs.declared.names.Event.TheVariants.{Start, Resume, Ask, Spread, Hold, Finish, Emit, Stop}
-use Rattle.frame_params.specs.declared.board_step.BoardStep.{BoardStep}
+use Rattle.frame_tasks.specs.declared.board_step.BoardStep.{BoardStep}
 use Rattle.task_board.specs.Boards.{Played}
 use Rattle.task_board.specs.HandedIn.{IsHandedIn}
 use Rattle.task_board.proofs.Handing.{IsBy, handed_by}

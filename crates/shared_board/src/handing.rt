@@ -1,8 +1,8 @@
 ghost use Rattle.std.specs.Prelude.{◌≡◌, OnOk, OnErr};
-ghost use Rattle.frame_params.specs.BoardSteps.{IsToldIn};
+ghost use Rattle.frame_tasks.specs.BoardSteps.{IsToldIn};
 ghost use Rattle.shared_board.specs.Runs.{IsByWorker};
 
-use frame_params::BoardStep;
+use frame_tasks::BoardStep;
 use task_board::{BoardFault, TaskBoard};
 
 /// Gives a board what the work of a worker's job came to, which is of the board's game: one event happens.

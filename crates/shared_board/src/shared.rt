@@ -2,13 +2,14 @@ ghost use Rattle.std.specs.Prelude.{◌≡◌, ◌+◌, ◌<◌, ◌≤◌, ◌�
 ghost use Rattle.std.specs.Coded.{Coded-set, coded_option};
 ghost use Rattle.game_session.specs.GameCode.{game_code};
 ghost use Rattle.job_core.specs.Core.{IsComplete};
-ghost use Rattle.frame_params.specs.Tasks.{game_of};
-ghost use Rattle.frame_params.specs.BoardSteps.{IsToldIn};
+ghost use Rattle.frame_tasks.specs.Tasks.{game_of};
+ghost use Rattle.frame_tasks.specs.BoardSteps.{IsToldIn};
 ghost use Rattle.shared_board.specs.Counts.{names_worker, is_emit};
 ghost use Rattle.task_board.specs.Setups.{setup_for};
 
 use crate::handing::hand_in;
-use frame_params::{BoardStep, Parked, Task, Way};
+use frame_params::Way;
+use frame_tasks::{BoardStep, Parked, Task};
 use game_session::Session;
 use run_ledger::RunLedger;
 use std::sync::ledger::{Book, Ledger, Share};

@@ -20,8 +20,8 @@ use Rattle.job_core.specs.declared.names.Event.TheVariants.{Start, Resume, Ask, 
 use Rattle.board_law.specs.Lists.{first_place}
 use Rattle.board_law.specs.Board.{Held, core_of, holds}
 use Rattle.board_law.specs.Pick.{New}
-use Rattle.frame_params.specs.Tasks.{IsTaskAt}
-use Rattle.frame_params.specs.declared.task.Task.{Task}
+use Rattle.frame_tasks.specs.Tasks.{IsTaskAt}
+use Rattle.frame_tasks.specs.declared.task.Task.{Task}
 use Rattle.task_board.specs.Boards.{Played, jobs_of, setup_in, state_in, with_event, Happens, IsStart, IsResume, Starts, Resumes, IsOn, IsBeginning, NeedsBeginning, IsRefused, IsTakeRefused, IsEmitRefused, NoOther, IsBoard}
 use Rattle.frame_params.specs.Names.{QuestionOf}
 use Rattle.frame_params.specs.Contents.{questions_in, seen, memory_before, world_after, memories_after}

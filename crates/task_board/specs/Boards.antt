@@ -12,8 +12,8 @@ use Rattle.board_law.specs.Board.{Held, core_of, holds}
 use Rattle.board_law.specs.Pick.{Pick, Ready, New, given}
 use Rattle.frame_params.specs.Names.{FrameOf}
 use Rattle.frame_params.specs.Contents.{bands_in}
-use Rattle.frame_params.specs.Tasks.{job_of, IsTaskAt}
-use Rattle.frame_params.specs.declared.task.Task.{Task}
+use Rattle.frame_tasks.specs.Tasks.{job_of, IsTaskAt}
+use Rattle.frame_tasks.specs.declared.task.Task.{Task}
 use Rattle.board_law.specs.Stored.{stored_after}
 use Rattle.job_machine.specs.Numbers.{Numbers, IsWithinLimits}
 use Rattle.job_log.specs.Logged.{Logged, setup_of}

@@ -2,10 +2,10 @@
 use Rattle.std.specs.Prelude.{◌≡◌, ℕ, ◌⊎◌}
 use Rattle.job_core.specs.declared.names.JobName.TheVariants.{Logic, Think, Path, Draw}
 use Rattle.job_core.specs.declared.names.Event.TheVariants.{Ask, Spread, Hold, Finish}
-use Rattle.frame_params.specs.declared.board_step.BoardStep.{BoardStep}
-use Rattle.frame_params.specs.declared.board_step.BoardStep.TheVariants.{Logic as LogicStep, Think as ThinkStep, Path as PathStep, Draw as DrawStep}
+use Rattle.frame_tasks.specs.declared.board_step.BoardStep.{BoardStep}
+use Rattle.frame_tasks.specs.declared.board_step.BoardStep.TheVariants.{Logic as LogicStep, Think as ThinkStep, Path as PathStep, Draw as DrawStep}
 use Rattle.frame_params.specs.declared.logic_step.LogicStep.TheVariants.{Begins, Turned}
-use Rattle.frame_params.specs.declared.think_step.ThinkStep.TheVariants.{Ended, Asks}
+use Rattle.frame_tasks.specs.declared.think_step.ThinkStep.TheVariants.{Ended, Asks}
 use Rattle.job_log.specs.declared.fault.BoardFault.{BoardFault}
 use Rattle.job_log.specs.declared.fault.BoardFault.TheVariants.{Illegal}
 use Rattle.task_board.specs.Boards.{Played, Happens, IsDoneByLogic, IsRefused, NoOther}

@@ -9,7 +9,8 @@ ghost use Rattle.task_board.specs.AtOnce.{HappensAtOnce, GoesFirstOn, IsAtOnceRe
 use super::board::TaskBoard;
 use super::fitting::is_parked_at;
 use super::refused::Refused;
-use frame_params::{Parked, Way};
+use frame_params::Way;
+use frame_tasks::Parked;
 use job_log::BoardFault;
 
 // The call for a question whose answer is there.
@@ -22,7 +23,7 @@ impl<'t> TaskBoard<'t> {
     {
         let frame = parked.frame();
         let agent = parked.agent();
-        self.jobs.goes_first(frame, agent, parked.index())
+        self.jobs.goes_first(frame, agent, parked.question())
     }
 
     /// As `ask_own`, of a question whose answer is there: its path starts and is over on this worker too, and the Think goes on
@@ -92,7 +93,7 @@ impl<'t> TaskBoard<'t> {
     {
         let frame = parked.frame();
         let agent = parked.agent();
-        let question = parked.index();
+        let question = parked.question();
         // A tick asks at most as often as its tree has nodes.
         let nodes = self.session.tree_of(agent).size();
         prove!(u64::from(question) < nodes);

@@ -3,7 +3,7 @@ ghost use Rattle.job_core.specs.declared.names.JobName.TheVariants.{Think};
 ghost use Rattle.frame_params.specs.Contents.{questions_in};
 ghost use Rattle.job_shelf.specs.Dones.{job_done};
 
-use frame_params::Parked;
+use frame_tasks::Parked;
 use job_core::names::JobName;
 use job_machine::Held;
 use job_queues::is_same;
@@ -29,7 +29,7 @@ pub(crate) fn is_parked_at(parked: &Parked, held: Held) -> bool
     if !is_same(parked.name(), held.job) {
         return false;
     }
-    if parked.index() != held.step {
+    if parked.question() != held.step {
         return false;
     }
     true

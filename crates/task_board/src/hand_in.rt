@@ -2,12 +2,13 @@ ghost use Rattle.std.specs.Prelude.{◌≡◌, IfErr, OnOk, OnErr};
 ghost use Rattle.job_core.specs.declared.names.Event.TheVariants.{Finish};
 ghost use Rattle.task_board.specs.Boards.{Happens, IsRefused};
 ghost use Rattle.job_shelf.specs.Dones.{game_done, job_done, step_done, IsOtherDone};
-ghost use Rattle.frame_params.specs.BoardSteps.{IsToldIn};
+ghost use Rattle.frame_tasks.specs.BoardSteps.{IsToldIn};
 ghost use Rattle.task_board.specs.HandedIn.{HasBegun, IsBeginRefused, IsHandedIn, IsHandInRefused};
 
 use super::board::TaskBoard;
 use super::refused::Refused;
-use frame_params::{BoardStep, LogicStep, ThinkStep};
+use frame_params::LogicStep;
+use frame_tasks::{BoardStep, ThinkStep};
 use job_log::BoardFault;
 use job_shelf::{Done, Spent};
 

@@ -9,7 +9,7 @@ ghost use Rattle.task_board.specs.Parked.{IsOtherParked};
 use super::board::TaskBoard;
 use super::fitting::{is_of, is_parked_at};
 use super::refused::Refused;
-use frame_params::Parked;
+use frame_tasks::Parked;
 use job_log::BoardFault;
 use job_shelf::{Done, Shown, next_of};
 
@@ -85,7 +85,7 @@ impl<'t> TaskBoard<'t> {
     {
         let frame = parked.frame();
         let agent = parked.agent();
-        let question = parked.index();
+        let question = parked.question();
         // A tick asks at most as often as its tree has nodes.
         let nodes = self.session.tree_of(agent).size();
         prove!(u64::from(question) < nodes);

@@ -22,13 +22,13 @@ prove-unreachable-requires c =
     let tree : size (tree_of c.args.parked.game c.args.parked.agent) ≡ c.size-nodes.result =
     ap (λ (g : Game). size (tree_of g c.args.parked.agent)) game
     ∙ (ap (λ a. size (tree_of c.self.inside.session.now a)) (sym c.agent-agent.ensures) ∙ (ap size c.tree_of.ensures.value ∙ sym c.size-nodes.ensures.value)) in
-    omega (arith, c.if-prove.true, c.from.ensures, tree, c.index-question.ensures.asks, few_questions c.args.parked.game c.args.parked.frame c.args.parked.agent)
+    omega (arith, c.if-prove.true, c.from.ensures, tree, c.question-question.ensures.asks, few_questions c.args.parked.game c.args.parked.frame c.args.parked.agent)
 
 pub ask-requires-clause-next : goal.ask-requires-clause-next
 ask-requires-clause-next c =
     let legal = rw (← c.self.view_is) at c.requires.legal in
     let runs = rw (← c.self.view_is) at c.requires.runs in
-    rw (c.frame-frame.ensures, c.agent-agent.ensures, c.index-question.ensures.value) (next_asked c.self.inside.session.now c.self.inside.jobs c.self.inside.shelf c.self.invariant c.args.worker c.args.parked.frame c.args.parked.agent c.args.parked.question legal runs)
+    rw (c.frame-frame.ensures, c.agent-agent.ensures, c.question-question.ensures.value) (next_asked c.self.inside.session.now c.self.inside.jobs c.self.inside.shelf c.self.invariant c.args.worker c.args.parked.frame c.args.parked.agent c.args.parked.question legal runs)
 
 pub ask-requires-clause-few : goal.ask-requires-clause-few
 ask-requires-clause-few c = omega (arith, c.if-prove.false, c.from.ensures, c.size-nodes.ensures.most)

@@ -23,14 +23,14 @@ prove-unreachable-requires c =
     let tree : size (tree_of c.args.parked.game c.args.parked.agent) ≡ c.size-nodes.result =
     ap (λ (g : Game). size (tree_of g c.args.parked.agent)) game
     ∙ (ap (λ a. size (tree_of c.self.inside.session.now a)) (sym c.agent-agent.ensures) ∙ (ap size c.tree_of.ensures.value ∙ sym c.size-nodes.ensures.value)) in
-    omega (arith, c.if-prove.true, c.from.ensures, tree, c.index-question.ensures.asks, few_questions c.args.parked.game c.args.parked.frame c.args.parked.agent)
+    omega (arith, c.if-prove.true, c.from.ensures, tree, c.question-question.ensures.asks, few_questions c.args.parked.game c.args.parked.frame c.args.parked.agent)
 
 pub ask_at_once-requires-clause-next : goal.ask_at_once-requires-clause-next
 ask_at_once-requires-clause-next c =
     let legal = subst (λ (b : Played). IsLegalFrom (setup_in b) (state_in b) (asked_at_once c.args.worker c.args.parked.frame c.args.parked.agent c.args.parked.question)) (sym c.self.view_is) c.requires.legal in
     let runs = rw (← c.self.view_is) at c.requires.runs in
     let fiber = rw (← c.self.view_is) at c.requires.fiber in
-    rw (c.frame-frame.ensures, c.agent-agent.ensures, c.index-question.ensures.value)
+    rw (c.frame-frame.ensures, c.agent-agent.ensures, c.question-question.ensures.value)
     (next_at_once c.self.inside.session.now c.self.inside.jobs c.self.inside.shelf c.self.invariant c.args.worker c.args.parked.frame c.args.parked.agent c.args.parked.question legal.0 runs fiber)
 
 pub ask_at_once-requires-clause-few : goal.ask_at_once-requires-clause-few
@@ -48,14 +48,14 @@ park_answered-requires-clause-agent c =
 pub invariant_of-self-2 : goal.invariant_of-self-2
 invariant_of-self-2 c =
     let legal = subst (λ (b : Played). IsLegalFrom (setup_in b) (state_in b) (asked_at_once c.args.worker c.args.parked.frame c.args.parked.agent c.args.parked.question)) (sym c.self.view_is) c.requires.legal in
-    let done = rw (c.frame-frame.ensures, c.agent-agent.ensures, c.index-question.ensures.value) at c.in-Ok.ensures.ok in
+    let done = rw (c.frame-frame.ensures, c.agent-agent.ensures, c.question-question.ensures.value) at c.in-Ok.ensures.ok in
     let stores = rw c.agent-agent.ensures at c.park_answered.ensures in
     kept_at_once c.self.inside.session.now c.self.inside.jobs c.self.inside.shelf c.self.invariant c.args.worker c.args.parked.frame c.args.parked.agent c.args.parked.question legal c.ask_at_once.new.self done c.park_answered.new.self stores
 
 pub returns-clause-ok : goal.returns-clause-ok
 returns-clause-ok c =
     let legal = subst (λ (b : Played). IsLegalFrom (setup_in b) (state_in b) (asked_at_once c.args.worker c.args.parked.frame c.args.parked.agent c.args.parked.question)) (sym c.self.view_is) c.requires.legal in
-    let done = rw (c.frame-frame.ensures, c.agent-agent.ensures, c.index-question.ensures.value) at c.in-Ok.ensures.ok in
+    let done = rw (c.frame-frame.ensures, c.agent-agent.ensures, c.question-question.ensures.value) at c.in-Ok.ensures.ok in
     rw (← c.self.view_is) (happens_at_once c.self.inside.session.now c.self.inside.jobs c.self.inside.shelf c.self.invariant c.args.worker c.args.parked legal c.ask_at_once.new.self done)
 
 pub invariant_of-self : goal.invariant_of-self

@@ -1,0 +1,2 @@
+pub mod CutThoughts
+pub mod Crossing

@@ -1,0 +1,3 @@
+pub mod Thinks
+pub mod BoardSteps
+pub mod Tasks

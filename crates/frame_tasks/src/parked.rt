@@ -1,0 +1,133 @@
+ghost use Rattle.std.specs.Prelude.{◌≡◌, ◌<◌, IfOk, IfSome};
+ghost use Rattle.frame_params.specs.Contents.{questions_in};
+ghost use Rattle.frame_params.specs.Names.{part_of};
+
+use crate::ahead::Ahead;
+use frame_params::{Thought, Way};
+use game_session::Session;
+use grid_world::Place;
+use job_core::names::JobName;
+use std::alloc::AllocError;
+use std::marker::Model;
+
+/// An agent's tick in a frame that stands at one of its path questions.
+pub struct Parked<'t> {
+    pub(crate) session: &'t Session,
+    pub(crate) frame: u32,
+    pub(crate) agent: u32,
+    pub(crate) question: u32,
+    pub(crate) place: Place,
+    pub(crate) ahead: Ahead<'t>,
+}
+
+impl<'t> Drop for Parked<'t> {
+    fn drop(self) {
+        let Self {
+            session: _,
+            frame: _,
+            agent: _,
+            question: _,
+            place: _,
+            ahead: _,
+        } = self;
+    }
+}
+
+impl<'t> Model for Parked<'t> {
+    ghost use Rattle.std.specs.Prelude.{◌<◌, length};
+    ghost use Rattle.frame_params.specs.Names.{QuestionOf, question_code};
+
+    ghost Value = { QuestionOf };
+
+    ghost coded = { question_code };
+
+    ghost use Rattle.frame_tasks.specs.Thinks.{AsksFor, IsAhead};
+
+    ghost view = { λ p. record { game = p.session.now; frame = p.frame; agent = p.agent; question = p.question } };
+
+    ghost invariant = { λ p. (p.agent < length p.session.now.trees)
+        × AsksFor p.session.now p.frame p.agent p.question p.place
+        × IsAhead p.session.now p.frame p.agent p.question p.ahead };
+}
+
+impl<'t> Parked<'t> {
+    /// The session itself, as it was lent.
+    pub fn session(&self) -> &'t Session
+        ensures { result.now ≡ self.now.game }
+    {
+        self.session
+    }
+
+    /// The job that asks.
+    pub fn name(&self) -> JobName
+        ensures { result ≡ JobName.Think self.now.frame self.now.agent }
+    {
+        JobName::Think {
+            frame: self.frame,
+            agent: self.agent,
+        }
+    }
+
+    /// Frames count from 1.
+    pub fn frame(&self) -> u32
+        ensures { result ≡ self.now.frame }
+    {
+        self.frame
+    }
+
+    /// The agent whose tick it is.
+    pub fn agent(&self) -> u32
+        ensures { result ≡ self.now.agent }
+    {
+        self.agent
+    }
+
+    /// Which of its questions it stands at, counted from 0.
+    pub fn question(&self) -> u32
+        ensures value { result ≡ self.now.question }
+        ensures asks { result < questions_in self.now.game self.now.frame self.now.agent }
+    {
+        self.question
+    }
+
+    /// The answer to its question and what the tick came to, where the answer was at hand and the tick has gone on with it
+    /// to its end: then nothing is left to be worked. It takes no memory, and copies nothing.
+    pub fn ended(&self) -> Result<Option<(Way<'t>, Thought<'t>)>, AllocError>
+        ensures way { IfOk result (λ ended. IfSome ended (λ parts. parts.0 ≡ self.now)) }
+        ensures thought { IfOk result (λ ended. IfSome ended (λ parts. parts.1 ≡ part_of self.now.game self.now.frame self.now.agent)) }
+    {
+        match &self.ahead {
+            Ahead::Waits(_) | Ahead::Asks { .. } => Ok(None),
+            Ahead::Ended {
+                answer,
+                status,
+                memory,
+                intent,
+            } => {
+                let question = self.question;
+                // A tick asks at most as often as its tree has nodes.
+                let nodes = self.session.tree_of(self.agent).size();
+                prove!(u64::from(question) < nodes);
+                let memory = memory.share()?;
+                let way = Way::new(
+                    self.session,
+                    self.frame,
+                    self.agent,
+                    question,
+                    *answer,
+                    None,
+                );
+                let thought = Thought::at_end(
+                    self.session,
+                    self.frame,
+                    self.agent,
+                    question + 1,
+                    *status,
+                    memory,
+                    *intent,
+                );
+                Ok(Some((way, thought)))
+            }
+        }
+    }
+}

@@ -1,0 +1,28 @@
+use bt_nodes::Status;
+use bt_tick::Pending;
+use frame_params::KeptMemory;
+use grid_world::{Answer, Intent};
+use std::alloc::Global;
+use std::sync::Arc;
+
+// Where a tick stands that is to go on: at its start, at a question that has its answer, or, where an answer was at hand
+// before, at its next question or its end. A tick is shared with the one that was parked.
+#[derive(Drop)]
+pub(crate) enum Stand<'t> {
+    Start,
+    Answered {
+        question: u32,
+        pending: Arc<Pending<'t, Global, Global>>,
+        answer: Answer,
+    },
+    Asks {
+        question: u32,
+        pending: Arc<Pending<'t, Global, Global>>,
+    },
+    Ended {
+        questions: u32,
+        status: Status,
+        memory: KeptMemory,
+        intent: Intent,
+    },
+}
