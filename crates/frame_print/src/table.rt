@@ -16,11 +16,19 @@ use std::mem;
 
 /// The bands of a run's frames that are not printed yet, by frame and number. So many frames as it is made for have places of their own; a
 /// band of a later frame takes the place of one so many frames before.
-#[derive(Drop)]
 pub struct BandTable<'t, L: RunLedger> {
     frames: Vec<FrameBands<'t, L>>,
     // The bands of the frame whose text was made last, from the top.
     drawn: Vec<Band>,
+}
+
+impl<'t, L: RunLedger> Drop for BandTable<'t, L> {
+    fn drop(self) {
+        let Self {
+            frames: _,
+            drawn: _,
+        } = self;
+    }
 }
 
 impl<'t, L: RunLedger> Model for BandTable<'t, L> {

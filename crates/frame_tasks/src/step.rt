@@ -6,12 +6,19 @@ use crate::think_step::ThinkStep;
 use frame_params::{BandOut, LogicStep, Way};
 
 /// What the work of a task comes to.
-#[derive(Drop)]
 pub enum Step<'t> {
     Logic(LogicStep<'t>),
     Think(ThinkStep<'t>),
     Path(Way<'t>),
     Draw(BandOut<'t>),
+}
+
+impl<'t> Drop for Step<'t> {
+    fn drop(self) {
+        match self {
+            Self::Logic(_) | Self::Think(_) | Self::Path(_) | Self::Draw(_) => {}
+        }
+    }
 }
 
 impl<'t> Step<'t> {

@@ -9,12 +9,19 @@ use job_core::names::JobName;
 use std::alloc::{AllocError, Allocator, Global};
 
 /// The work that a job stands at.
-#[derive(Drop)]
 pub enum Task<'t> {
     Logic(LogicTask<'t>),
     Think(ThinkTask<'t>),
     Path(PathTask<'t>),
     Draw(DrawTask<'t>),
+}
+
+impl<'t> Drop for Task<'t> {
+    fn drop(self) {
+        match self {
+            Self::Logic(_) | Self::Think(_) | Self::Path(_) | Self::Draw(_) => {}
+        }
+    }
 }
 
 impl<'t> Task<'t> {

@@ -6,9 +6,14 @@ use grid_world::{Signals, World};
 use std::marker::Model;
 
 /// A frame that is shown: the world after it, its signals, and the answers of the agents' ticks.
-#[derive(Drop)]
 pub struct Shown<'t> {
     pub(crate) turn: Turn<'t>,
+}
+
+impl<'t> Drop for Shown<'t> {
+    fn drop(self) {
+        let Self { turn: _ } = self;
+    }
 }
 
 impl<'t> Model for Shown<'t> {
@@ -58,6 +63,7 @@ impl<'t> Shown<'t> {
     pub fn into_turn(self) -> Turn<'t>
         ensures { result ≡ self.entry }
     {
-        self.turn
+        let Self { turn } = self;
+        turn
     }
 }
