@@ -1,4 +1,4 @@
-// Work whose scratch memory lies in an arena, or in a heap that refuses growths: tests alone.
+//! Work whose scratch memory lies in an arena, or in a heap that refuses growths: tests alone.
 #![tactic(auto)]
 
 #[cfg(test)]

@@ -1,4 +1,4 @@
-// A board's calls that are refused for memory and called again: tests alone.
+//! A board's calls that are refused for memory and called again: tests alone.
 #![tactic(auto)]
 
 #[cfg(test)]

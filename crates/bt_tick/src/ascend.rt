@@ -118,6 +118,7 @@ impl<'t, T: Allocator, A: Allocator> Machine<'t, T, A> {
             Node::Not(_) => self.leave(opposite(status), at),
             Node::Tries(most, _) => match status {
                 Status::Failure => {
+                    // Named for the proof alone.
                     let _most = *most;
                     self.memory.set(number, frame.failures + 1);
                     self.leave(Status::Failure, at)
@@ -126,6 +127,7 @@ impl<'t, T: Allocator, A: Allocator> Machine<'t, T, A> {
             },
             Node::Ticks(limit, _) => match status {
                 Status::Running => {
+                    // Named for the proof alone.
                     let _limit = *limit;
                     self.memory.set(number, frame.failures + 1);
                     self.leave(Status::Running, at)

@@ -1,4 +1,4 @@
-// Ticks of behaviour trees that can be cut at any path question.
+//! Ticks of behaviour trees that can be cut at any path question.
 #![tactic(auto)]
 
 mod ascend;

@@ -1,4 +1,4 @@
-// Whole texts in and out of readers and writers that take a few bytes a call.
+//! Whole texts in and out of readers and writers that take a few bytes a call.
 #![tactic(auto)]
 
 mod reading;

@@ -1,6 +1,6 @@
-// What the cases of the gate are: their files, a run of one, and what it has to write.
-//
-// Nothing here knows the program: who plays a run says what came of it.
+//! What the cases of the gate are: their files, a run of one, and what it has to write.
+//!
+//! Nothing here knows the program: who plays a run says what came of it.
 #![tactic(auto)]
 
 mod case;

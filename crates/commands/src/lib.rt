@@ -1,4 +1,4 @@
-// What the program's commands do, over any reader and writers.
+//! What the program's commands do, over any reader and writers.
 #![tactic(auto)]
 
 mod checking;

@@ -1,4 +1,4 @@
-// Counters that jobs lower as they end, and the fibers that wait for a counter to reach 0.
+//! Counters that jobs lower as they end, and the fibers that wait for a counter to reach 0.
 #![tactic(auto)]
 
 mod counter;

@@ -11,8 +11,9 @@ use bt_nodes::Status;
 use grid_world::World;
 use std::alloc::Global;
 
-/// The most bytes of the lines before and after the rows: `frame` with its number, and 26 agents' lines.
-const LINES_LENGTH: usize = 18 + 26 * 16;
+/// The most bytes of the lines before and after the rows: `frame` with a number of 32 bits, and the lines of 26 agents on a
+/// map of 128 by 128 cells.
+const LINES_LENGTH: usize = 17 + 26 * 14;
 
 /// The text of a frame: its number, the bands' rows, and a line for each agent of the world.
 ///

@@ -1,4 +1,4 @@
-// Bands of rows, and the text of a frame.
+//! Bands of rows, and the text of a frame.
 #![tactic(auto)]
 
 mod band;

@@ -1,4 +1,4 @@
-// Stacks of the nodes that a suspended tick has open.
+//! Stacks of the nodes that a suspended tick has open.
 #![tactic(auto)]
 
 mod frame;

@@ -28,6 +28,10 @@ IsUnder g on d = (d.game ≡ g) × (d.signals ≡ on)
 abbrev pub AllUnder : Game → List Bool → List DistancesOf → Type 0
 AllUnder g on all = All (IsUnder g on) all
 
+-- some of these are of the game
+abbrev pub IsOfGame : Game → KnownOf → Type 0
+IsOfGame g k = k.game ≡ g
+
 -- those that a search found, if it found any
 abbrev pub IsUnderIf : Game → List Bool → Option DistancesOf → Type 0
 IsUnderIf g on None = Unit {0}

@@ -7,11 +7,20 @@ use game_session::Session;
 use std::marker::Model;
 
 /// A band of a frame, drawn.
-#[derive(Drop)]
 pub struct BandOut<'t> {
     pub(crate) session: &'t Session,
     pub(crate) frame: u32,
     pub(crate) band: Band,
+}
+
+impl<'t> Drop for BandOut<'t> {
+    fn drop(self) {
+        let Self {
+            session: _,
+            frame: _,
+            band: _,
+        } = self;
+    }
 }
 
 impl<'t> Model for BandOut<'t> {
@@ -58,6 +67,11 @@ impl<'t> BandOut<'t> {
     pub fn into_band(self) -> Band
         ensures { result ≡ band_in self.entry.game self.entry.frame self.entry.number }
     {
-        self.band
+        let Self {
+            session: _,
+            frame: _,
+            band,
+        } = self;
+        band
     }
 }

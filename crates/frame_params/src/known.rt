@@ -1,62 +1,33 @@
-ghost use Rattle.std.specs.Prelude.{◌≡◌, Contains, IfOk, IfSome};
+ghost use Rattle.std.specs.Prelude.{◌≡◌, IfOk, IfSome};
 
 use crate::kept_distances::KeptDistances;
+use crate::known_states::KnownStates;
 use game_session::Session;
 use grid_world::{Place, Signals};
 use std::alloc::{AllocError, Global};
 use std::marker::Model;
 use std::sync::Arc;
 
-// The distances that were found on the ground of a session under one state of the signals, for a place once at most.
+// The distances that are known under the signals of now, which all that read them share.
 pub(crate) struct Known<'t> {
-    session: &'t Session,
-    signals: Signals,
-    all: Arc<Vec<KeptDistances<'t>>>,
+    states: Arc<KnownStates<'t>>,
 }
 
 impl<'t> Drop for Known<'t> {
     fn drop(self) {
-        let Self {
-            session: _,
-            signals: _,
-            all: _,
-        } = self;
+        let Self { states: _ } = self;
     }
 }
 
 impl<'t> Model for Known<'t> {
     ghost use Rattle.std.specs.Arc.{arc_value};
-    ghost use Rattle.frame_params.specs.Distances.{KnownOf, known_code, AllUnder};
+    ghost use Rattle.frame_params.specs.Distances.{KnownOf, known_code};
 
     ghost Value = { KnownOf };
 
     ghost coded = { known_code };
 
-    ghost view = { λ k. record { game = k.session.now; signals = k.signals } };
-
-    ghost invariant = { λ k. AllUnder k.session.now k.signals (arc_value k.all).items };
-}
-
-// Those to a place.
-fn to_place<'a, 't>(all: &'a [KeptDistances<'t>], place: Place) -> Option<&'a KeptDistances<'t>>
-    ensures place { IfSome result (λ d. d.now.place ≡ place) }
-    ensures one { IfSome result (λ d. Contains all.now d.now) }
-{
-    all.iter().find(|d| d.place() == place)
-}
-
-// The same ones once more, with room for another.
-fn shared<'t>(
-    alloc: Global,
-    all: &[KeptDistances<'t>],
-) -> Result<Vec<KeptDistances<'t>>, AllocError>
-    ensures { IfOk result (λ them. them.items ≡ all.now) }
-{
-    let mut them = Vec::with_capacity(alloc, all.len() + 1)?;
-    'known: for known in all {
-        them.push(known.share()?)?;
-    }
-    Ok(them)
+    ghost view = { λ k. arc_value k.states };
 }
 
 impl<'t> Known<'t> {
@@ -71,9 +42,7 @@ impl<'t> Known<'t> {
         ensures { IfOk result (λ k. k ≡ known_of session.now signals) }
     {
         Ok(Known {
-            session,
-            signals,
-            all: Arc::new(alloc, Vec::new(alloc))?,
+            states: Arc::new(alloc, KnownStates::none(alloc, session, signals)?)?,
         })
     }
 
@@ -82,27 +51,28 @@ impl<'t> Known<'t> {
         ensures { IfOk result (λ k. k ≡ self.now) }
     {
         Ok(Known {
-            session: self.session,
-            signals: self.signals,
-            all: Arc::try_clone(&self.all)?,
+            states: Arc::try_clone(&self.states)?,
         })
     }
 
-    // What is known under these signals: the same ones while they are equal, and else none.
+    // What is known under these signals: the same ones while they are equal, and else those that were found when the
+    // signals were these before.
     pub(crate) fn under(&self, alloc: Global, signals: Signals) -> Result<Known<'t>, AllocError>
         ensures { IfOk result (λ k. k ≡ known_of self.now.game signals) }
     {
-        if signals == self.signals {
+        if self.states.is_under(signals) {
             return Ok(self.share()?);
         }
-        Known::none(alloc, self.session, signals)
+        Ok(Known {
+            states: Arc::new(alloc, self.states.under(alloc, signals)?)?,
+        })
     }
 
     // Those to a place, where they are known.
     pub(crate) fn to(&self, place: Place) -> Option<&KeptDistances<'t>>
         ensures { IfSome result (λ d. d.now ≡ distances_of self.now.game self.now.signals place) }
     {
-        to_place(&self.all, place)
+        self.states.to(place)
     }
 
     // Those to a place once more, where they are known; nothing is copied.
@@ -128,12 +98,8 @@ impl<'t> Known<'t> {
         if self.to(found.place()).is_some() {
             return Ok(self.share()?);
         }
-        let mut all = shared(alloc, &self.all)?;
-        all.push(found.share()?)?;
         Ok(Known {
-            session: self.session,
-            signals: self.signals,
-            all: Arc::new(alloc, all)?,
+            states: Arc::new(alloc, self.states.with(alloc, found)?)?,
         })
     }
 }

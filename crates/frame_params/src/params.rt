@@ -92,7 +92,8 @@ impl<'t> FrameParams<'t> {
         Ok(Arc::try_clone(&self.start)?)
     }
 
-    /// The distances to a place under the frame's signals once more, where they are known by now; nothing is copied.
+    /// The distances to a place under the frame's signals once more, where they are known by now; nothing is copied. They
+    /// save a search and change no way, so the contract lets None come always.
     pub fn known_to(&self, place: Place) -> Result<Option<KeptDistances<'t>>, AllocError>
         ensures { IfOk result (IsGivenIf self.now.game (signals_in self.now.game self.now.frame) place) }
     {

@@ -4,7 +4,7 @@ ghost use Rattle.frame_params.specs.Contents.{world_after, statuses_in, bands_in
 use crate::kept_memory::KeptMemory;
 use crate::known::Known;
 use bt_nodes::Status;
-use draw_list::BAND_ROWS;
+use draw_list::band_count;
 use game_session::Session;
 use grid_world::World;
 use job_core::names::JobName;
@@ -84,16 +84,16 @@ impl<'t> Turn<'t> {
         &self.world
     }
 
-    #[tactic(auto, using(crate::proofs::Turning::height_stays))]
     /// How many bands the frame has.
+    #[tactic(auto, using(crate::proofs::Turning::height_stays))]
     pub fn bands(&self) -> u32
         ensures { result ≡ bands_in self.now.game }
     {
-        self.world.height().div_ceil(BAND_ROWS)
+        band_count(self.world.height())
     }
 
-    #[tactic(auto, using(crate::proofs::Turning::as_many_statuses))]
     /// The answer of each agent's tick, by agent number.
+    #[tactic(auto, using(crate::proofs::Turning::as_many_statuses))]
     pub fn statuses(&self) -> &[Status]
         ensures value { result.now ≡ statuses_in self.now.game self.now.frame }
         ensures agents { length result.now ≡ length self.now.game.trees }

@@ -10,11 +10,16 @@ use run_ledger::RunLedger;
 use std::marker::PhantomData;
 
 /// A band of the run that `L` names: whoever takes it knows that it is of this run's game.
-#[derive(Drop)]
 pub struct RunBand<'t, L: RunLedger> {
     pub band: BandOut<'t>,
     pub of: PhantomData<L>,
     pub ghost game_is: { L.game ≡ Some band.game } by { Coded-set (coded_option game_code) L.game (Some band.game) },
+}
+
+impl<'t, L: RunLedger> Drop for RunBand<'t, L> {
+    fn drop(self) {
+        let Self { band: _, of: _ } = self;
+    }
 }
 
 impl<'t, L: RunLedger> RunBand<'t, L> {
@@ -38,7 +43,7 @@ impl<'t, L: RunLedger> RunBand<'t, L> {
         ensures another { IfNone result ((self.entry.band.frame ≡ frame) × (self.entry.band.number ≡ number) → ⊥) }
     {
         let _ = session;
-        let RunBand { band, .. } = self;
+        let RunBand { band, of: _ } = self;
         if band.frame() == frame && band.number() == number {
             Some(band.into_band())
         } else {

@@ -63,7 +63,8 @@ impl<'t, L: RunLedger> BandTable<'t, L> {
         }
     }
 
-    /// Exchanges the bands of the frame whose text was made last with others, which are let go with the next text.
+    /// Exchanges the bands of the frame whose text was made last with others, which are let go with the next text. Where these
+    /// lie in a list that has no room for a frame's bands, the next text takes memory for it.
     pub fn exchange_drawn(&mut self, others: &mut Vec<Band>)
         ensures { self.new ≡ self.old }
     {

@@ -63,9 +63,9 @@ impl<'t> Model for PathTask<'t> {
 }
 
 impl<'t> PathTask<'t> {
-    #[inline(always)]
     /// The search for the way to the place that a parked tick of the frame asks for. What it reads is the frame's own, and so
     /// are the distances to the place where they are known; nothing is copied.
+    #[inline(always)]
     pub fn of(
         _alloc: Global,
         params: &FrameParams<'t>,
@@ -138,7 +138,7 @@ impl<'t> PathTask<'t> {
     }
 
     /// The same, where the table and the queue of the search lie in `scratch`. From `alloc` it takes memory for the
-    /// distances alone, and none where they are known.
+    /// distances and for their being shared, and none where they are known.
     pub fn work_in<A: Allocator + Clone>(
         &self,
         alloc: Global,

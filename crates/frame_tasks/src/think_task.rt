@@ -72,8 +72,8 @@ impl<'t> ThinkTask<'t> {
         })
     }
 
-    #[inline(always)]
     /// The thought of a parked tick of the frame, with the way of its question. The tick is shared with the parked one.
+    #[inline(always)]
     pub fn resume(
         _alloc: Global,
         params: &FrameParams<'t>,

@@ -1,5 +1,5 @@
 // Ticks of a frame, over what the frame starts from.
-ghost use Rattle.std.specs.Prelude.{◌≡◌, ◌+◌, ◌<◌, ℕ, IfOk, length};
+ghost use Rattle.std.specs.Prelude.{◌+◌, ◌<◌, ℕ, IfOk, length};
 ghost use Rattle.frame_params.specs.Thoughts.{IsWayOf};
 ghost use Rattle.frame_tasks.specs.Thinks.{ThinksTo, StandsAt};
 

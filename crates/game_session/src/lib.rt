@@ -1,4 +1,4 @@
-// What is played: a level, a script of signals, and both as a game.
+//! What is played: a level, a script of signals, and both as a game.
 #![tactic(auto)]
 
 mod level;

@@ -112,7 +112,7 @@ impl Ground {
         self.rows
     }
 
-    /// The number of a cell of the map, counted row after row.
+    /// The number of a cell of the map, counted row after row; `None` off the map.
     pub fn index_of(&self, x: u32, y: u32) -> Option<u32>
         ensures value { result ≡ (if is_on_map self.now (point x y)
             then Some (index_of self.now (point x y)) else None) }

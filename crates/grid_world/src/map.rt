@@ -1,5 +1,5 @@
 // Reading the rows of a map: one function for each part, with its part of the definition as contract.
-ghost use Rattle.std.specs.Prelude.{◌≡◌, ◌≤◌, ◌<◌, ◌+◌, ◌*◌, ◌++◌, ◌==◌, [], not, map, length, count_by, position, string_bytes, IfOk, IfSome, OnOk, All};
+ghost use Rattle.std.specs.Prelude.{◌≡◌, ◌≤◌, ◌<◌, ◌+◌, ◌*◌, ◌++◌, ◌==◌, [], not, map, length, count_by, position, string_bytes, IfOk, IfSome, OnOk};
 ghost use Rattle.std.specs.List.{cons_option, filter_map};
 ghost use Rattle.std.specs.Str.{chars};
 ghost use Rattle.grid_world.specs.Map.{agent_in, cell_of, count_up, marks_of, width_of};
@@ -79,14 +79,14 @@ fn letter_fits(marks: &[char], letters: usize, k: u32) -> bool
     ensures { result ≡ letter_fits marks.now letters k }
 {
     let wanted = if (k as usize) < letters { 1 } else { 0 };
-    marks.iter().filter(|c| **c as u32 == 65 + k).count() == wanted
+    marks.iter().filter(|c| **c as u32 == 'A' as u32 + k).count() == wanted
 }
 
 fn digit_fits(marks: &[char], d: u32) -> bool
     requires { d < 10 }
     ensures { result ≡ digit_fits marks.now d }
 {
-    marks.iter().filter(|c| **c as u32 == 48 + d).count() <= 1
+    marks.iter().filter(|c| **c as u32 == '0' as u32 + d).count() <= 1
 }
 
 fn letters_in(marks: &[char]) -> usize
@@ -118,7 +118,7 @@ fn letter_at(marks: &[char], k: u32) -> Option<usize>
     ensures is { result ≡ position (λ c. c == 65 + k) marks.now }
     ensures within { IfSome result (λ i. i < length marks.now) }
 {
-    marks.iter().position(|c| *c as u32 == 65 + k)
+    marks.iter().position(|c| *c as u32 == 'A' as u32 + k)
 }
 
 fn agent_in(width: u32, marks: &[char], k: u32) -> Option<Agent>
@@ -165,17 +165,16 @@ pub fn agents_in(alloc: Global, width: u32, marks: &[char]) -> Result<Vec<Agent>
 fn cell_in(c: char) -> Cell
     ensures { result ≡ cell_of c }
 {
-    let code = c as u32;
-    if code == 35 {
+    if c == '#' {
         return Cell::Wall;
     }
-    if code >= 97 {
-        if let Some(signal) = Signal::new(code - 97) {
+    if c >= 'a' {
+        if let Some(signal) = Signal::new(c as u32 - 'a' as u32) {
             return Cell::Door(signal);
         }
     }
-    if code >= 48 {
-        if let Some(place) = Place::new(code - 48) {
+    if c >= '0' {
+        if let Some(place) = Place::new(c as u32 - '0' as u32) {
             return Cell::Spot(place);
         }
     }

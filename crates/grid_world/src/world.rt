@@ -1,4 +1,4 @@
-ghost use Rattle.std.specs.Prelude.{MatchResult, slice_index, IfOk, IfErr, OnOk, ◌⊎◌, ◌≡◌, AllPairs, ◌<◌, ◌&&◌, IfSome, position, Some, None, length, map, option_map, if◌then◌else◌};
+ghost use Rattle.std.specs.Prelude.{IfOk, IfErr, OnOk, ◌⊎◌, ◌≡◌, ◌<◌, ◌&&◌, IfSome, position, Some, None, length, map, option_map, if◌then◌else◌};
 ghost use Rattle.grid_world.specs.Grid.{is_on_map, cell_at, place_of, point_of, same_point};
 ghost use Rattle.grid_world.specs.Open.{is_open, is_passable};
 ghost use Rattle.grid_world.specs.Glyphs.{glyph};

@@ -1,4 +1,4 @@
-// A board that can do the work of its jobs itself: events that are given, and which one comes next.
+//! A board that can do the work of its jobs itself: events that are given, and which one comes next.
 #![tactic(auto)]
 
 mod apply;

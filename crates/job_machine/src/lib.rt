@@ -1,4 +1,4 @@
-// The job board without its game: its settings, and the machine that keeps its jobs, event by event.
+//! The job board without its game: its settings, and the machine that keeps its jobs, event by event.
 #![tactic(auto)]
 
 mod counting;

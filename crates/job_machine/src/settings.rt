@@ -105,7 +105,7 @@ impl Settings {
         self.slots
     }
 
-    /// The numbers are within their limits.
+    /// The numbers are within their limits: for proofs, which read no private field. It does nothing.
     pub fn limits_hold(&self)
         ensures { IsWithinLimits self.now.frames self.now.workers self.now.fibers self.now.slots }
     {

@@ -1,4 +1,4 @@
-// The queues of jobs that may start and of fibers that may go on, and the pool of fibers.
+//! The queues of jobs that may start and of fibers that may go on, and the pool of fibers.
 #![tactic(auto)]
 
 mod fiber;

@@ -1,4 +1,4 @@
-// What the work of the frames under way came to, kept for the tasks that are made of it.
+//! What the work of the frames under way came to, kept for the tasks that are made of it.
 #![tactic(auto)]
 
 mod asking;

@@ -1,4 +1,4 @@
-// Queues, counters and settings by example: tests alone.
+//! Queues, counters and settings by example: tests alone.
 #![tactic(auto)]
 
 #[cfg(test)]

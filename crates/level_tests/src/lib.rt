@@ -1,4 +1,4 @@
-// Levels, scripts, sessions and ticks by example: tests alone.
+//! Levels, scripts, sessions and ticks by example: tests alone.
 #![tactic(auto)]
 
 #[cfg(test)]

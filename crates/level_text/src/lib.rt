@@ -1,4 +1,4 @@
-// Levels and scripts as text: reading, writing, and what they stand for.
+//! Levels and scripts as text: reading, writing, and what they stand for.
 #![tactic(auto)]
 
 mod draft;

@@ -1,4 +1,4 @@
-// Plays a session's frames on worker threads, and writes them in order.
+//! Plays a session's frames on worker threads, and writes them in order.
 #![tactic(auto)]
 
 mod bytes;

@@ -1,5 +1,5 @@
-// What no clause of play_run says, in tests alone: that jobs are under way at once, and when the gate is asked. There are no
-// contracts here, and so no wrong bodies.
+//! What no clause of play_run says, in tests alone: that jobs are under way at once, and when the gate is asked. There are no
+//! contracts here, and so no wrong bodies.
 #![tactic(auto)]
 
 #[cfg(test)]

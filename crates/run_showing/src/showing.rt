@@ -27,9 +27,7 @@ fn wait_for_frame<'m, 't, L: RunLedger, M: Ledger, R: Wait + Clock>(
     ensures { inbox.new.taker.mail ≡ hall.now.mail }
 {
     if !inbox.take_one(rt, hall) {
-        if hall.waiting.room.count() != 0 {
-            hall.waiting.room.call_all();
-        }
+        hall.waiting.call_for_room();
         let (board, is_over) = hall
             .waiting
             .doze_for_frame(rt, &hall.board, board, rest.length());
@@ -40,9 +38,7 @@ fn wait_for_frame<'m, 't, L: RunLedger, M: Ledger, R: Wait + Clock>(
     }
     hall.waiting.unlock(board);
     inbox.take_all(rt, hall);
-    if hall.waiting.room.count() != 0 {
-        hall.waiting.room.call_all();
-    }
+    hall.waiting.call_for_room();
     hall.waiting.lock(rt, &hall.board)
 }
 
@@ -83,6 +79,7 @@ fn emit<'t, L: RunLedger, M: Ledger, R: Wait + Clock>(
             Err(BoardFault::Illegal) => board = wait_for_frame(rt, hall, inbox, rest, board),
             Err(fault) => {
                 hall.waiting.unlock(board);
+                // Who stopped a board has a cause of its own, which goes before this one.
                 return Err(match fault {
                     BoardFault::OutOfMemory => Cause::OutOfMemory,
                     _ => Cause::Stranger,
@@ -117,8 +114,8 @@ pub fn next_text<'t, L: RunLedger, M: Ledger, R: Wait + Clock>(
         Ok(shown) => shown,
         Err(cause) => return Err(cause),
     };
-    if inbox.take_all(rt, hall) && hall.waiting.room.count() != 0 {
-        hall.waiting.room.call_all();
+    if inbox.take_all(rt, hall) {
+        hall.waiting.call_for_room();
     }
     let text = inbox.table.text(alloc, session, &shown.into_turn());
     hall.leave_drawn(rt, &mut inbox.table);

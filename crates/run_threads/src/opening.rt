@@ -2,7 +2,7 @@ ghost use Rattle.std.specs.Prelude.{◌≡◌, IfOk, Some, length, vec_len};
 ghost use Rattle.band_mail.specs.Mails.{ArePuttersOf};
 
 use band_mail::{BandMail, Putter, Taker};
-use draw_list::BAND_ROWS;
+use draw_list::band_count;
 use frame_print::{BandTable, RunBand};
 use game_session::Session;
 use run_hall::Hall;
@@ -20,7 +20,7 @@ const MAIL_CAPACITY: usize = 64;
 
 // How many bands each frame has.
 fn bands_of(session: &Session) -> u32 {
-    session.world().height().div_ceil(BAND_ROWS)
+    band_count(session.world().height())
 }
 
 // The board of a run in which nothing has happened, with its books.

@@ -12,6 +12,7 @@ pub struct Scratch {
 }
 
 impl Scratch {
+    /// An empty arena, which takes its blocks from `alloc`.
     pub fn new(alloc: Global) -> Scratch {
         Scratch {
             arena: Bump::new(alloc),

@@ -114,6 +114,7 @@ fn wait_for_task<'t, L: RunLedger, M: Ledger, G: Gate, R: Wait + Clock>(
     for _ in rt.forever() {
         match take(alloc, session, gate, &mut board, worker, share, next) {
             Ok(true) => {
+                rest.shorten();
                 hall.let_go(board);
                 return Ok(());
             }

@@ -1,4 +1,4 @@
-// What the threads of a run share: a board, and two books of what happened on it.
+//! What the threads of a run share: a board, and two books of what happened on it.
 #![tactic(auto)]
 
 mod handing;

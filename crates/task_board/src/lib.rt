@@ -1,4 +1,4 @@
-// The task board: the jobs of a run over a session, handed out as tasks, with what their work came to.
+//! The task board: the jobs of a run over a session, handed out as tasks, with what their work came to.
 #![tactic(auto)]
 
 mod at_once;

@@ -10,7 +10,6 @@ ghost use Rattle.task_board.specs.Given.{MayBeTakenUp, NothingToShow};
 use super::board::TaskBoard;
 use frame_tasks::Task;
 use job_core::names::JobName;
-use job_log::BoardFault;
 use job_machine::{Fiber, Held, OutOfMemory};
 use job_queues::is_same;
 

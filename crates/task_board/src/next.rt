@@ -4,7 +4,7 @@ ghost use Rattle.task_board.specs.Boards.{setup_in, state_in};
 ghost use Rattle.task_board.specs.Given.{AllBusy, IsGiven, NobodyStarts};
 
 use super::board::TaskBoard;
-use job_core::names::{Event, JobName};
+use job_core::names::Event;
 use job_log::Next;
 
 // What comes next, of a board that is not stopped. None of these takes memory.

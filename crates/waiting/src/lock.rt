@@ -1,12 +1,15 @@
 use crate::line::Line;
-use std::hint;
 use std::sync::{Mutex, MutexGuard, Wait};
+use std::{hint, thread};
 
 // How often a thread looks whether a lock is free before it sleeps for it: some ten microseconds in all.
 const LOOKS: u32 = 8_000;
 
 // Of how many looks one is a try, whatever is said of the lock.
 const EVERY: u32 = 2_048;
+
+// Of how many looks one lets other threads run: the holder may have lost its processor to this one.
+const YIELDS: u32 = 512;
 
 /// What is said of a lock by those who take it and give it up: whether it is held. A try for a lock takes its memory, and
 /// what lies beside it, from the core of the holder, so the others look here, and of those that see it free one tries.
@@ -59,6 +62,9 @@ pub(crate) fn lock_soon<'m, T, R: Wait>(
             }
         }
         hint::spin_loop();
+        if number % YIELDS == 0 {
+            thread::yield_now();
+        }
     }
     let guard = lock.lock(rt);
     held.take();

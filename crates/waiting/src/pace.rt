@@ -70,7 +70,7 @@ impl Pace {
         Instant::now(clock).ok()
     }
 
-    /// Takes into account the work of a task that began then.
+    /// Takes into account the work of a task that began then, with what its gate took.
     pub fn end<C: Clock>(&self, clock: &C, began: Option<Instant>) {
         let Some(began) = began else {
             return;

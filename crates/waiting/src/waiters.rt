@@ -3,10 +3,10 @@ use crate::line::Line;
 use crate::lock::{Held, lock_soon};
 use crate::patience::Patience;
 use crate::sleepers::Sleepers;
-use std::hint;
 use std::rt::Clock;
 use std::sync::{Mutex, MutexGuard, Wait};
 use std::time::Instant;
+use std::{hint, thread};
 
 // How often a thread looks for news at most, whatever the clock says.
 const LOOKS: u32 = 1_000_000;
@@ -16,9 +16,9 @@ const EVERY: u32 = 16;
 
 /// Threads that wait for something to do under a lock. Each spins a short while and then sleeps.
 ///
-/// Whoever makes something possible asks `want_one` under the lock, and calls one of `asleep` behind it where that says
-/// so. Of those that spin one takes the news and goes for the lock. A thread that spins looks under the lock in any case
-/// before it sleeps, so it need not be called.
+/// Whoever makes something possible tells them of it under the lock. Of those that spin one takes the news and goes for the
+/// lock; where none spins, one of `asleep` is to be called. A thread that spins looks under the lock in any case before it
+/// sleeps, so it need not be called.
 pub struct Waiters {
     news: Line,
     spinning: Line,
@@ -44,7 +44,8 @@ impl Waiters {
         }
     }
 
-    /// Looks for news, for so many nanoseconds, and takes the lock. Whether there were any.
+    /// Looks for news, for so many nanoseconds, and takes the lock. Whether there were any. Where it `yields`, it lets other
+    /// threads run between its looks.
     pub(crate) fn spin<'m, T, R: Wait + Clock>(
         &self,
         rt: &R,
@@ -52,9 +53,10 @@ impl Waiters {
         held: &Held,
         patience: &mut Patience,
         nanos: u64,
+        yields: bool,
     ) -> (MutexGuard<'m, T>, bool) {
         self.spinning.add_one();
-        let is_news = self.take_news() || self.wait_for_news(rt, patience, nanos);
+        let is_news = self.take_news() || self.wait_for_news(rt, patience, nanos, yields);
         let guard = lock_soon(rt, lock, held);
         self.spinning.take_one();
         (guard, is_news)
@@ -65,13 +67,19 @@ impl Waiters {
         self.news.load() != 0 && self.news.swap(0) != 0
     }
 
-    fn wait_for_news<C: Clock>(&self, clock: &C, patience: &mut Patience, nanos: u64) -> bool {
-        let is_news = self.look(clock, nanos);
+    fn wait_for_news<C: Clock>(
+        &self,
+        clock: &C,
+        patience: &mut Patience,
+        nanos: u64,
+        yields: bool,
+    ) -> bool {
+        let is_news = self.look(clock, nanos, yields);
         patience.learn(is_news);
         is_news
     }
 
-    fn look<C: Clock>(&self, clock: &C, nanos: u64) -> bool {
+    fn look<C: Clock>(&self, clock: &C, nanos: u64, yields: bool) -> bool {
         let Ok(began) = Instant::now(clock) else {
             return false;
         };
@@ -80,8 +88,14 @@ impl Waiters {
                 return true;
             }
             hint::spin_loop();
-            if number % EVERY == 0 && nanos_since(clock, began).unwrap_or(nanos) >= nanos {
+            if number % EVERY != 0 {
+                continue;
+            }
+            if nanos_since(clock, began).unwrap_or(nanos) >= nanos {
                 return false;
+            }
+            if yields {
+                thread::yield_now();
             }
         }
         false

@@ -22,12 +22,12 @@ const RESTS: u64 = 16;
 pub struct Waiting {
     held: Held,
     pub workers: Waiters,
-    // The worker that fell asleep last, while all others slept: it is called first, since the board lies in its
+    // Where a worker sleeps that fell asleep while all others slept: it is called first, since the board lies in its
     // processor's cache.
     keeper: Sleepers,
-    pub room: Sleepers,
+    room: Sleepers,
     pub printer: Waiters,
-    // Whether somebody asked for the printer since it was called last.
+    // Whether somebody asked for the printer since it was to be called last.
     asked: Line,
     pub pace: Pace,
     // Whether no task comes any more.
@@ -98,7 +98,10 @@ impl Waiting {
         patience: &mut Patience,
     ) -> (MutexGuard<'m, T>, bool) {
         let nanos = self.pace.looks(patience);
-        self.workers.spin(rt, lock, &self.held, patience, nanos)
+        // With the printer there are more threads than processors then.
+        let yields = self.awake() >= self.processors;
+        self.workers
+            .spin(rt, lock, &self.held, patience, nanos, yields)
     }
 
     /// Looks for news of a frame to show, and takes the lock. Whether there were any. Where all processors work it doesn't
@@ -114,7 +117,8 @@ impl Waiting {
         } else {
             0
         };
-        self.printer.spin(rt, lock, &self.held, patience, nanos)
+        self.printer
+            .spin(rt, lock, &self.held, patience, nanos, false)
     }
 
     /// Gives the lock up and sleeps until there is a task, for a while at most. Whether the while is over.
@@ -222,6 +226,13 @@ impl Waiting {
         }
         self.asked.store(0);
         self.printer.asleep.want_one()
+    }
+
+    /// Calls those who wait for room in the mail, of which there may be some now.
+    pub fn call_for_room(&self) {
+        if self.room.count() != 0 {
+            self.room.call_all();
+        }
     }
 
     /// Calls all workers that wait for a task, since none comes any more.

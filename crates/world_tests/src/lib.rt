@@ -1,4 +1,4 @@
-// Worlds, trees, ways, stacks of frames and drawings by example: tests alone.
+//! Worlds, trees, ways, stacks of frames and drawings by example: tests alone.
 #![tactic(auto)]
 
 #[cfg(test)]

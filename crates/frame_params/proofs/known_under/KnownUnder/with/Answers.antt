@@ -3,7 +3,7 @@ use Rattle.std.specs.Arc.{arc_value}
 use Rattle.std.proofs.lemmas.List.Elements.{All-push}
 use Rattle.frame_params.specs.Distances.{DistancesOf, KnownOf, AllUnder, IsUnder}
 use Rattle.frame_params.specs.declared.kept_distances.KeptDistances.{KeptDistances}
-use Rattle.frame_params.proofs.known.Known.with.Goals as goal
+use Rattle.frame_params.proofs.known_under.KnownUnder.with.Goals as goal
 
 pub invariant_of-result : goal.invariant_of-result
 invariant_of-result c =
