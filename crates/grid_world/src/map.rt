@@ -79,14 +79,22 @@ fn letter_fits(marks: &[char], letters: usize, k: u32) -> bool
     ensures { result ≡ letter_fits marks.now letters k }
 {
     let wanted = if (k as usize) < letters { 1 } else { 0 };
-    marks.iter().filter(|c| **c as u32 == 'A' as u32 + k).count() == wanted
+    marks
+        .iter()
+        .filter(|c| **c as u32 == 'A' as u32 + k)
+        .count()
+        == wanted
 }
 
 fn digit_fits(marks: &[char], d: u32) -> bool
     requires { d < 10 }
     ensures { result ≡ digit_fits marks.now d }
 {
-    marks.iter().filter(|c| **c as u32 == '0' as u32 + d).count() <= 1
+    marks
+        .iter()
+        .filter(|c| **c as u32 == '0' as u32 + d)
+        .count()
+        <= 1
 }
 
 fn letters_in(marks: &[char]) -> usize
