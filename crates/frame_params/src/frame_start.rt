@@ -103,8 +103,8 @@ impl<'t> FrameStart<'t> {
         })
     }
 
-    // That of the frame after a turn's. The world, the memories and, while the signals are equal, the distances are the
-    // turn's own, so nothing is copied.
+    // That of the frame after a turn's. The world, the memories and the distances, those that were found under its signals,
+    // are the turn's own, so nothing is copied.
     pub(crate) fn after(alloc: Global, turn: &Turn<'t>) -> Result<FrameStart<'t>, AllocError>
         requires { turn.now.frame + 1 < 2 ^ 32 }
         ensures { IfOk result (λ s. s ≡ record { game = turn.now.game; frame = turn.now.frame + 1 }) }

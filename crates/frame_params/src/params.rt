@@ -57,7 +57,7 @@ impl<'t> FrameParams<'t> {
     }
 
     /// Those of the frame after a turn's. The world and the memories are the turn's own, so nothing is copied; and so are the
-    /// distances, while the signals are those of the turn's frame.
+    /// distances, those that were found under the frame's signals.
     pub fn after(alloc: Global, turn: &Turn<'t>) -> Result<FrameParams<'t>, AllocError>
         requires { turn.now.frame + 1 < 2 ^ 32 }
         ensures { IfOk result (λ p. p ≡ record { game = turn.now.game; frame = turn.now.frame + 1 }) }
@@ -101,7 +101,8 @@ impl<'t> FrameParams<'t> {
     }
 
     /// Keeps the distances that the search for a way of the frame found, for the tasks that are made later and for the
-    /// frames that follow while the signals are equal. Where memory is refused they are not kept, and are found again.
+    /// frames that follow under the same signals, unless four other states of the signals come between. Where memory is
+    /// refused they are not kept, and are found again.
     pub fn learn(&mut self, alloc: Global, way: &Way<'t>)
         requires game { way.now.game ≡ self.old.game }
         requires frame { way.now.frame ≡ self.old.frame }
