@@ -15,8 +15,6 @@ use Rattle.grid_path.proofs.distances.Distances.TheSendSync.{the_send as distanc
 use Rattle.game_session.specs.contracts.session.Session as Session
 use Rattle.frame_params.specs.contracts.place_distances.PlaceDistances as PlaceDistances
 use Rattle.frame_params.specs.contracts.kept_distances.KeptDistances as KeptDistances
-use Rattle.frame_params.specs.contracts.known_under.KnownUnder as KnownUnder
-use Rattle.frame_params.specs.contracts.known_states.KnownStates as KnownStates
 use Rattle.frame_params.specs.contracts.known.Known as Known
 use Rattle.frame_params.specs.contracts.frame_start.FrameStart as FrameStart
 use Rattle.frame_params.specs.contracts.gathered.Gathered as Gathered
@@ -51,32 +49,17 @@ kept_distances_send κ = search (place_distances_send, place_distances_sync, sen
 pub kept_distances_sync : (κ : NamedLft) → IsSync (KeptDistances.the_row κ)
 kept_distances_sync κ = search (place_distances_send, place_distances_sync, sendable, crosses) depth 40
 
-pub known_under_send : (κ : NamedLft) → IsSend (KnownUnder.the_row κ)
-known_under_send κ = search (session, of_parts, kept_distances_send, kept_distances_sync, sendable, crosses) depth 40
-
-pub known_under_sync : (κ : NamedLft) → IsSync (KnownUnder.the_row κ)
-known_under_sync κ = search (session, of_parts, kept_distances_send, kept_distances_sync, sendable, crosses) depth 40
-
-pub known_states_send : (κ : NamedLft) → IsSend (KnownStates.the_row κ)
-known_states_send κ = search (known_under_send, sendable, crosses) depth 40
-
-pub known_states_sync : (κ : NamedLft) → IsSync (KnownStates.the_row κ)
-known_states_sync κ = search (known_under_sync, sendable, crosses) depth 40
-
-pub known_send : (κ : NamedLft) → IsSend (Known.the_row κ)
-known_send κ = search (known_states_send, known_states_sync, sendable, crosses) depth 40
-
-pub known_sync : (κ : NamedLft) → IsSync (Known.the_row κ)
-known_sync κ = search (known_states_send, known_states_sync, sendable, crosses) depth 40
+pub known : (κ : NamedLft) → IsSend (Known.the_row κ)
+known κ = search (session, of_parts, kept_distances_send, kept_distances_sync, sendable, crosses) depth 40
 
 pub frame_start_send : (κ : NamedLft) → IsSend (FrameStart.the_row κ)
-frame_start_send κ = search (session, of_parts, known_send, sendable, crosses) depth 40
+frame_start_send κ = search (session, of_parts, kept_distances_send, kept_distances_sync, sendable, crosses) depth 40
 
 pub frame_start_sync : (κ : NamedLft) → IsSync (FrameStart.the_row κ)
-frame_start_sync κ = search (session, of_parts, known_sync, sendable, crosses) depth 40
+frame_start_sync κ = search (session, of_parts, kept_distances_send, kept_distances_sync, sendable, crosses) depth 40
 
 pub gathered : (κ : NamedLft) → IsSend (Gathered.the_row κ)
-gathered κ = search (of_parts, known_send, frame_start_send, frame_start_sync, sendable, crosses) depth 40
+gathered κ = search (of_parts, known, frame_start_send, frame_start_sync, sendable, crosses) depth 40
 
 -- ---- results
 
@@ -87,7 +70,7 @@ pub thought : (κ : NamedLft) → IsSend (Thought.the_row κ)
 thought κ = search (session, of_parts, sendable, crosses) depth 40
 
 pub turn : (κ : NamedLft) → IsSend (Turn.the_row κ)
-turn κ = search (session, of_parts, known_send, sendable, crosses) depth 40
+turn κ = search (session, of_parts, known, sendable, crosses) depth 40
 
 pub band_out : (κ : NamedLft) → IsSend (BandOut.the_row κ)
 band_out κ = search (session, of_parts, sendable, crosses) depth 40
@@ -106,7 +89,7 @@ logic_task κ = search (session, gathered, sendable, crosses) depth 40
 -- ---- what tasks are made of
 
 pub params : (κ : NamedLft) → IsSend (FrameParams.the_row κ)
-params κ = search (frame_start_send, frame_start_sync, known_send, sendable, crosses) depth 40
+params κ = search (frame_start_send, frame_start_sync, known, sendable, crosses) depth 40
 
 pub slots : (κ : NamedLft) → IsSend (Slots.the_row κ)
 slots κ = search (params, sendable, crosses) depth 40

@@ -25,12 +25,8 @@ known_of g on = record { game = g; signals = on }
 abbrev pub IsUnder : Game → List Bool → DistancesOf → Type 0
 IsUnder g on d = (d.game ≡ g) × (d.signals ≡ on)
 
-abbrev pub AllUnder : Game → List Bool → List DistancesOf → Type 0
-AllUnder g on all = All (IsUnder g on) all
-
--- some of these are of the game
-abbrev pub IsOfGame : Game → KnownOf → Type 0
-IsOfGame g k = k.game ≡ g
+abbrev pub AllOf : Game → List DistancesOf → Type 0
+AllOf g all = All (λ d. d.game ≡ g) all
 
 -- those that a search found, if it found any
 abbrev pub IsUnderIf : Game → List Bool → Option DistancesOf → Type 0

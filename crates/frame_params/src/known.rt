@@ -1,33 +1,107 @@
-ghost use Rattle.std.specs.Prelude.{◌≡◌, IfOk, IfSome};
+ghost use Rattle.std.specs.Prelude.{◌≡◌, Contains, IfOk, IfSome};
+ghost use Rattle.frame_params.specs.Distances.{AllOf};
 
 use crate::kept_distances::KeptDistances;
-use crate::known_states::KnownStates;
 use game_session::Session;
 use grid_world::{Place, Signals};
 use std::alloc::{AllocError, Global};
 use std::marker::Model;
 use std::sync::Arc;
 
-// The distances that are known under the signals of now, which all that read them share.
+// How many are kept at most: those to ten places under four states of the signals. Doors that go on and off mostly come
+// back to a state that they had.
+const MOST: usize = 40;
+
+// The distances that were found on the ground of a session: under the signals of now for a place once at most, and behind
+// them those under the states before, the latest first.
 pub(crate) struct Known<'t> {
-    states: Arc<KnownStates<'t>>,
+    session: &'t Session,
+    signals: Signals,
+    all: Arc<Vec<KeptDistances<'t>>>,
 }
 
 impl<'t> Drop for Known<'t> {
     fn drop(self) {
-        let Self { states: _ } = self;
+        let Self {
+            session: _,
+            signals: _,
+            all: _,
+        } = self;
     }
 }
 
 impl<'t> Model for Known<'t> {
     ghost use Rattle.std.specs.Arc.{arc_value};
-    ghost use Rattle.frame_params.specs.Distances.{KnownOf, known_code};
+    ghost use Rattle.frame_params.specs.Distances.{KnownOf, known_code, AllOf};
 
     ghost Value = { KnownOf };
 
     ghost coded = { known_code };
 
-    ghost view = { λ k. arc_value k.states };
+    ghost view = { λ k. record { game = k.session.now; signals = k.signals } };
+
+    ghost invariant = { λ k. AllOf k.session.now (arc_value k.all).items };
+}
+
+// Those to a place under these signals.
+fn to_place<'a, 't>(
+    all: &'a [KeptDistances<'t>],
+    signals: Signals,
+    place: Place,
+) -> Option<&'a KeptDistances<'t>>
+    ensures place { IfSome result (λ d. d.now.place ≡ place) }
+    ensures signals { IfSome result (λ d. d.now.signals ≡ signals) }
+    ensures one { IfSome result (λ d. Contains all.now d.now) }
+{
+    all.iter()
+        .find(|d| d.place() == place && d.is_under(signals))
+}
+
+// Those under these signals once more, and the others behind them.
+fn ordered<'t>(
+    alloc: Global,
+    session: &Session,
+    all: &[KeptDistances<'t>],
+    signals: Signals,
+) -> Result<Vec<KeptDistances<'t>>, AllocError>
+    requires { AllOf session.now all.now }
+    ensures { IfOk result (λ them. AllOf session.now them.items) }
+{
+    let _ = session;
+    let mut them = Vec::with_capacity(alloc, all.len())?;
+    'these: for known in all {
+        if known.is_under(signals) {
+            them.push(known.share()?)?;
+        }
+    }
+    'others: for known in all {
+        if !known.is_under(signals) {
+            them.push(known.share()?)?;
+        }
+    }
+    Ok(them)
+}
+
+// The same ones once more behind another, as many as are kept.
+fn behind<'t>(
+    alloc: Global,
+    session: &Session,
+    found: &KeptDistances<'t>,
+    all: &[KeptDistances<'t>],
+) -> Result<Vec<KeptDistances<'t>>, AllocError>
+    requires found { found.now.game ≡ session.now }
+    requires all { AllOf session.now all.now }
+    ensures { IfOk result (λ them. AllOf session.now them.items) }
+{
+    let _ = session;
+    let mut them = Vec::with_capacity(alloc, MOST)?;
+    them.push(found.share()?)?;
+    'known: for known in all {
+        if them.len() < MOST {
+            them.push(known.share()?)?;
+        }
+    }
+    Ok(them)
 }
 
 impl<'t> Known<'t> {
@@ -42,7 +116,9 @@ impl<'t> Known<'t> {
         ensures { IfOk result (λ k. k ≡ known_of session.now signals) }
     {
         Ok(Known {
-            states: Arc::new(alloc, KnownStates::none(alloc, session, signals)?)?,
+            session,
+            signals,
+            all: Arc::new(alloc, Vec::new(alloc))?,
         })
     }
 
@@ -51,7 +127,9 @@ impl<'t> Known<'t> {
         ensures { IfOk result (λ k. k ≡ self.now) }
     {
         Ok(Known {
-            states: Arc::try_clone(&self.states)?,
+            session: self.session,
+            signals: self.signals,
+            all: Arc::try_clone(&self.all)?,
         })
     }
 
@@ -60,11 +138,14 @@ impl<'t> Known<'t> {
     pub(crate) fn under(&self, alloc: Global, signals: Signals) -> Result<Known<'t>, AllocError>
         ensures { IfOk result (λ k. k ≡ known_of self.now.game signals) }
     {
-        if self.states.is_under(signals) {
+        if signals == self.signals {
             return Ok(self.share()?);
         }
+        let all = ordered(alloc, self.session, &self.all, signals)?;
         Ok(Known {
-            states: Arc::new(alloc, self.states.under(alloc, signals)?)?,
+            session: self.session,
+            signals,
+            all: Arc::new(alloc, all)?,
         })
     }
 
@@ -72,7 +153,7 @@ impl<'t> Known<'t> {
     pub(crate) fn to(&self, place: Place) -> Option<&KeptDistances<'t>>
         ensures { IfSome result (λ d. d.now ≡ distances_of self.now.game self.now.signals place) }
     {
-        self.states.to(place)
+        to_place(&self.all, self.signals, place)
     }
 
     // Those to a place once more, where they are known; nothing is copied.
@@ -92,14 +173,16 @@ impl<'t> Known<'t> {
         found: &KeptDistances<'t>,
     ) -> Result<Known<'t>, AllocError>
         requires game { found.now.game ≡ self.now.game }
-        requires signals { found.now.signals ≡ self.now.signals }
         ensures { IfOk result (λ k. k ≡ self.now) }
     {
         if self.to(found.place()).is_some() {
             return Ok(self.share()?);
         }
+        let all = behind(alloc, self.session, found, &self.all)?;
         Ok(Known {
-            states: Arc::new(alloc, self.states.with(alloc, found)?)?,
+            session: self.session,
+            signals: self.signals,
+            all: Arc::new(alloc, all)?,
         })
     }
 }

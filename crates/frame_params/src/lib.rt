@@ -12,8 +12,6 @@ mod gathered;
 mod kept_distances;
 mod kept_memory;
 mod known;
-mod known_states;
-mod known_under;
 mod logic_step;
 mod logic_task;
 mod params;

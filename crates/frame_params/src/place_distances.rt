@@ -73,6 +73,13 @@ impl<'t> PlaceDistances<'t> {
         self.place
     }
 
+    // Whether they were found under these signals.
+    pub(crate) fn is_under(&self, signals: Signals) -> bool
+        ensures { result ≡ true → self.now.signals ≡ signals }
+    {
+        signals == self.signals
+    }
+
     // The way to the place from a cell of the map.
     pub(crate) fn way(&self, from: (u32, u32)) -> Answer
         requires { is_on_map self.now.game.world (point from.0 from.1) ≡ true }
