@@ -1,5 +1,5 @@
 -- First parts of a text that was written.
-use Rattle.std.proofs.Common.{ℕ, List, [], Option, Some, None, sym, append-nil, take, drop, take-append-drop}
+use Rattle.std.proofs.Common.{ℕ, List, Option, sym, take, drop, take-append-drop}
 use Rattle.std.specs.Io.KnownBytes.{Appends}
 use Rattle.byte_streams.specs.Streams.{AppendsPart}
 

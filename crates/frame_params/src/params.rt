@@ -101,8 +101,8 @@ impl<'t> FrameParams<'t> {
     }
 
     /// Keeps the distances that the search for a way of the frame found, for the tasks that are made later and for the
-    /// frames that follow under the same signals; of all that are found the latest forty are kept. Where memory is refused
-    /// they are not kept, and are found again.
+    /// frames that follow under the same signals. Of all that are found forty are kept, those under the latest states of the
+    /// signals before others. Where memory is refused they are not kept, and are found again.
     pub fn learn(&mut self, alloc: Global, way: &Way<'t>)
         requires game { way.now.game ≡ self.old.game }
         requires frame { way.now.frame ≡ self.old.frame }

@@ -1,80 +1,83 @@
-ghost use Rattle.std.specs.Prelude.{◌≡◌, Some};
-ghost use Rattle.run_worker.specs.Own.{IsNextIn};
+// Works what is at hand within a hold of the lock: that takes less than to hand the lock on.
+ghost use Rattle.std.specs.Prelude.{◌≡◌, IfOk};
+ghost use Rattle.frame_tasks.specs.BoardSteps.{IsToldIn};
+ghost use Rattle.frame_tasks.specs.Tasks.{IsAtHand, game_of};
 
 use crate::gate::Gate;
-use frame_tasks::Task;
+use crate::in_hand::InHand;
+use crate::run_task::RunTask;
+use crate::worker::Worker;
+use frame_tasks::{BoardStep, Task};
 use game_session::Session;
 use run_ledger::RunLedger;
 use shared_board::SharedBoard;
 use std::alloc::Global;
-use std::sync::ledger::{Ledger, Share};
+use std::rt::Clock;
+use std::sync::Wait;
+use std::sync::ledger::Ledger;
 use task_board::BoardFault;
 
 // How many tasks are worked in one hold of the lock at most.
 const MOST: u32 = 4;
 
-// Works the next task within the hold of the lock while it is at hand, as the answer to a question mostly is: that takes
-// less than to hand the lock on. Whether there is a next task.
-#[inline(always)]
-pub(crate) fn work_at_hand<'t, L: RunLedger, M: Ledger, G: Gate>(
+// What the work of a task that is at hand comes to. No such task is a drawing, so no band goes astray.
+fn told_at_hand<'t>(
     alloc: Global,
     session: &Session,
-    gate: &G,
-    board: &mut SharedBoard<'t, L, M>,
-    worker: u32,
-    share: &mut Share<L>,
-    next: &mut Option<Task<'t>>,
-) -> Result<bool, BoardFault>
-    requires run { L.game ≡ Some session.now }
-    requires part { share.old.parts ≡ 1 }
-    requires next { IsNextIn session.now next.old }
-    ensures part { share.new.parts ≡ 1 }
-    ensures next { IsNextIn session.now next.new }
+    task: &Task<'t>,
+) -> Result<BoardStep<'t>, BoardFault>
+    requires game { game_of task.now ≡ session.now }
+    requires near { IsAtHand task.now }
+    ensures own { IfOk result (IsToldIn session.now) }
 {
-    let Some(task) = &*next else {
-        return Ok(false);
+    let _ = session;
+    let Ok(step) = task.work(alloc) else {
+        return Err(BoardFault::OutOfMemory);
     };
-    // Most holds end here, and needn't make room for what the work comes to.
-    if !task.is_at_hand() {
-        return Ok(true);
-    }
-    work_while_at_hand(alloc, session, gate, board, worker, share, next)
+    let (told, None) = step.deliver() else {
+        unreachable!();
+    };
+    Ok(told)
 }
 
-// A gate that is to be asked is asked with the lock free, so there nothing is at hand.
-fn work_while_at_hand<'t, L: RunLedger, M: Ledger, G: Gate>(
-    alloc: Global,
-    session: &Session,
-    gate: &G,
-    board: &mut SharedBoard<'t, L, M>,
-    worker: u32,
-    share: &mut Share<L>,
-    next: &mut Option<Task<'t>>,
-) -> Result<bool, BoardFault>
-    requires run { L.game ≡ Some session.now }
-    requires part { share.old.parts ≡ 1 }
-    requires next { IsNextIn session.now next.old }
-    ensures part { share.new.parts ≡ 1 }
-    ensures next { IsNextIn session.now next.new }
-{
-    if !gate.is_open() {
-        return Ok(next.is_some());
-    }
-    'tasks: for _worked in 0..MOST {
-        let Some(task) = &*next else {
+impl<'h, 't, L: RunLedger, M: Ledger, G: Gate, R: Wait + Clock> Worker<'h, 't, L, M, G, R> {
+    // Works the next task while it is at hand, as the answer to a question mostly is. Whether there is a next task.
+    #[inline(always)]
+    pub(crate) fn work_at_hand(
+        &self,
+        board: &mut SharedBoard<'t, L, M>,
+        hand: &mut InHand<'t, L>,
+    ) -> Result<bool, BoardFault> {
+        let Some(next) = &hand.next else {
             return Ok(false);
         };
-        if !task.is_at_hand() {
+        // Most holds end here, and needn't make room for what the work comes to.
+        if !next.task.is_at_hand() {
             return Ok(true);
         }
-        let Ok(step) = task.work(alloc) else {
-            return Err(BoardFault::OutOfMemory);
-        };
-        // Nothing that is at hand is a drawing, so no band goes astray.
-        let (told, None) = step.deliver() else {
-            unreachable!();
-        };
-        *next = board.next(worker, session, told, share)?;
+        self.work_while_at_hand(board, hand)
     }
-    Ok(next.is_some())
+
+    // A gate that is to be asked is asked with the lock free, so there nothing is at hand.
+    fn work_while_at_hand(
+        &self,
+        board: &mut SharedBoard<'t, L, M>,
+        hand: &mut InHand<'t, L>,
+    ) -> Result<bool, BoardFault> {
+        if !self.gate.is_open() {
+            return Ok(hand.next.is_some());
+        }
+        'tasks: for _worked in 0..MOST {
+            let Some(next) = &hand.next else {
+                return Ok(false);
+            };
+            if !next.task.is_at_hand() {
+                return Ok(true);
+            }
+            let told = told_at_hand(self.alloc, self.session, &next.task)?;
+            let given = board.next(self.number, self.session, told, &mut hand.share)?;
+            hand.next = RunTask::given(self.session, given);
+        }
+        Ok(hand.next.is_some())
+    }
 }

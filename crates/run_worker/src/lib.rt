@@ -3,9 +3,15 @@
 
 mod asking;
 mod at_hand;
+mod ending;
 mod gate;
+mod idle;
+mod in_hand;
+mod run_task;
 mod scratch;
+mod telling;
 mod worker;
+mod working;
 
 pub use gate::{EveryJob, Gate};
-pub use worker::work;
+pub use working::work;

@@ -1,4 +1,4 @@
-use Rattle.std.proofs.Common.{◌∙◌, arith}
+use Rattle.std.proofs.Common.{arith}
 use Rattle.job_core.specs.declared.names.JobName.TheVariants.{Think}
 use Rattle.job_machine.proofs.Entries.{run_worker, run_fiber}
 use Rattle.job_machine.proofs.machine.Machine.pass.Goals as goal
