@@ -2,6 +2,7 @@
 #![tactic(auto)]
 
 mod crew;
+mod ends;
 mod hiring;
 mod opening;
 mod whole_run;
