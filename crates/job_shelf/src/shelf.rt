@@ -161,6 +161,37 @@ impl<'t> Shelf<'t> {
         &self.drawn[frame as usize % self.drawn.len()]
     }
 
+    #[inline(always)]
+    fn logic_task(&self, alloc: Global, frame: u32, step: u32) -> Result<LogicTask<'t>, AllocError>
+        requires { HasParts (sizes self.now) self.now.stored (JobName.Logic frame) step }
+        ensures { IfOk result (λ task. IsTaskAt self.now.game (JobName.Logic frame) step (Task.Logic task)) }
+    {
+        if step == 0 {
+            return LogicTask::start(alloc, self.session, frame);
+        }
+        self.thoughts.logic(alloc, self.params(frame))
+    }
+
+    #[inline(always)]
+    fn think_task(
+        &self,
+        alloc: Global,
+        frame: u32,
+        agent: u32,
+        step: u32,
+    ) -> Result<ThinkTask<'t>, AllocError>
+        requires { HasParts (sizes self.now) self.now.stored (JobName.Think frame agent) step }
+        ensures { IfOk result (λ task. IsTaskAt self.now.game (JobName.Think frame agent) step (Task.Think task)) }
+    {
+        let params = self.params(frame);
+        if step == 0 {
+            return ThinkTask::start(alloc, params, agent);
+        }
+        let asking = self.asking_of(agent);
+        let task = ThinkTask::resume(alloc, params, asking.parked(), asking.way())?;
+        Ok(task)
+    }
+
     /// The task of a job that stands at this step.
     #[inline(always)]
     pub fn task(&self, alloc: Global, job: JobName, step: u32) -> Result<Task<'t>, AllocError>
@@ -168,19 +199,9 @@ impl<'t> Shelf<'t> {
         ensures { IfOk result (IsTaskAt self.now.game job step) }
     {
         match job {
-            JobName::Logic { frame } => {
-                if step == 0 {
-                    return Ok(Task::Logic(LogicTask::start(alloc, self.session, frame)?));
-                }
-                Ok(Task::Logic(self.thoughts.logic(alloc, self.params(frame))?))
-            }
+            JobName::Logic { frame } => Ok(Task::Logic(self.logic_task(alloc, frame, step)?)),
             JobName::Think { frame, agent } => {
-                let params = self.params(frame);
-                if step == 0 {
-                    return Ok(Task::Think(ThinkTask::start(alloc, params, agent)?));
-                }
-                let asking = self.asking_of(agent);
-                Ok(Task::Think(ThinkTask::resume(alloc, params, asking.parked(), asking.way())?))
+                Ok(Task::Think(self.think_task(alloc, frame, agent, step)?))
             }
             JobName::Path {
                 frame,
