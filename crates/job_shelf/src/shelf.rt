@@ -161,6 +161,7 @@ impl<'t> Shelf<'t> {
         &self.drawn[frame as usize % self.drawn.len()]
     }
 
+    // The task of a frame's logic that stands at this step.
     #[inline(always)]
     fn logic_task(&self, alloc: Global, frame: u32, step: u32) -> Result<LogicTask<'t>, AllocError>
         requires { HasParts (sizes self.now) self.now.stored (JobName.Logic frame) step }
@@ -172,6 +173,7 @@ impl<'t> Shelf<'t> {
         self.thoughts.logic(alloc, self.params(frame))
     }
 
+    // The task of an agent's thought that stands at this step.
     #[inline(always)]
     fn think_task(
         &self,
