@@ -5,6 +5,7 @@ pub mod Forests
 pub mod Nests
 pub mod Leaving
 pub mod Handing
+pub mod Pars
 pub mod Numbers
 pub mod SmallNumbers
 pub mod Opening

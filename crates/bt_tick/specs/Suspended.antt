@@ -2,6 +2,7 @@
 use Rattle.std.specs.Prelude.{ℕ, ◌+◌, List, [], ◌∷◌, ◌++◌}
 use Rattle.grid_world.specs.declared.cell.Answer.{Answer}
 use Rattle.grid_world.specs.declared.cell.Intent.{Intent}
+use Rattle.bt_nodes.specs.declared.node.Status.{Status}
 use Rattle.bt_nodes.specs.declared.node.Status.TheVariants.{Success, Failure, Running}
 use Rattle.bt_nodes.specs.Plain.{Plain, Composite, CompositeStar, Parallel, Invert, Tries, Ticks}
 use Rattle.bt_nodes.specs.Sizes.{count}
@@ -17,6 +18,15 @@ pub record Open : Type 0 where
   pub next : ℕ
   pub won : ℕ
   pub lost : ℕ
+
+-- what the status of a child adds to those that succeeded, and to those that failed
+abbrev pub won_by : Status → ℕ
+won_by Success = 1
+won_by _ = 0
+
+abbrev pub lost_by : Status → ℕ
+lost_by Failure = 1
+lost_by _ = 0
 
 module _ (v : View) where
   -- what a node with number n does from child k on

@@ -5,6 +5,7 @@ ghost use Rattle.bt_nodes.specs.Plain.{plain};
 ghost use Rattle.bt_nodes.specs.Sizes.{size};
 ghost use Rattle.game_rules.specs.View.{View};
 ghost use Rattle.game_rules.specs.Tick.{State, gives, on};
+ghost use Rattle.bt_tick.specs.Kinds.{IsPar};
 ghost use Rattle.bt_tick.specs.Suspended.{close};
 ghost use Rattle.bt_tick.specs.Places.{Sits, Standing, Nested, weight_of, weight_all};
 ghost use Rattle.bt_tick.specs.Machine.{opened, opens, Keeps, whole_of, Placed, weight};
@@ -42,9 +43,10 @@ impl<'t, T: Allocator, A: Allocator> Machine<'t, T, A> {
         self.leave(status, after)
     }
 
-    // Hands a status to the innermost open node, whose next child has the number `at`.
+    // Hands a status to the innermost open node, which is no `Par` and whose next child has the number `at`.
     #[inline(always)]
     pub(crate) fn ascend(&mut self, frame: Frame<'t, T>, status: Status, at: u64) -> Mode<'t, T>
+        requires no_par { IsPar (plain frame.node.now) → ⊥ }
         requires some { 0 < length self.old.stack }
         requires stands { Standing (whole_of self.old)
             frame.next at (length (opens (drop 1 self.old.stack))) (opened frame) }
@@ -67,23 +69,6 @@ impl<'t, T: Allocator, A: Allocator> Machine<'t, T, A> {
             Node::Fallback(_) => match status {
                 Status::Failure => self.advance(frame, at),
                 Status::Success | Status::Running => self.stop(frame, status),
-            },
-            Node::Par(_, _) => match status {
-                Status::Success => self.advance(
-                    Frame {
-                        successes: frame.successes + 1,
-                        ..frame
-                    },
-                    at,
-                ),
-                Status::Failure => self.advance(
-                    Frame {
-                        failures: frame.failures + 1,
-                        ..frame
-                    },
-                    at,
-                ),
-                Status::Running => self.advance(frame, at),
             },
             Node::SeqStar(children) => match status {
                 Status::Success => {

@@ -4,7 +4,7 @@ ghost use Rattle.std.specs.Prelude.{◌≡◌, ◌<◌, ◌≤◌, ◌+◌, ◌*
 ghost use Rattle.bt_nodes.specs.Plain.{plain};
 ghost use Rattle.bt_nodes.specs.Sizes.{size};
 ghost use Rattle.game_rules.specs.Tick.{tick};
-ghost use Rattle.bt_tick.specs.Kinds.{is_move, is_condition};
+ghost use Rattle.bt_tick.specs.Kinds.{IsPar, is_move, is_condition};
 ghost use Rattle.bt_tick.specs.Places.{Sits, Nested, weight_all};
 ghost use Rattle.bt_tick.specs.Machine.{opens, Keeps, whole_of, Placed, weight};
 ghost use Rattle.bt_tick.specs.Views.{view_of, IsInWorld};
@@ -29,7 +29,7 @@ impl<'t, T: Allocator, A: Allocator + Clone> Machine<'t, T, A> {
         Ok(())
     }
 
-    // Ticks a node other than a `Move` or a condition: opens it and begins a child, or takes its status at once.
+    // Ticks a node other than a `Par`, a `Move` or a condition: opens it and begins a child, or takes its status at once.
     #[inline(always)]
     pub(crate) fn descend(
         &mut self,
@@ -38,6 +38,7 @@ impl<'t, T: Allocator, A: Allocator + Clone> Machine<'t, T, A> {
         number: u64,
     ) -> Result<Mode<'t, T>, AllocError>
         requires view { IsInWorld view.now }
+        requires no_par { IsPar (plain node.now) → ⊥ }
         requires no_move { is_move (plain node.now) ≡ false }
         requires no_condition { is_condition (plain node.now) ≡ false }
         requires sits { Sits (whole_of self.old) number (plain node.now) }
@@ -61,7 +62,6 @@ impl<'t, T: Allocator, A: Allocator + Clone> Machine<'t, T, A> {
         match node {
             Node::Seq(_) => self.open_list(frame, after),
             Node::Fallback(_) => self.open_list(frame, after),
-            Node::Par(_, _) => self.open_list(frame, after),
             Node::SeqStar(children) => self.open_star(node, children, number),
             Node::FallbackStar(children) => self.open_star(node, children, number),
             Node::Not(child) => self.open_only(Frame { next: 1, ..frame }, child),
@@ -95,13 +95,8 @@ impl<'t, T: Allocator, A: Allocator + Clone> Machine<'t, T, A> {
                 )
             }
             Node::Wait(most) => {
-                let past = self.memory.number(number);
-                if (past as u64) < *most {
-                    self.memory.set(number, past + 1);
-                    return Ok(Mode::Up(Status::Running, after));
-                }
-                self.memory.set(number, 0);
-                Ok(Mode::Up(Status::Success, after))
+                let status = self.wait(number, *most);
+                Ok(Mode::Up(status, after))
             }
             Node::Take => {
                 if view.carries() {
@@ -123,7 +118,8 @@ impl<'t, T: Allocator, A: Allocator + Clone> Machine<'t, T, A> {
                 self.want(Intent::Drop)?;
                 Ok(Mode::Up(Status::Running, after))
             }
-            Node::At(_)
+            Node::Par(_, _)
+            | Node::At(_)
             | Node::Carrying
             | Node::Item
             | Node::Signal(_)

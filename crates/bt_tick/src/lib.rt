@@ -2,6 +2,7 @@
 #![tactic(auto)]
 
 mod ascend;
+mod at_once;
 mod condition;
 mod descend;
 mod fault;
@@ -11,10 +12,12 @@ mod machine;
 mod memory;
 mod nearest;
 mod open;
+mod passing;
 mod pending;
 mod run;
 mod tick;
 mod view;
+mod waits;
 
 pub use fault::TickFault;
 pub use memory::Memory;

@@ -97,6 +97,8 @@ fn run<'t, T: Allocator, A: Allocator + Clone>(
                 if let Some(holds) = condition(view, &mut nearest, node) {
                     let after = number + 1;
                     mode = Mode::Up(status_of(holds), after);
+                } else if let Node::Par(_, _) = node {
+                    mode = machine.open_par(view, &mut nearest, node, number)?;
                 } else {
                     mode = machine.descend(view, node, number)?;
                 }
@@ -116,7 +118,13 @@ fn run<'t, T: Allocator, A: Allocator + Clone>(
                         intent,
                     });
                 }
-                Some(frame) => mode = machine.ascend(frame, status, at),
+                Some(frame) => {
+                    if let Node::Par(_, _) = frame.node {
+                        mode = machine.ascend_par(view, &mut nearest, frame, status, at);
+                    } else {
+                        mode = machine.ascend(frame, status, at);
+                    }
+                }
             },
         }
     }

@@ -15,10 +15,20 @@ use Rattle.bt_tick.proofs.run.run.Goals as goal
 pub overflow_add-after : goal.overflow_add-after
 overflow_add-after g c = omega (arith, down_within c.loop-mode.machine c.loop-mode.mode c.in-Down.node c.in-Down.number c.in-Down.is c.loop-mode.invariant.placed)
 
-pub loop-mode-preserved-in_default-condition : goal.loop-mode-preserved-in_default-condition
-loop-mode-preserved-in_default-condition g c = record {
-  placed = c.in_ok-mode-in-Down.ensures.placed;
+pub loop-mode-preserved-in_default-node : goal.loop-mode-preserved-in_default-node
+loop-mode-preserved-in_default-node g c = record {
+  placed = c.in_ok-mode-in-Down-2.ensures.placed;
   nearest = c.condition.ensures.nearest;
+  tree = c.in_ok-mode-in-Down-2.ensures.tree ∙ c.loop-mode.invariant.tree;
+  keeps = λ more.
+      c.in_ok-mode-in-Down-2.ensures.keeps (fresh [] [] more)
+      ∙ ap (λ m. machine_left (view_of c.args.view.now) c.loop-mode.machine m more) (sym c.in-Down.is) ∙ c.loop-mode.invariant.keeps more;
+}
+
+pub loop-mode-preserved-in-Par : goal.loop-mode-preserved-in-Par
+loop-mode-preserved-in-Par g c = record {
+  placed = c.in_ok-mode-in-Down.ensures.placed;
+  nearest = c.in_ok-mode-in-Down.ensures.nearest;
   tree = c.in_ok-mode-in-Down.ensures.tree ∙ c.loop-mode.invariant.tree;
   keeps = λ more.
       c.in_ok-mode-in-Down.ensures.keeps (fresh [] [] more)
@@ -35,6 +45,20 @@ loop-mode-preserved g c =
       tree = c.ascend-mode.ensures.tree ∙ c.loop-mode.invariant.tree;
       keeps = λ more.
           c.ascend-mode.ensures.keeps v (fresh [] [] more)
+          ∙ ap (λ fs. unwind v (opens fs) (gives c.in-Up.status (fresh m.memory m.wants.items more))) (sym c.in-Some-innermost.ensures)
+          ∙ ap (λ md. machine_left v m md more) (sym c.in-Up.is) ∙ c.loop-mode.invariant.keeps more;
+    }
+
+pub loop-mode-preserved-in-Par-node : goal.loop-mode-preserved-in-Par-node
+loop-mode-preserved-in-Par-node g c =
+    let v = view_of c.args.view.now in
+    let m = c.loop-mode.machine in
+    record {
+      placed = c.ascend_par-mode.ensures.placed;
+      nearest = c.ascend_par-mode.ensures.nearest;
+      tree = c.ascend_par-mode.ensures.tree ∙ c.loop-mode.invariant.tree;
+      keeps = λ more.
+          c.ascend_par-mode.ensures.keeps (fresh [] [] more)
           ∙ ap (λ fs. unwind v (opens fs) (gives c.in-Up.status (fresh m.memory m.wants.items more))) (sym c.in-Some-innermost.ensures)
           ∙ ap (λ md. machine_left v m md more) (sym c.in-Up.is) ∙ c.loop-mode.invariant.keeps more;
     }

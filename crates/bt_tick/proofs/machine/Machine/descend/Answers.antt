@@ -1,24 +1,23 @@
 use Rattle.std.proofs.Common.{◌+◌, ◌*◌, ◌<◌, ap, sym, ◌∙◌, subst, arith, refl, true, false}
 use Rattle.std.proofs.lemmas.List.{length-map}
 use Rattle.grid_world.specs.declared.cell.Intent.TheVariants.{Take, Drop}
-use Rattle.bt_nodes.specs.declared.node.Status.TheVariants.{Success, Failure, Running}
+use Rattle.bt_nodes.specs.declared.node.Status.TheVariants.{Failure}
 use Rattle.bt_nodes.specs.Plain.{Sequence, Fallback, CompositeStar, none, tree, plain, plains}
 use Rattle.bt_nodes.specs.Sizes.{size}
-use Rattle.bt_nodes.specs.Bounds.{bounds}
-use Rattle.bt_nodes.proofs.Views.{plain-Seq, plain-Fallback, plain-Par, plain-SeqStar, plain-FallbackStar, plain-Not, plain-Tries, plain-Ticks}
+use Rattle.bt_nodes.proofs.Views.{plain-Seq, plain-Fallback, plain-SeqStar, plain-FallbackStar, plain-Not, plain-Tries, plain-Ticks}
 use Rattle.game_rules.specs.Tick.{gives}
 use Rattle.bt_tick.specs.Children.{children_of}
-use Rattle.bt_tick.specs.Kinds.{HasList}
+use Rattle.bt_tick.specs.Kinds.{HasList, waits}
 use Rattle.bt_tick.specs.Suspended.{unwind}
 use Rattle.bt_tick.specs.Places.{limit_of, weight_all}
 use Rattle.bt_tick.specs.Views.{view_of}
 use Rattle.bt_tick.specs.Machine.{opened, opens, whole_of, with_parts}
 use Rattle.bt_tick.proofs.Trees.{size-children}
 use Rattle.bt_tick.proofs.Nests.{room}
-use Rattle.bt_tick.proofs.Numbers.{number_within, sat_wrote, zero_wrote}
+use Rattle.bt_tick.proofs.Numbers.{number_within, zero_wrote}
 use Rattle.bt_tick.proofs.Opening.{if_ok, first_rests, only_stands, placed_by}
-use Rattle.bt_tick.proofs.SmallNumbers.{small, number_small}
-use Rattle.bt_tick.proofs.Beginning.{plain-Wait, plain-Take, plain-Drop, line_begins, all_begins, not_begins, tries_begins, tries_over, ticks_begins, ticks_over, waits, waited, takes, takes_none, drops, drops_none, answered_nested, answered_falls, number_below, wanted_keeps}
+use Rattle.bt_tick.proofs.SmallNumbers.{number_small}
+use Rattle.bt_tick.proofs.Beginning.{plain-Wait, plain-Take, plain-Drop, line_begins, not_begins, tries_begins, tries_over, ticks_begins, ticks_over, takes, takes_none, ticks_as, drops, drops_none, answered_nested, answered_falls, number_below, wanted_keeps}
 use Rattle.bt_tick.proofs.machine.Machine.descend.Goals as goal
 
 pub overflow_cast-frame : goal.overflow_cast-frame
@@ -53,20 +52,6 @@ returns-in-Fallback g c =
       placed = c.open_list-in-Fallback.ensures.placed;
       falls = if_ok c.open_list-in-Fallback.result (λ m h. omega (arith, h, size-children (plain c.args.node.now))) c.open_list-in-Fallback.ensures.falls;
       tree = c.open_list-in-Fallback.ensures.tree;
-    }
-
-pub open_list-requires-in-Par : goal.open_list-requires-in-Par
-open_list-requires-in-Par g c =
-    let list : HasList (plain c.args.node.now) = subst HasList (sym (ap plain c.in-Par.is ∙ plain-Par c.in-Par.field-0 c.in-Par.field-1)) tt in
-    record { rests = first_rests (whole_of c.args.self.now) (plain c.args.node.now) c.args.number (opens c.args.self.now.stack) list c.requires.sits (omega (arith, c.requires.deep, length-map c.args.self.now.stack opened)) c.requires.nested; list = list }
-
-pub returns-in-Par : goal.returns-in-Par
-returns-in-Par g c =
-    record {
-      keeps = if_ok c.open_list-in-Par.result (λ m h s. h (view_of c.args.view.now) s ∙ ap (unwind (view_of c.args.view.now) (opens c.args.self.now.stack)) (all_begins (view_of c.args.view.now) (plain c.args.node.now) c.args.number (with_parts c.args.self.now.memory c.args.self.now.wants.items s) c.in-Par.field-0 (plains c.in-Par.field-1.items) (ap plain c.in-Par.is ∙ plain-Par c.in-Par.field-0 c.in-Par.field-1))) c.open_list-in-Par.ensures.keeps;
-      placed = c.open_list-in-Par.ensures.placed;
-      falls = if_ok c.open_list-in-Par.result (λ m h. omega (arith, h, size-children (plain c.args.node.now))) c.open_list-in-Par.ensures.falls;
-      tree = c.open_list-in-Par.ensures.tree;
     }
 
 pub open_star-requires : goal.open_star-requires
@@ -207,47 +192,15 @@ returns-else-past-most g c =
       tree = c.open_only-in-Ticks.ensures.tree;
     }
 
-pub number-past-requires-in-Wait : goal.number-past-requires-in-Wait
-number-past-requires-in-Wait g c =
-    number_within (whole_of c.args.self.now) (plain c.args.node.now) c.args.self.now.memory c.args.number c.args.self.now.fits c.requires.sits
-
-pub set-requires-then-past-most-2 : goal.set-requires-then-past-most-2
-set-requires-then-past-most-2 g c =
-    number_within (whole_of c.args.self.now) (plain c.args.node.now) c.args.self.now.memory c.args.number c.args.self.now.fits c.requires.sits
-
-pub set-requires-in-Wait : goal.set-requires-in-Wait
-set-requires-in-Wait g c =
-    number_within (whole_of c.args.self.now) (plain c.args.node.now) c.args.self.now.memory c.args.number c.args.self.now.fits c.requires.sits
-
-pub overflow_add-past : goal.overflow_add-past
-overflow_add-past g c =
-    omega (arith, small c.args.self.now.tree.now (plain c.args.node.now) c.args.number _ (c.number-past-in-Wait.result + 1) _ (ap bounds (ap plain c.in-Wait.is ∙ plain-Wait _ c.in-Wait.most)) c.requires.sits (omega (arith, c.if-past-most-2.true)))
-
-pub invariant_of-self-then-past-most-2 : goal.invariant_of-self-then-past-most-2
-invariant_of-self-then-past-most-2 g c =
-    record { fits = sat_wrote (whole_of c.args.self.now) (plain c.args.node.now) c.args.self.now.memory _ c.args.number (c.number-past-in-Wait.result + 1) _ _ c.args.self.now.fits c.requires.sits (ap bounds (ap plain c.in-Wait.is ∙ plain-Wait _ c.in-Wait.most)) (omega (arith, c.if-past-most-2.true)) c.set-then-past-most-2.ensures }
-
-pub invariant_of-self-in-Wait : goal.invariant_of-self-in-Wait
-invariant_of-self-in-Wait g c =
-    record { fits = zero_wrote (whole_of c.args.self.now) (plain c.args.node.now) c.args.self.now.memory _ c.args.number c.args.self.now.fits c.requires.sits c.set-in-Wait.ensures }
-
-pub returns-then-past-most-2 : goal.returns-then-past-most-2
-returns-then-past-most-2 g c =
-    record {
-      keeps = λ s. ap (λ m. unwind (view_of c.args.view.now) (opens c.args.self.now.stack) (gives Running (with_parts m c.args.self.now.wants.items s))) c.set-then-past-most-2.ensures ∙ ap (unwind (view_of c.args.view.now) (opens c.args.self.now.stack)) (waits (view_of c.args.view.now) (plain c.args.node.now) c.args.number (with_parts c.args.self.now.memory c.args.self.now.wants.items s) c.in-Wait.most c.number-past-in-Wait.result c.number-past-in-Wait.ensures (ap plain c.in-Wait.is ∙ plain-Wait _ c.in-Wait.most) c.if-past-most-2.true);
-      placed = placed_by c.args.self.now _ _ c.args.self.now.stack refl refl (answered_nested (whole_of c.args.self.now) _ c.args.number (plain c.args.node.now) (opens c.args.self.now.stack) (omega (arith, ap size (ap plain c.in-Wait.is ∙ plain-Wait _ c.in-Wait.most))) c.requires.nested) tt;
-      falls = answered_falls (plain c.args.node.now) (weight_all (opens c.args.self.now.stack));
-      tree = refl;
-    }
-
-pub returns-else-past-most-2 : goal.returns-else-past-most-2
-returns-else-past-most-2 g c =
-    record {
-      keeps = λ s. ap (λ m. unwind (view_of c.args.view.now) (opens c.args.self.now.stack) (gives Success (with_parts m c.args.self.now.wants.items s))) c.set-in-Wait.ensures ∙ ap (unwind (view_of c.args.view.now) (opens c.args.self.now.stack)) (waited (view_of c.args.view.now) (plain c.args.node.now) c.args.number (with_parts c.args.self.now.memory c.args.self.now.wants.items s) c.in-Wait.most c.number-past-in-Wait.result c.number-past-in-Wait.ensures (ap plain c.in-Wait.is ∙ plain-Wait _ c.in-Wait.most) c.if-past-most-2.false);
-      placed = placed_by c.args.self.now _ _ c.args.self.now.stack refl refl (answered_nested (whole_of c.args.self.now) _ c.args.number (plain c.args.node.now) (opens c.args.self.now.stack) (omega (arith, ap size (ap plain c.in-Wait.is ∙ plain-Wait _ c.in-Wait.most))) c.requires.nested) tt;
-      falls = answered_falls (plain c.args.node.now) (weight_all (opens c.args.self.now.stack));
-      tree = refl;
-    }
+pub returns-in-Wait-clause-keeps : goal.returns-in-Wait-clause-keeps
+returns-in-Wait-clause-keeps g c s =
+    let v = view_of c.args.view.now in
+    let now = c.wait-status.new.self in
+    let old = c.args.self.now in
+    let st = c.wait-status.result in
+    ap (λ fs. unwind v (opens fs) (gives st (with_parts now.memory now.wants.items s))) c.wait-status.ensures.stack
+    ∙ ap (λ w. unwind v (opens old.stack) (gives st (with_parts now.memory w.items s))) c.wait-status.ensures.wants
+    ∙ ap (unwind v (opens old.stack)) (c.wait-status.ensures.ticks v s ∙ ticks_as v (plain c.args.node.now) c.args.number (with_parts old.memory old.wants.items s) (waits c.in-Wait.most) (ap plain c.in-Wait.is ∙ plain-Wait _ c.in-Wait.most))
 
 pub returns-then-carries : goal.returns-then-carries
 returns-then-carries g c =

@@ -1,0 +1,52 @@
+// Nodes that give their status at once: none of them is opened, and none asks.
+
+ghost use Rattle.std.specs.Prelude.{◌≡◌, ◌+◌, IfSome, None};
+ghost use Rattle.bt_nodes.specs.Plain.{plain};
+ghost use Rattle.bt_nodes.specs.Sizes.{size};
+ghost use Rattle.game_rules.specs.Tick.{State, gives, tick};
+ghost use Rattle.bt_tick.specs.Places.{Sits};
+ghost use Rattle.bt_tick.specs.Machine.{whole_of, with_parts};
+ghost use Rattle.bt_tick.specs.Views.{view_of, IsInWorld, IsNearestIn};
+
+use crate::condition::{condition, status_of};
+use crate::machine::Machine;
+use crate::nearest::Nearest;
+use crate::view::View;
+use bt_nodes::{Node, Status};
+use std::alloc::Allocator;
+
+impl<'t, T: Allocator, A: Allocator> Machine<'t, T, A> {
+    // The status of a node that gives it at once, and the number after its last node; None for any other node.
+    #[inline(always)]
+    pub(crate) fn at_once(
+        &mut self,
+        view: &View,
+        nearest: &mut Nearest,
+        node: &Node<T>,
+        number: u64,
+    ) -> Option<(Status, u64)>
+        requires view { IsInWorld view.now }
+        requires nearest { IsNearestIn (view_of view.now) nearest.old }
+        requires sits { Sits (whole_of self.old) number (plain node.now) }
+        ensures ticks { IfSome result (λ r. (s : State) → gives r.0 (with_parts self.new.memory self.old.wants.items s)
+            ≡ tick (view_of view.now) (plain node.now) number (with_parts self.old.memory self.old.wants.items s)) }
+        ensures after { IfSome result (λ r. r.1 ≡ number + size (plain node.now)) }
+        ensures none { result ≡ None → self.new.memory ≡ self.old.memory }
+        ensures stack { self.new.stack ≡ self.old.stack }
+        ensures wants { self.new.wants ≡ self.old.wants }
+        ensures tree { self.new.tree ≡ self.old.tree }
+        ensures nearest { IsNearestIn (view_of view.now) nearest.new }
+    {
+        match node {
+            Node::Wait(most) => Some((self.wait(number, *most), number + 1)),
+            Node::Not(child) => match condition(view, nearest, child) {
+                Some(holds) => Some((status_of(!holds), number + 2)),
+                None => None,
+            },
+            _ => match condition(view, nearest, node) {
+                Some(holds) => Some((status_of(holds), number + 1)),
+                None => None,
+            },
+        }
+    }
+}
