@@ -1,19 +1,16 @@
 -- What passing a child of a par that gives its status at once keeps.
-use Rattle.std.proofs.Common.{◌≡◌, ℕ, ◌+◌, ◌≤◌, List, [], Bool, true, false, refl, sym, ap, ◌∙◌, subst, arith}
-use Rattle.std.specs.Prelude.{not, if◌then◌else◌}
+use Rattle.std.proofs.Common.{◌≡◌, ℕ, ◌+◌, ◌≤◌, List, [], refl, sym, ap, ◌∙◌, subst, arith}
 use Rattle.bt_nodes.specs.declared.node.Status.{Status}
 use Rattle.bt_nodes.specs.declared.node.Status.TheVariants.{Success, Failure, Running}
-use Rattle.bt_nodes.specs.Plain.{Plain, Parallel, Invert, tree}
+use Rattle.bt_nodes.specs.Plain.{Plain, Parallel, tree}
 use Rattle.bt_nodes.specs.Sizes.{size}
 use Rattle.game_rules.specs.View.{View}
-use Rattle.game_rules.specs.Tick.{State, gives, on, test, tick}
+use Rattle.game_rules.specs.Tick.{State, gives, tick}
 use Rattle.bt_tick.specs.Children.{children_of, from_child}
-use Rattle.bt_tick.specs.Conditions.{Tests}
 use Rattle.bt_tick.specs.Kinds.{HasList, IsPar}
 use Rattle.bt_tick.specs.Suspended.{Open, go_on, close, close_at, won_by, lost_by}
 use Rattle.bt_tick.specs.Places.{Resting, limit_of, weight_of}
 use Rattle.bt_tick.specs.Machine.{rest_of}
-use Rattle.bt_tick.proofs.Beginning.{ticks_as}
 use Rattle.bt_tick.proofs.Handing.{rested}
 use Rattle.bt_tick.proofs.Nests.{begun, entered_keeps, entered_nested, entered_falls}
 
@@ -61,16 +58,3 @@ module _ (f : Open) (c : Plain) (at : ℕ) (there : from_child f.next (children_
 
   pub passed_falls : weight_of (with_status st (begun f)) ≤ weight_of f
   passed_falls = omega (arith, entered_falls f [] c at there)
-
--- the opposite of a condition
-module _ (v : View) (p c : Plain) (is : p ≡ Invert c) (holds : Bool) (tests : Tests v c holds) where
-  flipped : (b : Bool) (st : Status) (s : State) → st ≡ (if not b then Success else Failure) → gives st s ≡ on (test b s) (gives Failure) (gives Success) (gives Running)
-  flipped true st s e = ap (λ x. gives x s) e
-  flipped false st s e = ap (λ x. gives x s) e
-
-  pub not_answers : (n : ℕ) (st : Status) (s : State) → st ≡ (if not holds then Success else Failure) → gives st s ≡ tick v p n s
-  not_answers n st s e =
-      flipped holds st s e ∙ ap (λ r. on r (gives Failure) (gives Success) (gives Running)) (sym (tests.1 (n + 1) s)) ∙ ticks_as v p n s (Invert c) is
-
-  pub not_size : size p ≡ 2
-  not_size = ap size is ∙ (let one = tests.0 in omega (arith, one))

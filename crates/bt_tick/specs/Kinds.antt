@@ -1,6 +1,6 @@
 -- Kinds of nodes.
-use Rattle.std.specs.Prelude.{◌≡◌, ℕ, Bool, true, false}
-use Rattle.bt_nodes.specs.Plain.{Plain, Kind, Composite, CompositeStar, Parallel, Wait, MoveTo, Does, AtPlace, Carries, OnItem, SignalOn, NearOther, Forest}
+use Rattle.std.specs.Prelude.{◌≡◌, Bool, true, false}
+use Rattle.bt_nodes.specs.Plain.{Plain, Kind, Composite, CompositeStar, Parallel, MoveTo, Does, AtPlace, Carries, OnItem, SignalOn, NearOther, Forest}
 
 abbrev pub HasList : Plain → Type 0
 HasList (Composite kind cs) = Unit {0}
@@ -14,10 +14,6 @@ IsStarOf p cs = (kind : Kind) × (p ≡ CompositeStar kind cs)
 abbrev pub IsPar : Plain → Type 0
 IsPar (Parallel m cs) = Unit {0}
 IsPar _ = ⊥
-
--- a wait of so many ticks
-abbrev pub waits : ℕ → Plain
-waits n = Wait n
 
 abbrev pub is_move : Plain → Bool
 is_move (MoveTo p) = true

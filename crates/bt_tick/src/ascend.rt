@@ -16,7 +16,7 @@ use fiber_stack::Frame;
 use std::alloc::Allocator;
 
 // What `Not` makes of the status of its child.
-fn opposite(status: Status) -> Status
+pub(crate) fn opposite(status: Status) -> Status
     ensures { (s : State) →
         gives result s ≡ on (gives status s) (gives Status.Failure) (gives Status.Success) (gives Status.Running) }
 {

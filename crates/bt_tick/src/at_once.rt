@@ -1,13 +1,14 @@
 // Nodes that give their status at once: none of them is opened, and none asks.
 
 ghost use Rattle.std.specs.Prelude.{◌≡◌, ◌+◌, IfSome, None};
-ghost use Rattle.bt_nodes.specs.Plain.{plain};
+ghost use Rattle.bt_nodes.specs.Plain.{plain, Ticks};
 ghost use Rattle.bt_nodes.specs.Sizes.{size};
 ghost use Rattle.game_rules.specs.Tick.{State, gives, tick};
 ghost use Rattle.bt_tick.specs.Places.{Sits};
 ghost use Rattle.bt_tick.specs.Machine.{whole_of, with_parts};
 ghost use Rattle.bt_tick.specs.Views.{view_of, IsInWorld, IsNearestIn};
 
+use crate::ascend::opposite;
 use crate::condition::{condition, status_of};
 use crate::machine::Machine;
 use crate::nearest::Nearest;
@@ -16,6 +17,74 @@ use bt_nodes::{Node, Status};
 use std::alloc::Allocator;
 
 impl<'t, T: Allocator, A: Allocator> Machine<'t, T, A> {
+    // The status of a condition or a `Wait`; None for any other node.
+    #[inline(always)]
+    fn leaf(
+        &mut self,
+        view: &View,
+        nearest: &mut Nearest,
+        node: &Node<T>,
+        number: u64,
+    ) -> Option<Status>
+        requires view { IsInWorld view.now }
+        requires nearest { IsNearestIn (view_of view.now) nearest.old }
+        requires sits { Sits (whole_of self.old) number (plain node.now) }
+        ensures ticks { IfSome result (λ st. (s : State) → gives st (with_parts self.new.memory self.old.wants.items s)
+            ≡ tick (view_of view.now) (plain node.now) number (with_parts self.old.memory self.old.wants.items s)) }
+        ensures alone { IfSome result (λ st. size (plain node.now) ≡ 1) }
+        ensures none { result ≡ None → self.new.memory ≡ self.old.memory }
+        ensures stack { self.new.stack ≡ self.old.stack }
+        ensures wants { self.new.wants ≡ self.old.wants }
+        ensures tree { self.new.tree ≡ self.old.tree }
+        ensures nearest { IsNearestIn (view_of view.now) nearest.new }
+    {
+        if let Node::Wait(most) = node {
+            return Some(self.wait(number, *most));
+        }
+        match condition(view, nearest, node) {
+            Some(holds) => Some(status_of(holds)),
+            None => None,
+        }
+    }
+
+    // The status of a `Ticks` of so many ticks, where its child gives one at once or isn't ticked, and the number after its
+    // last node.
+    #[inline(always)]
+    fn ticks_at_once(
+        &mut self,
+        view: &View,
+        nearest: &mut Nearest,
+        most: u64,
+        child: &Node<T>,
+        number: u64,
+    ) -> Option<(Status, u64)>
+        requires view { IsInWorld view.now }
+        requires nearest { IsNearestIn (view_of view.now) nearest.old }
+        requires sits { Sits (whole_of self.old) number (Ticks most (plain child.now)) }
+        ensures ticks { IfSome result (λ r. (s : State) → gives r.0 (with_parts self.new.memory self.old.wants.items s)
+            ≡ tick (view_of view.now) (Ticks most (plain child.now)) number (with_parts self.old.memory self.old.wants.items s)) }
+        ensures after { IfSome result (λ r. r.1 ≡ number + size (Ticks most (plain child.now))) }
+        ensures none { result ≡ None → self.new.memory ≡ self.old.memory }
+        ensures stack { self.new.stack ≡ self.old.stack }
+        ensures wants { self.new.wants ≡ self.old.wants }
+        ensures tree { self.new.tree ≡ self.old.tree }
+        ensures nearest { IsNearestIn (view_of view.now) nearest.new }
+    {
+        let past = self.memory.number(number);
+        if past as u64 >= most {
+            self.memory.set(number, 0);
+            return Some((Status::Failure, self.number_after(number)));
+        }
+        let Some(status) = self.leaf(view, nearest, child, number + 1) else {
+            return None;
+        };
+        match status {
+            Status::Running => self.memory.set(number, past + 1),
+            Status::Success | Status::Failure => self.memory.set(number, 0),
+        }
+        Some((status, number + 2))
+    }
+
     // The status of a node that gives it at once, and the number after its last node; None for any other node.
     #[inline(always)]
     pub(crate) fn at_once(
@@ -38,13 +107,13 @@ impl<'t, T: Allocator, A: Allocator> Machine<'t, T, A> {
         ensures nearest { IsNearestIn (view_of view.now) nearest.new }
     {
         match node {
-            Node::Wait(most) => Some((self.wait(number, *most), number + 1)),
-            Node::Not(child) => match condition(view, nearest, child) {
-                Some(holds) => Some((status_of(!holds), number + 2)),
+            Node::Not(child) => match self.leaf(view, nearest, child, number + 1) {
+                Some(status) => Some((opposite(status), number + 2)),
                 None => None,
             },
-            _ => match condition(view, nearest, node) {
-                Some(holds) => Some((status_of(holds), number + 1)),
+            Node::Ticks(most, child) => self.ticks_at_once(view, nearest, *most, child, number),
+            _ => match self.leaf(view, nearest, node, number) {
+                Some(status) => Some((status, number + 1)),
                 None => None,
             },
         }

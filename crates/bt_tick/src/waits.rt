@@ -1,9 +1,9 @@
 // Nodes that wait.
 
 ghost use Rattle.std.specs.Prelude.{◌≡◌};
+ghost use Rattle.bt_nodes.specs.Plain.{Wait};
 ghost use Rattle.game_rules.specs.View.{View};
 ghost use Rattle.game_rules.specs.Tick.{State, gives, tick};
-ghost use Rattle.bt_tick.specs.Kinds.{waits};
 ghost use Rattle.bt_tick.specs.Places.{Sits};
 ghost use Rattle.bt_tick.specs.Machine.{whole_of, with_parts};
 
@@ -15,9 +15,9 @@ impl<'t, T: Allocator, A: Allocator> Machine<'t, T, A> {
     // The status of a `Wait` of so many ticks, which has this number.
     #[inline(always)]
     pub(crate) fn wait(&mut self, number: u64, most: u64) -> Status
-        requires { Sits (whole_of self.old) number (waits most) }
+        requires { Sits (whole_of self.old) number (Wait most) }
         ensures ticks { (v : View) (s : State) →
-            gives result (with_parts self.new.memory self.old.wants.items s) ≡ tick v (waits most) number (with_parts self.old.memory self.old.wants.items s) }
+            gives result (with_parts self.new.memory self.old.wants.items s) ≡ tick v (Wait most) number (with_parts self.old.memory self.old.wants.items s) }
         ensures stack { self.new.stack ≡ self.old.stack }
         ensures wants { self.new.wants ≡ self.old.wants }
         ensures tree { self.new.tree ≡ self.old.tree }

@@ -1,13 +1,12 @@
-use Rattle.std.proofs.Common.{ap, ◌∙◌}
-use Rattle.bt_nodes.specs.Plain.{plain}
-use Rattle.bt_tick.specs.Kinds.{waits}
-use Rattle.bt_tick.specs.Machine.{with_parts}
-use Rattle.bt_tick.specs.Views.{view_of}
-use Rattle.bt_tick.proofs.Beginning.{plain-Wait, ticks_as}
+use Rattle.std.proofs.Common.{ap, sym, ◌∙◌}
+use Rattle.bt_nodes.specs.Plain.{plain, none, tree}
+use Rattle.bt_nodes.proofs.Views.{plain-Not}
+use Rattle.bt_tick.specs.Children.{children_of}
+use Rattle.bt_tick.specs.Machine.{whole_of}
+use Rattle.bt_tick.proofs.Trees.{sits_child}
 use Rattle.bt_tick.proofs.machine.Machine.at_once.Goals as goal
 
-pub returns-in-Wait-clause-ticks : goal.returns-in-Wait-clause-ticks
-returns-in-Wait-clause-ticks g c s =
-    let v = view_of c.args.view.now in
-    c.wait.ensures.ticks v s
-    ∙ ticks_as v (plain c.args.node.now) c.args.number (with_parts c.args.self.now.memory c.args.self.now.wants.items s) (waits c.in-Wait.most) (ap plain c.in-Wait.is ∙ plain-Wait _ c.in-Wait.most)
+pub leaf-requires-clause-sits : goal.leaf-requires-clause-sits
+leaf-requires-clause-sits g c =
+    let only = ap children_of (ap plain c.in-Not.is ∙ plain-Not c.in-Not.child) ∙ ap (λ n. tree (plain n) none) (sym c.deref.ensures) in
+    sits_child (whole_of c.args.self.now) (plain c.args.node.now) c.args.number 0 (plain c.deref.result.now) none only c.requires.sits

@@ -2,12 +2,12 @@ use Rattle.std.proofs.Common.{◌+◌, ◌*◌, ◌<◌, ap, sym, ◌∙◌, sub
 use Rattle.std.proofs.lemmas.List.{length-map}
 use Rattle.grid_world.specs.declared.cell.Intent.TheVariants.{Take, Drop}
 use Rattle.bt_nodes.specs.declared.node.Status.TheVariants.{Failure}
-use Rattle.bt_nodes.specs.Plain.{Sequence, Fallback, CompositeStar, none, tree, plain, plains}
+use Rattle.bt_nodes.specs.Plain.{Sequence, Fallback, CompositeStar, Wait, none, tree, plain, plains}
 use Rattle.bt_nodes.specs.Sizes.{size}
 use Rattle.bt_nodes.proofs.Views.{plain-Seq, plain-Fallback, plain-SeqStar, plain-FallbackStar, plain-Not, plain-Tries, plain-Ticks}
 use Rattle.game_rules.specs.Tick.{gives}
 use Rattle.bt_tick.specs.Children.{children_of}
-use Rattle.bt_tick.specs.Kinds.{HasList, waits}
+use Rattle.bt_tick.specs.Kinds.{HasList}
 use Rattle.bt_tick.specs.Suspended.{unwind}
 use Rattle.bt_tick.specs.Places.{limit_of, weight_all}
 use Rattle.bt_tick.specs.Views.{view_of}
@@ -200,7 +200,7 @@ returns-in-Wait-clause-keeps g c s =
     let st = c.wait-status.result in
     ap (λ fs. unwind v (opens fs) (gives st (with_parts now.memory now.wants.items s))) c.wait-status.ensures.stack
     ∙ ap (λ w. unwind v (opens old.stack) (gives st (with_parts now.memory w.items s))) c.wait-status.ensures.wants
-    ∙ ap (unwind v (opens old.stack)) (c.wait-status.ensures.ticks v s ∙ ticks_as v (plain c.args.node.now) c.args.number (with_parts old.memory old.wants.items s) (waits c.in-Wait.most) (ap plain c.in-Wait.is ∙ plain-Wait _ c.in-Wait.most))
+    ∙ ap (unwind v (opens old.stack)) (c.wait-status.ensures.ticks v s ∙ ticks_as v (plain c.args.node.now) c.args.number (with_parts old.memory old.wants.items s) (Wait c.in-Wait.most) (ap plain c.in-Wait.is ∙ plain-Wait _ c.in-Wait.most))
 
 pub returns-then-carries : goal.returns-then-carries
 returns-then-carries g c =
