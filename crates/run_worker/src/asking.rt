@@ -13,6 +13,11 @@ use std::sync::Wait;
 use std::sync::ledger::Ledger;
 use task_board::BoardFault;
 
+// Whether a worker's work came to a question. What else it came to need not be moved to be asked.
+pub(crate) fn is_asked(told: &BoardStep) -> bool {
+    matches!(told, BoardStep::Think(ThinkStep::Asks(_)))
+}
+
 impl<'h, 't, L: RunLedger, M: Ledger, G: Gate, R: Wait + Clock> Worker<'h, 't, L, M, G, R> {
     // Asks a question whose answer was at hand and was the last that its tick needed, and says with what the tick has ended.
     // Where the board gives other jobs first, the question is handed in as every other is.

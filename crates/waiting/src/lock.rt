@@ -55,11 +55,15 @@ pub(crate) fn lock_soon<'m, T, R: Wait>(
     held: &Held,
 ) -> MutexGuard<'m, T> {
     for number in 1..=LOOKS {
-        if held.try_take() || number % EVERY == 0 {
+        if held.try_take() {
             if let Some(guard) = lock.try_lock() {
-                held.take();
                 return guard;
             }
+        } else if number % EVERY == 0
+            && let Some(guard) = lock.try_lock()
+        {
+            held.take();
+            return guard;
         }
         hint::spin_loop();
         if number % YIELDS == 0 {

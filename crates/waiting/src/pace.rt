@@ -14,8 +14,14 @@ const FIRST: u64 = 12_000;
 // longer than what one job has to end before many others begin.
 const LONG: u64 = 50_000;
 
-// Of how many tasks one is measured.
-const EVERY: u64 = 8;
+// Of how many tasks one is measured, of a worker's first ones and later: a look at the clock takes as long as a tenth of
+// a brief task.
+const EVERY_EARLY: u64 = 8;
+
+const EVERY_LATER: u64 = 32;
+
+// How many tasks are a worker's first ones.
+const EARLY: u64 = 1_024;
 
 // A step towards what is new, of a sixteenth: so it comes to where half of the tasks take longer, however long the
 // longest of them took.
@@ -64,7 +70,12 @@ impl Pace {
 
     /// The time at which a worker's task of this number begins, for those that are measured.
     pub fn begin<C: Clock>(&self, clock: &C, number: u64) -> Option<Instant> {
-        if number % EVERY != 0 {
+        let every = if number < EARLY {
+            EVERY_EARLY
+        } else {
+            EVERY_LATER
+        };
+        if number % every != 0 {
             return None;
         }
         Instant::now(clock).ok()
