@@ -7,7 +7,7 @@ use Rattle.grid_world.specs.declared.cell.Intent.TheVariants.{Take, Drop}
 use Rattle.bt_nodes.specs.declared.node.Node.{Wait as WaitNode, Take as TakeNode, Drop as DropNode, At, Carrying, Item, Signal, Near, the_lemmas}
 use Rattle.bt_nodes.specs.declared.node.Status.{Status}
 use Rattle.bt_nodes.specs.declared.node.Status.TheVariants.{Success, Failure, Running}
-use Rattle.bt_nodes.specs.Plain.{Plain, Kind, Leaf, Composite, Parallel, Invert, Tries, Ticks, Wait, Does, Forest, TakeItem, DropItem, AtPlace, Carries, OnItem, SignalOn, NearOther, plain}
+use Rattle.bt_nodes.specs.Plain.{Plain, Kind, Leaf, Composite, Invert, Tries, Ticks, Wait, Does, Forest, TakeItem, DropItem, AtPlace, Carries, OnItem, SignalOn, NearOther, plain}
 use Rattle.bt_nodes.specs.Sizes.{size}
 use Rattle.game_rules.specs.View.{View, carries, is_on_item}
 use Rattle.game_rules.specs.Tick.{State, gives, put, want, number_of, test, does, tick}
@@ -58,9 +58,6 @@ module _ (v : View) (p : Plain) (n : ℕ) (s : State) where
   pub line_begins : (kind : Kind) (cs : Forest) → p ≡ Composite kind cs → go_on v p n 0 0 0 s ≡ tick v p n s
   line_begins kind cs is = ap (λ x. go_on v x n 0 0 0 s) is ∙ ticks_as (Composite kind cs) is
 
-  pub all_begins : (m : ℕ) (cs : Forest) → p ≡ Parallel m cs → go_on v p n 0 0 0 s ≡ tick v p n s
-  all_begins m cs is = ap (λ x. go_on v x n 0 0 0 s) is ∙ ticks_as (Parallel m cs) is
-
   pub not_begins : (c d : Plain) → p ≡ Invert c → d ≡ c → close_at v p n 1 0 0 (tick v d (n + 1) s) ≡ tick v p n s
   not_begins c d is e =
       ap (λ x. close_at v x n 1 0 0 (tick v d (n + 1) s)) is ∙ ap (λ x. close_at v (Invert c) n 1 0 0 (tick v x (n + 1) s)) e
@@ -97,15 +94,6 @@ module _ (v : View) (p : Plain) (n : ℕ) (s : State) where
     ticks_over c is h =
         sym (ap (λ b. if b then (close_at v (Ticks k c) n 1 0 (number_of n s) (tick v c (n + 1) s)) else gives Failure (put n 0 s)) (is_past h))
         ∙ ticks_as (Ticks k c) is
-
-    pub waits : p ≡ Wait k → lost < k → gives Running (put n (lost + 1) s) ≡ tick v p n s
-    waits is h =
-        ap (λ j. gives Running (put n (j + 1) s)) named
-        ∙ sym (ap (λ b. if b then gives Running (put n (number_of n s + 1) s) else gives Success (put n 0 s)) (is_below h)) ∙ ticks_as (Wait k) is
-
-    pub waited : p ≡ Wait k → k ≤ lost → gives Success (put n 0 s) ≡ tick v p n s
-    waited is h =
-        sym (ap (λ b. if b then gives Running (put n (number_of n s + 1) s) else gives Success (put n 0 s)) (is_past h)) ∙ ticks_as (Wait k) is
 
   pub takes : (carried here : Bool) → p ≡ Does TakeItem → carried ≡ carries v → here ≡ is_on_item v
       → (if carried then gives Success s else (if here then gives Running (want Take s) else gives Failure s)) ≡ tick v p n s
