@@ -7,7 +7,6 @@ use Rattle.grid_world.specs.declared.cell.Intent.{Intent}
 use Rattle.grid_world.specs.Way.{way}
 use Rattle.bt_nodes.specs.declared.node.Status.{Status}
 use Rattle.bt_nodes.specs.Plain.{Plain}
-use Rattle.bt_nodes.specs.Sizes.{size}
 use Rattle.game_rules.specs.View.{View, cell_of}
 use Rattle.game_rules.specs.Tick.{Gives, Stands, Result, gives}
 use Rattle.game_rules.specs.Thought.{ticked, last_of, way_to_last, next_answer, add_if, ways, all_ways, questions, Thought, thought, thought_of}
@@ -116,6 +115,3 @@ module _ (v : View) (p : Plain) (m : List ℕ) where
       let all : ways v p m i ≡ all_ways v p m = ap (ways v p m) (ended_asks i st memory intent t) ∙ all_there v p m in
       ap (λ (n : Intent). let x : Thought = record { status = st; memory = memory; intent = n } in x) t.comes.1
       ∙ sym (ap thought_of e) ∙ ap (λ l. thought_of (run l)) all
-
-  pub thinking_ends : {T A : Type 0} (i : ℕ) (o : Outcome T A) → size p < i → Thinking v p m i o → ⊥
-  thinking_ends i o h t = let last : Gives (ends v p m).0 ≡ Stands = sym (ends v p m).1 ∙ t.stood (size p) h in both_ways (stands (Gives (ends v p m).0)) refl (ap stands last)

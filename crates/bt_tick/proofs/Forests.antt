@@ -28,6 +28,11 @@ listed_children (CompositeStar kind cs) list = refl
 listed_children (Parallel m cs) list = refl
 listed_children _ list = absurd list
 
+-- the child that was read from a node that lists it
+pub listed_child : {T : Type 0} (p : Plain) (xs : List (Node T)) (k : ℕ) (c : Node T) → HasList p → plains xs ≡ listed p → k < length xs → c ≡ get_or xs k c
+    → from_child k (children_of p) ≡ tree (plain c) (from_child (k + 1) (children_of p))
+listed_child p xs k c list e h is = child_at p xs k c (listed_children p list ∙ sym e) h is
+
 -- ---- the innermost frame
 
 pub replaced : {X : Type 0} (r : Option X) (g : X) (old new : List X) → 0 < length old

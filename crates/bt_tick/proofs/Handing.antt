@@ -15,7 +15,7 @@ use Rattle.bt_tick.specs.declared.machine.Mode.{Mode}
 use Rattle.bt_tick.specs.declared.machine.Mode.TheVariants.{Up}
 use Rattle.bt_tick.specs.declared.machine.Machine.{Machine}
 use Rattle.bt_tick.proofs.Nests.{closed_at}
-use Rattle.bt_tick.proofs.Leaving.{left_keeps, stopped_placed, left_falls}
+use Rattle.bt_tick.proofs.Leaving.{left_keeps, stopped_placed, left_falls, rest_at}
 
 -- ---- what an open node does by a status
 
@@ -23,11 +23,8 @@ module _ (v : View) (f : Open) (s : State) where
   pub closes : (p : Plain) (r : Result) → f.node ≡ p → close_at v p f.number f.next f.won f.lost r ≡ close v f r
   closes p r is = ap (λ q. close_at v q f.number f.next f.won f.lost r) (sym is)
 
-  pub rests : (p : Plain) → f.node ≡ p → rest_of v f s ≡ go_on v p f.number f.next f.won f.lost s
-  rests p is = ap (λ q. go_on v q f.number f.next f.won f.lost s) is
-
   pub line_goes : (kind : Kind) (cs : Forest) (st : Status) → f.node ≡ Composite kind cs → st ≡ goes kind → rest_of v f s ≡ close v f (gives st s)
-  line_goes kind cs st is e = rests (Composite kind cs) is ∙ by kind ∙ ap (λ x. close_at v (Composite kind cs) f.number f.next f.won f.lost (gives x s)) (sym e) ∙ closes (Composite kind cs) (gives st s) is
+  line_goes kind cs st is e = rest_at v f s (Composite kind cs) is ∙ by kind ∙ ap (λ x. close_at v (Composite kind cs) f.number f.next f.won f.lost (gives x s)) (sym e) ∙ closes (Composite kind cs) (gives st s) is
     where
       by : (k : Kind) → go_on v (Composite k cs) f.number f.next f.won f.lost s ≡ close_at v (Composite k cs) f.number f.next f.won f.lost (gives (goes k) s)
       by Sequence = refl
@@ -71,7 +68,7 @@ module _ (v : View) (f : Open) (s : State) where
       by Sequence = refl
       by Fallback = refl
 
-  -- what a node that doesn't list its children, or ticks all of them, does at one status
+  -- what a node that doesn't list its children does at one status
   pub closes_at : (p : Plain) (st at : Status) (r : Result) → f.node ≡ p → st ≡ at → r ≡ close_at v p f.number f.next f.won f.lost (gives at s) → r ≡ close v f (gives st s)
   closes_at p st at r is e h = h ∙ ap (λ x. close_at v p f.number f.next f.won f.lost (gives x s)) (sym e) ∙ closes p (gives st s) is
 

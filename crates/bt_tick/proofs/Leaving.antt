@@ -54,7 +54,7 @@ pub none_left : {T : Type 0} (f : Open) (nodes : List (Node T)) → children_of 
 none_left f nodes e h = omega (arith, ap count e, count-plains nodes)
 
 module _ (v : View) (f : Open) (s : State) where
-  rest_at : (p : Plain) → f.node ≡ p → rest_of v f s ≡ go_on v p f.number f.next f.won f.lost s
+  pub rest_at : (p : Plain) → f.node ≡ p → rest_of v f s ≡ go_on v p f.number f.next f.won f.lost s
   rest_at p e = ap (λ q. go_on v q f.number f.next f.won f.lost s) e
 
   pub ended_line : (kind : Kind) (cs : Forest) → f.node ≡ Composite kind cs → count (children_of f.node) ≤ f.next → gives (goes kind) s ≡ rest_of v f s

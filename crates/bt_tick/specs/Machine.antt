@@ -43,6 +43,10 @@ through v m frames left s = unwind v (opens frames) (left (with_parts m.memory m
 abbrev pub Keeps : {T A : Type 0} → View → Machine T A → Mode T → Machine T A → List (Frame T) → (State → Result) → Type 0
 Keeps v now mode old frames left = (s : State) → through v now now.stack (left_of v mode) s ≡ through v old frames left s
 
+-- where only the memory may have changed: what is left with the memory that the machine now has is what was left with this one's
+abbrev pub KeepsLeft : {T A : Type 0} → Machine T A → Machine T A → (State → Result) → (State → Result) → Type 0
+KeepsLeft now old left was = (s : State) → left (with_parts now.memory old.wants.items s) ≡ was (with_parts old.memory old.wants.items s)
+
 -- ---- where it stands
 
 -- the whole tree

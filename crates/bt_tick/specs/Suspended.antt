@@ -28,6 +28,10 @@ abbrev pub lost_by : Status → ℕ
 lost_by Failure = 1
 lost_by _ = 0
 
+-- an open node that has counted this status of a child
+abbrev pub with_status : Status → Open → Open
+with_status st f = record f { won = f.won + won_by st; lost = f.lost + lost_by st }
+
 module _ (v : View) where
   -- what a node with number n does from child k on
   abbrev pub go_on : Plain → (n k won lost : ℕ) → State → Result

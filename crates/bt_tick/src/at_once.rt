@@ -1,11 +1,11 @@
-// Nodes that give their status at once: none of them is opened, and none asks.
+// Conditions, waits, and a `Not` or a `Ticks` over one of these give their status at once: none of them is opened, and none asks.
 
 ghost use Rattle.std.specs.Prelude.{◌≡◌, ◌+◌, IfSome, None};
 ghost use Rattle.bt_nodes.specs.Plain.{plain, Ticks};
 ghost use Rattle.bt_nodes.specs.Sizes.{size};
-ghost use Rattle.game_rules.specs.Tick.{State, gives, tick};
+ghost use Rattle.game_rules.specs.Tick.{gives, tick};
 ghost use Rattle.bt_tick.specs.Places.{Sits};
-ghost use Rattle.bt_tick.specs.Machine.{whole_of, with_parts};
+ghost use Rattle.bt_tick.specs.Machine.{whole_of, KeepsLeft};
 ghost use Rattle.bt_tick.specs.Views.{view_of, IsInWorld, IsNearestIn};
 
 use crate::ascend::opposite;
@@ -17,9 +17,9 @@ use bt_nodes::{Node, Status};
 use std::alloc::Allocator;
 
 impl<'t, T: Allocator, A: Allocator> Machine<'t, T, A> {
-    // The status of a condition or a `Wait`; None for any other node.
+    // Ticks a condition or a `Wait`. None for any other node, which is not ticked.
     #[inline(always)]
-    fn leaf(
+    fn leaf_at_once(
         &mut self,
         view: &View,
         nearest: &mut Nearest,
@@ -29,8 +29,7 @@ impl<'t, T: Allocator, A: Allocator> Machine<'t, T, A> {
         requires view { IsInWorld view.now }
         requires nearest { IsNearestIn (view_of view.now) nearest.old }
         requires sits { Sits (whole_of self.old) number (plain node.now) }
-        ensures ticks { IfSome result (λ st. (s : State) → gives st (with_parts self.new.memory self.old.wants.items s)
-            ≡ tick (view_of view.now) (plain node.now) number (with_parts self.old.memory self.old.wants.items s)) }
+        ensures ticks { IfSome result (λ st. KeepsLeft self.new self.old (gives st) (tick (view_of view.now) (plain node.now) number)) }
         ensures alone { IfSome result (λ st. size (plain node.now) ≡ 1) }
         ensures none { result ≡ None → self.new.memory ≡ self.old.memory }
         ensures stack { self.new.stack ≡ self.old.stack }
@@ -47,8 +46,8 @@ impl<'t, T: Allocator, A: Allocator> Machine<'t, T, A> {
         }
     }
 
-    // The status of a `Ticks` of so many ticks, where its child gives one at once or isn't ticked, and the number after its
-    // last node.
+    // Ticks a `Ticks` of so many ticks that is over, or whose child gives its status at once: its status, and the number after
+    // its last node. None for any other, which is not ticked.
     #[inline(always)]
     fn ticks_at_once(
         &mut self,
@@ -61,8 +60,7 @@ impl<'t, T: Allocator, A: Allocator> Machine<'t, T, A> {
         requires view { IsInWorld view.now }
         requires nearest { IsNearestIn (view_of view.now) nearest.old }
         requires sits { Sits (whole_of self.old) number (Ticks most (plain child.now)) }
-        ensures ticks { IfSome result (λ r. (s : State) → gives r.0 (with_parts self.new.memory self.old.wants.items s)
-            ≡ tick (view_of view.now) (Ticks most (plain child.now)) number (with_parts self.old.memory self.old.wants.items s)) }
+        ensures ticks { IfSome result (λ r. KeepsLeft self.new self.old (gives r.0) (tick (view_of view.now) (Ticks most (plain child.now)) number)) }
         ensures after { IfSome result (λ r. r.1 ≡ number + size (Ticks most (plain child.now))) }
         ensures none { result ≡ None → self.new.memory ≡ self.old.memory }
         ensures stack { self.new.stack ≡ self.old.stack }
@@ -75,7 +73,7 @@ impl<'t, T: Allocator, A: Allocator> Machine<'t, T, A> {
             self.memory.set(number, 0);
             return Some((Status::Failure, self.number_after(number)));
         }
-        let Some(status) = self.leaf(view, nearest, child, number + 1) else {
+        let Some(status) = self.leaf_at_once(view, nearest, child, number + 1) else {
             return None;
         };
         match status {
@@ -85,7 +83,8 @@ impl<'t, T: Allocator, A: Allocator> Machine<'t, T, A> {
         Some((status, number + 2))
     }
 
-    // The status of a node that gives it at once, and the number after its last node; None for any other node.
+    // Ticks a condition, a `Wait`, a `Not` or a `Ticks` over one of these, or a `Ticks` that is over: its status, and the number
+    // after its last node. None for any other node, which is not ticked.
     #[inline(always)]
     pub(crate) fn at_once(
         &mut self,
@@ -97,8 +96,7 @@ impl<'t, T: Allocator, A: Allocator> Machine<'t, T, A> {
         requires view { IsInWorld view.now }
         requires nearest { IsNearestIn (view_of view.now) nearest.old }
         requires sits { Sits (whole_of self.old) number (plain node.now) }
-        ensures ticks { IfSome result (λ r. (s : State) → gives r.0 (with_parts self.new.memory self.old.wants.items s)
-            ≡ tick (view_of view.now) (plain node.now) number (with_parts self.old.memory self.old.wants.items s)) }
+        ensures ticks { IfSome result (λ r. KeepsLeft self.new self.old (gives r.0) (tick (view_of view.now) (plain node.now) number)) }
         ensures after { IfSome result (λ r. r.1 ≡ number + size (plain node.now)) }
         ensures none { result ≡ None → self.new.memory ≡ self.old.memory }
         ensures stack { self.new.stack ≡ self.old.stack }
@@ -107,12 +105,12 @@ impl<'t, T: Allocator, A: Allocator> Machine<'t, T, A> {
         ensures nearest { IsNearestIn (view_of view.now) nearest.new }
     {
         match node {
-            Node::Not(child) => match self.leaf(view, nearest, child, number + 1) {
+            Node::Not(child) => match self.leaf_at_once(view, nearest, child, number + 1) {
                 Some(status) => Some((opposite(status), number + 2)),
                 None => None,
             },
             Node::Ticks(most, child) => self.ticks_at_once(view, nearest, *most, child, number),
-            _ => match self.leaf(view, nearest, node, number) {
+            _ => match self.leaf_at_once(view, nearest, node, number) {
                 Some(status) => Some((status, number + 1)),
                 None => None,
             },

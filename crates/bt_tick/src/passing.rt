@@ -1,13 +1,13 @@
-// The children of a par, of which most give their status at once: these are passed without opening or leaving anything.
+// The children of a par that give their status at once are ticked in a loop, without opening or leaving anything.
 
 ghost use Rattle.std.specs.Prelude.{◌≡◌, ◌<◌, ◌≤◌, ◌+◌, ◌-◌, ◌*◌, ◌^◌, List, length, drop, IfOk};
 ghost use Rattle.bt_nodes.specs.Plain.{plain};
 ghost use Rattle.bt_nodes.specs.Sizes.{size};
-ghost use Rattle.game_rules.specs.Tick.{State, gives, tick};
+ghost use Rattle.game_rules.specs.Tick.{gives, tick};
 ghost use Rattle.bt_tick.specs.Kinds.{IsPar};
-ghost use Rattle.bt_tick.specs.Suspended.{Open, close, won_by, lost_by};
+ghost use Rattle.bt_tick.specs.Suspended.{Open, close, with_status};
 ghost use Rattle.bt_tick.specs.Places.{Sits, Standing, Nested, Resting, weight_of, weight_all};
-ghost use Rattle.bt_tick.specs.Machine.{opened, opens, rest_of, with_parts, Keeps, whole_of, Placed, weight};
+ghost use Rattle.bt_tick.specs.Machine.{opened, opens, rest_of, Keeps, KeepsLeft, whole_of, Placed, weight};
 ghost use Rattle.bt_tick.specs.Views.{view_of, IsInWorld, IsNearestIn};
 
 use crate::machine::{Machine, Mode};
@@ -21,7 +21,7 @@ use std::alloc::{AllocError, Allocator};
 #[inline(always)]
 fn counted<'t, T: Allocator>(frame: Frame<'t, T>, status: Status) -> Frame<'t, T>
     requires { frame.successes + frame.failures < 2 ^ 16 - 1 }
-    ensures counts { opened result ≡ record (opened frame.entry) { won = frame.entry.successes + won_by status; lost = frame.entry.failures + lost_by status } }
+    ensures counts { opened result ≡ with_status status (opened frame.entry) }
     ensures node { result.node ≡ frame.entry.node }
 {
     let (won, lost) = match status {
@@ -38,7 +38,7 @@ fn counted<'t, T: Allocator>(frame: Frame<'t, T>, status: Status) -> Frame<'t, T
 
 impl<'t, T: Allocator, A: Allocator> Machine<'t, T, A> {
     // Ticks the children of a par that give their status at once, from the next one on, which has the number `at`, up to
-    // the first that doesn't. The par as it is then, and the number of that child.
+    // the first that doesn't. The par as it is then, and the number of that child, or the one after the par's last node.
     #[inline(always)]
     fn pass(
         &mut self,
@@ -51,8 +51,7 @@ impl<'t, T: Allocator, A: Allocator> Machine<'t, T, A> {
         requires nearest { IsNearestIn (view_of view.now) nearest.old }
         requires par { IsPar (plain frame.node.now) }
         requires rests { (fs : List Open) × Resting (whole_of self.old) at (opened frame) fs }
-        ensures keeps { (s : State) → rest_of (view_of view.now) (opened result.0) (with_parts self.new.memory self.old.wants.items s)
-            ≡ rest_of (view_of view.now) (opened frame.entry) (with_parts self.old.memory self.old.wants.items s) }
+        ensures keeps { KeepsLeft self.new self.old (rest_of (view_of view.now) (opened result.0)) (rest_of (view_of view.now) (opened frame.entry)) }
         ensures rests { (fs : List Open) → Resting (whole_of self.old) at (opened frame.entry) fs → Resting (whole_of self.old) result.1 (opened result.0) fs }
         ensures par { IsPar (plain result.0.node.now) }
         ensures falls { weight_of (opened result.0) ≤ weight_of (opened frame.entry) }
@@ -112,7 +111,8 @@ impl<'t, T: Allocator, A: Allocator> Machine<'t, T, A> {
 }
 
 impl<'t, T: Allocator, A: Allocator + Clone> Machine<'t, T, A> {
-    // Ticks a par: passes its first children, and begins the first that is left.
+    // Ticks a par: its first children as long as they give their status at once, and then begins the first that is left, or
+    // leaves the par where none is.
     #[inline(always)]
     pub(crate) fn open_par(
         &mut self,

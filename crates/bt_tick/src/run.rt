@@ -1,9 +1,8 @@
 // The machine's run from one question to the next.
 
-ghost use Rattle.std.specs.Prelude.{◌≡◌, ◌+◌, ◌<◌, ◌∷◌, [], IfOk, MatchOption, drop};
+ghost use Rattle.std.specs.Prelude.{◌≡◌, ◌∷◌, [], IfOk, MatchOption, drop};
 ghost use Rattle.bt_nodes.specs.Bounds.{Fits};
 ghost use Rattle.bt_nodes.specs.Trees.{plain_of};
-ghost use Rattle.grid_world.specs.declared.cell.Answer.{Answer};
 ghost use Rattle.game_rules.specs.Tick.{State, gives, follow};
 ghost use Rattle.game_rules.specs.Thought.{ticked, first_want};
 ghost use Rattle.bt_tick.specs.Views.{view_of, IsInWorld};

@@ -3,21 +3,20 @@
 ghost use Rattle.std.specs.Prelude.{◌≡◌};
 ghost use Rattle.bt_nodes.specs.Plain.{Wait};
 ghost use Rattle.game_rules.specs.View.{View};
-ghost use Rattle.game_rules.specs.Tick.{State, gives, tick};
+ghost use Rattle.game_rules.specs.Tick.{gives, tick};
 ghost use Rattle.bt_tick.specs.Places.{Sits};
-ghost use Rattle.bt_tick.specs.Machine.{whole_of, with_parts};
+ghost use Rattle.bt_tick.specs.Machine.{whole_of, KeepsLeft};
 
 use crate::machine::Machine;
 use bt_nodes::Status;
 use std::alloc::Allocator;
 
 impl<'t, T: Allocator, A: Allocator> Machine<'t, T, A> {
-    // The status of a `Wait` of so many ticks, which has this number.
+    // Ticks a `Wait` of so many ticks, which has this number.
     #[inline(always)]
     pub(crate) fn wait(&mut self, number: u64, most: u64) -> Status
         requires { Sits (whole_of self.old) number (Wait most) }
-        ensures ticks { (v : View) (s : State) →
-            gives result (with_parts self.new.memory self.old.wants.items s) ≡ tick v (Wait most) number (with_parts self.old.memory self.old.wants.items s) }
+        ensures ticks { (v : View) → KeepsLeft self.new self.old (gives result) (tick v (Wait most) number) }
         ensures stack { self.new.stack ≡ self.old.stack }
         ensures wants { self.new.wants ≡ self.old.wants }
         ensures tree { self.new.tree ≡ self.old.tree }

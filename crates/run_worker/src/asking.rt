@@ -13,8 +13,8 @@ use std::sync::Wait;
 use std::sync::ledger::Ledger;
 use task_board::BoardFault;
 
-// Whether a worker's work came to a question. What else it came to need not be moved to be asked.
-pub(crate) fn is_asked(told: &BoardStep) -> bool {
+// Whether a worker's work came to a question. A step is dear to move, so only a question is handed to `ask_at_once`.
+pub(crate) fn is_question(told: &BoardStep) -> bool {
     matches!(told, BoardStep::Think(ThinkStep::Asks(_)))
 }
 

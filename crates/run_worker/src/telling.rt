@@ -4,7 +4,7 @@ ghost use Rattle.band_mail.specs.Mails.{IsPutterOf};
 ghost use Rattle.frame_tasks.specs.BoardSteps.{IsToldIn};
 ghost use Rattle.run_worker.specs.Own.{IsWorkIn};
 
-use crate::asking::is_asked;
+use crate::asking::is_question;
 use crate::ending::end_of;
 use crate::gate::Gate;
 use crate::in_hand::InHand;
@@ -33,7 +33,7 @@ impl<'h, 't, L: RunLedger, M: Ledger, G: Gate, R: Wait + Clock> Worker<'h, 't, L
     ) -> Result<bool, BoardFault>
         requires own { IsToldIn self.now.session.now told }
     {
-        let told = if is_asked(&told) {
+        let told = if is_question(&told) {
             self.ask_at_once(board, told, hand)?
         } else {
             told

@@ -55,6 +55,7 @@ pub(crate) fn lock_soon<'m, T, R: Wait>(
     held: &Held,
 ) -> MutexGuard<'m, T> {
     for number in 1..=LOOKS {
+        // Who finds the hint clear has set it.
         if held.try_take() {
             if let Some(guard) = lock.try_lock() {
                 return guard;

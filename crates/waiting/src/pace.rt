@@ -14,10 +14,10 @@ const FIRST: u64 = 12_000;
 // longer than what one job has to end before many others begin.
 const LONG: u64 = 50_000;
 
-// Of how many tasks one is measured, of a worker's first ones and later: a look at the clock takes as long as a tenth of
-// a brief task.
+// Of how many tasks one is measured, of a worker's first ones: so it is soon known how long work takes.
 const EVERY_EARLY: u64 = 8;
 
+// And of later ones: beside a brief task a look at the clock is dear.
 const EVERY_LATER: u64 = 32;
 
 // How many tasks are a worker's first ones.

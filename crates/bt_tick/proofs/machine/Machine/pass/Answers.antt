@@ -1,5 +1,6 @@
 use Rattle.std.proofs.Common.{◌≡◌, suc, ◌+◌, ◌≤◌, sym, ap, ◌∙◌, subst, refl, arith}
 use Rattle.bt_nodes.specs.Plain.{plain, tree}
+use Rattle.bt_nodes.specs.Heads.{listed}
 use Rattle.bt_nodes.specs.Trees.{plain_of}
 use Rattle.game_rules.specs.Tick.{gives, tick}
 use Rattle.bt_tick.specs.Children.{children_of, from_child}
@@ -7,9 +8,9 @@ use Rattle.bt_tick.specs.Kinds.{IsPar}
 use Rattle.bt_tick.specs.Places.{Sits, Resting, weight_of}
 use Rattle.bt_tick.specs.Machine.{opened, rest_of, with_parts, whole_of}
 use Rattle.bt_tick.specs.Views.{view_of}
-use Rattle.bt_tick.proofs.Forests.{child_at, listed_children}
+use Rattle.bt_tick.proofs.Forests.{listed_child}
 use Rattle.bt_tick.proofs.Nests.{entered_sits}
-use Rattle.bt_tick.proofs.Pars.{lists, limits, passed_keeps, passed_rests, passed_falls}
+use Rattle.bt_tick.proofs.Pars.{par_lists, limits, passed_keeps, passed_rests, passed_falls}
 use Rattle.bt_tick.proofs.SmallNumbers.{next_small}
 use Rattle.bt_tick.proofs.machine.Machine.pass.Goals as goal
 
@@ -18,8 +19,8 @@ at_once-requires-clause-sits g c =
     let inv = c.children.invariant in
     let p = plain c.children.par.node.now in
     let child = c.index-children-next.result in
-    let own : children_of p ≡ _ = ap (λ n. children_of (plain n.now)) inv.node ∙ listed_children (plain c.args.frame.node.now) (lists (plain c.args.frame.node.now) c.requires.par) ∙ sym c.listed-children.ensures in
-    let there = subst (λ k. from_child k (children_of p) ≡ tree (plain child) (from_child (k + 1) (children_of p))) (sym inv.next) (child_at p _ c.children.next child own (omega (arith, c.children-test.true)) c.index-children-next.is) in
+    let par : IsPar p = subst (λ n. IsPar (plain n.now)) (sym inv.node) c.requires.par in
+    let there = subst (λ k. from_child k (children_of p) ≡ tree (plain child) (from_child (k + 1) (children_of p))) (sym inv.next) (listed_child p _ c.children.next child (par_lists p par) (c.listed-children.ensures ∙ ap (λ n. listed (plain n.now)) (sym inv.node)) (omega (arith, c.children-test.true)) c.index-children-next.is) in
     subst (λ t. Sits (plain_of t.now) c.children.number (plain child)) (sym inv.tree)
     (entered_sits (opened c.children.par) c.requires.rests.0 (plain child) c.children.number there (whole_of c.args.self.now) (inv.rests c.requires.rests.0 c.requires.rests.1))
 
@@ -48,8 +49,7 @@ children-preserved g c =
     let p = plain c.children.par.node.now in
     let child = c.index-children-next.result in
     let par : IsPar p = subst (λ n. IsPar (plain n.now)) (sym inv.node) c.requires.par in
-    let own : children_of p ≡ _ = ap (λ n. children_of (plain n.now)) inv.node ∙ listed_children (plain c.args.frame.node.now) (lists (plain c.args.frame.node.now) c.requires.par) ∙ sym c.listed-children.ensures in
-    let there = subst (λ k. from_child k (children_of p) ≡ tree (plain child) (from_child (k + 1) (children_of p))) (sym inv.next) (child_at p _ c.children.next child own (omega (arith, c.children-test.true)) c.index-children-next.is) in
+    let there = subst (λ k. from_child k (children_of p) ≡ tree (plain child) (from_child (k + 1) (children_of p))) (sym inv.next) (listed_child p _ c.children.next child (par_lists p par) (c.listed-children.ensures ∙ ap (λ n. listed (plain n.now)) (sym inv.node)) (omega (arith, c.children-test.true)) c.index-children-next.is) in
     let is = c.counted-par.ensures.counts in
     let now = c.at_once.new.self in
     record {

@@ -1,15 +1,14 @@
 use Rattle.std.proofs.Common.{◌≡◌, ◌≤◌, List}
-use Rattle.game_rules.specs.Tick.{State}
 use Rattle.bt_tick.specs.Suspended.{Open}
 use Rattle.bt_tick.specs.Places.{Resting, weight_of}
-use Rattle.bt_tick.specs.Machine.{opened, rest_of, with_parts, whole_of}
+use Rattle.bt_tick.specs.Machine.{opened, rest_of, KeepsLeft, whole_of}
 use Rattle.bt_tick.specs.Views.{view_of, IsNearestIn}
 use Rattle.bt_tick.proofs.machine.Machine.pass.Given as goal
 
 abbrev pub invariant-children : goal.invariant-children
 invariant-children g l = record {
   rests : (fs : List Open) → Resting (whole_of l.fn.self) l.fn.at (opened l.fn.frame) fs → Resting (whole_of l.fn.self) l.number (opened l.par) fs;
-  keeps : (s : State) → rest_of (view_of l.view) (opened l.par) (with_parts l.self.memory l.fn.self.wants.items s) ≡ rest_of (view_of l.view) (opened l.fn.frame) (with_parts l.fn.self.memory l.fn.self.wants.items s);
+  keeps : KeepsLeft l.self l.fn.self (rest_of (view_of l.view) (opened l.par)) (rest_of (view_of l.view) (opened l.fn.frame));
   falls : weight_of (opened l.par) ≤ weight_of (opened l.fn.frame);
   node : l.par.node ≡ l.fn.frame.node;
   next : l.par.next ≡ l.next;

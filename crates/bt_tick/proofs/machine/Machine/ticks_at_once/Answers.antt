@@ -8,8 +8,8 @@ use Rattle.bt_tick.proofs.machine.Machine.ticks_at_once.Goals as goal
 pub returns-then-past-most-clause-after : goal.returns-then-past-most-clause-after
 returns-then-past-most-clause-after g c = c.number_after.ensures (Ticks c.args.most (plain c.args.child.now)) c.requires.sits
 
-pub leaf-requires-clause-sits : goal.leaf-requires-clause-sits
-leaf-requires-clause-sits g c = sits_child (whole_of c.args.self.now) (Ticks c.args.most (plain c.args.child.now)) c.args.number 0 (plain c.args.child.now) none refl c.requires.sits
+pub leaf_at_once-requires-clause-sits : goal.leaf_at_once-requires-clause-sits
+leaf_at_once-requires-clause-sits g c = sits_child (whole_of c.args.self.now) (Ticks c.args.most (plain c.args.child.now)) c.args.number 0 (plain c.args.child.now) none refl c.requires.sits
 
 pub overflow_add-past : goal.overflow_add-past
 overflow_add-past g c = omega (arith, small c.args.self.now.tree.now (Ticks c.args.most (plain c.args.child.now)) c.args.number _ (c.number-past.result + 1) _ refl c.requires.sits (omega (arith, c.if-past-most.false)))

@@ -3,7 +3,7 @@ use Rattle.bt_nodes.specs.Plain.{Wait, plain}
 use Rattle.bt_tick.specs.Machine.{with_parts}
 use Rattle.bt_tick.specs.Views.{view_of}
 use Rattle.bt_tick.proofs.Beginning.{plain-Wait, ticks_as}
-use Rattle.bt_tick.proofs.machine.Machine.leaf.Goals as goal
+use Rattle.bt_tick.proofs.machine.Machine.leaf_at_once.Goals as goal
 
 pub returns-in-Wait-clause-ticks : goal.returns-in-Wait-clause-ticks
 returns-in-Wait-clause-ticks g c s =
