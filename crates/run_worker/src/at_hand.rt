@@ -5,7 +5,6 @@ ghost use Rattle.frame_tasks.specs.Tasks.{IsAtHand, game_of};
 
 use crate::gate::Gate;
 use crate::in_hand::InHand;
-use crate::run_task::RunTask;
 use crate::worker::Worker;
 use frame_tasks::{BoardStep, Task};
 use game_session::Session;
@@ -58,25 +57,36 @@ impl<'h, 't, L: RunLedger, M: Ledger, G: Gate, R: Wait + Clock> Worker<'h, 't, L
         self.work_while_at_hand(board, hand)
     }
 
+    // Works the next task, if it is at hand, and takes the one after it. Whether it was.
+    #[inline(always)]
+    fn work_one_at_hand(
+        &self,
+        board: &mut SharedBoard<'t, L, M>,
+        hand: &mut InHand<'t, L>,
+    ) -> Result<bool, BoardFault> {
+        let Some(next) = &hand.next else {
+            return Ok(false);
+        };
+        if !next.task.is_at_hand() {
+            return Ok(false);
+        }
+        let told = told_at_hand(self.alloc, self.session, &next.task)?;
+        self.exchange(board, told, hand)?;
+        Ok(true)
+    }
+
     // A gate that is to be asked is asked with the lock free, so there nothing is at hand.
     fn work_while_at_hand(
         &self,
         board: &mut SharedBoard<'t, L, M>,
         hand: &mut InHand<'t, L>,
     ) -> Result<bool, BoardFault> {
-        if !self.gate.is_open() {
-            return Ok(hand.next.is_some());
-        }
-        'tasks: for _worked in 0..MOST {
-            let Some(next) = &hand.next else {
-                return Ok(false);
-            };
-            if !next.task.is_at_hand() {
-                return Ok(true);
+        if self.gate.is_open() {
+            'tasks: for _worked in 0..MOST {
+                if !self.work_one_at_hand(board, hand)? {
+                    break 'tasks;
+                }
             }
-            let told = told_at_hand(self.alloc, self.session, &next.task)?;
-            let given = board.next(self.number, self.session, told, &mut hand.share)?;
-            hand.next = RunTask::given(self.session, given);
         }
         Ok(hand.next.is_some())
     }

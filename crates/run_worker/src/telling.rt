@@ -23,6 +23,21 @@ use std::sync::ledger::Ledger;
 use task_board::BoardFault;
 
 impl<'h, 't, L: RunLedger, M: Ledger, G: Gate, R: Wait + Clock> Worker<'h, 't, L, M, G, R> {
+    // Hands in what a worker's work came to, for its next task.
+    #[inline(always)]
+    pub(crate) fn exchange(
+        &self,
+        board: &mut SharedBoard<'t, L, M>,
+        told: BoardStep<'t>,
+        hand: &mut InHand<'t, L>,
+    ) -> Result<(), BoardFault>
+        requires own { IsToldIn self.now.session.now told }
+    {
+        let given = board.next(self.number, self.session, told, &mut hand.share)?;
+        hand.next = RunTask::given(self.session, given);
+        Ok(())
+    }
+
     // Hands in what a worker's work came to, and takes its next task unless it may rest. Whether there is one.
     fn hand_in_and_take(
         &self,
@@ -42,8 +57,7 @@ impl<'h, 't, L: RunLedger, M: Ledger, G: Gate, R: Wait + Clock> Worker<'h, 't, L
             board.hand_in(self.number, self.session, told, &mut hand.share)?;
             return Ok(false);
         }
-        let given = board.next(self.number, self.session, told, &mut hand.share)?;
-        hand.next = RunTask::given(self.session, given);
+        self.exchange(board, told, hand)?;
         self.work_at_hand(board, hand)
     }
 

@@ -66,6 +66,32 @@ impl<'h, 't, L: RunLedger, M: Ledger, G: Gate, R: Wait + Clock> Worker<'h, 't, L
             Err(cause) => Err(cause),
         }
     }
+
+    // Works on tasks until the board is done or stopped, or something fails, and says what.
+    fn work_on(
+        &self,
+        scratch: &mut Scratch,
+        putter: &mut Putter<RunBand<'t, L>>,
+        hand: &mut InHand<'t, L>,
+    ) -> Option<Cause>
+        requires putter { IsPutterOf self.now.hall.now.mail putter.old }
+        ensures putter { IsPutterOf self.now.hall.now.mail putter.new }
+        ensures number { putter.new.worker ≡ putter.old.worker }
+    {
+        let mut count = 0u64;
+        let mut went = self.wait_for_task(hand);
+        for _ in self.rt.forever() {
+            if let Err(cause) = went {
+                return Some(cause);
+            }
+            if hand.next.is_none() {
+                return None;
+            }
+            went = self.work_next(scratch, count, putter, hand);
+            count = count.wrapping_add(1);
+        }
+        unreachable!()
+    }
 }
 
 /// Works on tasks until the board is done or stopped.
@@ -100,18 +126,9 @@ pub fn work<'t, L: RunLedger, M: Ledger, G: Gate, R: Wait + Clock>(
     };
     let mut putter = putter;
     let mut scratch = Scratch::new(alloc);
-    let mut count = 0u64;
-    let mut went = worker.wait_for_task(&mut hand);
-    for _ in rt.forever() {
-        if let Err(cause) = went {
-            hall.stop(rt);
-            return hand.into_worked(putter, Some(cause));
-        }
-        if hand.next.is_none() {
-            return hand.into_worked(putter, None);
-        }
-        went = worker.work_next(&mut scratch, count, &mut putter, &mut hand);
-        count = count.wrapping_add(1);
+    let fault = worker.work_on(&mut scratch, &mut putter, &mut hand);
+    if fault.is_some() {
+        hall.stop(rt);
     }
-    unreachable!()
+    hand.into_worked(putter, fault)
 }
