@@ -122,6 +122,7 @@ impl Machine {
         }
     }
 
+    #[inline(always)]
     fn hold_on(&mut self, worker: u32, fiber: Fiber, held: Option<Held>)
         requires worker { worker < length self.old.seats.workers }
         requires fiber { fiber < length self.old.seats.jobs }

@@ -41,7 +41,9 @@ impl Held {
 
     /// The lock is free.
     pub(crate) fn give(&self) {
-        self.held.store(0);
+        if self.held.load() != 0 {
+            self.held.store(0);
+        }
     }
 }
 

@@ -79,8 +79,14 @@ impl Waiting {
         }
     }
 
-    /// Takes the lock.
+    /// Takes the lock. A worker that alone is awake meets the printer there at most, and says nothing of it.
+    #[inline(always)]
     pub fn lock<'m, T, R: Wait>(&self, rt: &R, lock: &'m Mutex<T>) -> MutexGuard<'m, T> {
+        if self.awake() <= 1
+            && let Some(guard) = lock.try_lock()
+        {
+            return guard;
+        }
         lock_soon(rt, lock, &self.held)
     }
 
