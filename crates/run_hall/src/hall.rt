@@ -1,6 +1,7 @@
-ghost use Rattle.std.specs.Prelude.{◌≡◌};
+ghost use Rattle.std.specs.Prelude.{◌≡◌, length, vec_len};
+ghost use Rattle.band_mail.specs.Mails.{ArePuttersOf};
 
-use band_mail::BandMail;
+use band_mail::{BandMail, Putter, Taker};
 use draw_list::Band;
 use frame_print::{BandTable, RunBand};
 use run_ledger::RunLedger;
@@ -88,9 +89,15 @@ impl<'t, L: RunLedger, M: Ledger> Hall<'t, L, M> {
         }
     }
 
-    /// The board and the mail, once no other thread has them.
-    pub fn into_parts(self) -> (SharedBoard<'t, L, M>, BandMail<RunBand<'t, L>>)
-        ensures { result.1 ≡ self.entry.mail }
+    /// Closes the mail, once no other thread has the hall, and lets go what is left in it. The board is what stays.
+    pub fn close<R: Wait>(
+        self,
+        rt: &R,
+        putters: Vec<Putter<RunBand<'t, L>>>,
+        taker: Taker<RunBand<'t, L>>,
+    ) -> SharedBoard<'t, L, M>
+        requires putters { (vec_len putters ≡ length self.mail) × ArePuttersOf self.mail putters.items }
+        requires taker { taker.mail ≡ self.mail }
     {
         let Self {
             board,
@@ -98,6 +105,7 @@ impl<'t, L: RunLedger, M: Ledger> Hall<'t, L, M> {
             waiting: _,
             drawn: _,
         } = self;
-        (board.into_inner(), mail)
+        mail.close(rt, putters, taker);
+        board.into_inner()
     }
 }

@@ -1,3 +1,2 @@
 mod Once
-pub mod Leaving
 pub mod Reported

@@ -1,7 +1,7 @@
 use denote.Exit.{no}
 use denote.Param.Send.{param_send, arg_send}
-use Rattle.run_threads.proofs.Leaving.{worker_send, worked_send}
-use Rattle.run_threads.proofs.hiring.start.Goals as goal
+use Rattle.run_crew.proofs.Leaving.{worker_send, worked_send}
+use Rattle.run_crew.proofs.hiring.start.Goals as goal
 
 pub spawn_with-requires-send-F : goal.spawn_with-requires-send-F
 spawn_with-requires-send-F g c κs within =

@@ -2,7 +2,7 @@ ghost use Rattle.std.specs.Prelude.{◌≡◌, IfOk, Some, length, vec_len};
 ghost use Rattle.band_mail.specs.Mails.{ArePuttersOf};
 
 use crate::ends::Ends;
-use band_mail::{BandMail, Putter, Taker};
+use band_mail::{BandMail, Putter};
 use draw_list::band_count;
 use frame_print::{BandTable, RunBand};
 use game_session::Session;
@@ -11,7 +11,6 @@ use run_ledger::RunLedger;
 use run_showing::Inbox;
 use shared_board::SharedBoard;
 use std::alloc::{AllocError, Global};
-use std::sync::Wait;
 use std::sync::ledger::{Book, Ledger, Share};
 use std::thread::Threads;
 use task_board::{Settings, TaskBoard};
@@ -95,19 +94,4 @@ pub fn open_hall<'t, L: RunLedger, M: Ledger, R: Threads>(
         inbox,
     };
     Ok((hall, ends))
-}
-
-/// Closes the mail of a run whose threads have ended, and lets go what is left in it.
-pub fn close_hall<'t, L: RunLedger, M: Ledger, R: Wait>(
-    rt: &R,
-    hall: Hall<'t, L, M>,
-    putters: Vec<Putter<RunBand<'t, L>>>,
-    taker: Taker<RunBand<'t, L>>,
-) -> SharedBoard<'t, L, M>
-    requires putters { (vec_len putters ≡ length hall.mail) × ArePuttersOf hall.mail putters.items }
-    requires taker { taker.mail ≡ hall.mail }
-{
-    let (board, mail) = hall.into_parts();
-    mail.close(rt, putters, taker);
-    board
 }

@@ -24,7 +24,7 @@ use Rattle.game_session.specs.contracts.session.Session as session
 use Rattle.run_hall.specs.contracts.hall.Hall as hall
 use Rattle.run_hall.proofs.Sends.{hall_sync}
 use Rattle.run_hall.specs.contracts.worked.Worked as worked
-use Rattle.run_threads.specs.contracts.hiring.Post as post
+use Rattle.run_crew.specs.contracts.hiring.Post as post
 
 pub session_sync : IsSync session.the_row
 session_sync = params.session

@@ -1,7 +1,7 @@
 use Rattle.std.proofs.Common.{◌≡◌, ◌+◌, ◌<◌, ◌≤◌, ℕ, get_or, vec_len, vec_items}
 use Rattle.std.specs.Prelude.{vec_capacity}
 use Rattle.band_mail.specs.Mails.{ArePuttersOf}
-use Rattle.run_threads.proofs.hiring.hire.Given as goal
+use Rattle.run_crew.proofs.hiring.hire.Given as goal
 
 abbrev pub invariant-loop-putter : goal.invariant-loop-putter
 invariant-loop-putter g l = record {
