@@ -11,15 +11,15 @@ use std::rt::Clock;
 use std::sync::Wait;
 use std::sync::ledger::Ledger;
 
-// What a run lends a worker, and the worker's number.
-pub(crate) struct Worker<'h, 't, L: RunLedger, M: Ledger, G: Gate, R: Wait + Clock> {
-    pub(crate) rt: &'h R,
-    pub(crate) alloc: Global,
-    pub(crate) session: &'h Session,
-    pub(crate) hall: &'h Hall<'t, L, M>,
-    pub(crate) gate: &'h G,
-    pub(crate) number: u32,
-    pub(crate) ghost run: { L.game ≡ Some session.now } by { Coded-set (coded_option game_code) L.game (Some session.now) },
+/// What a run lends a worker, and the worker's number.
+pub struct Worker<'h, 't, L: RunLedger, M: Ledger, G: Gate, R: Wait + Clock> {
+    pub rt: &'h R,
+    pub alloc: Global,
+    pub session: &'h Session,
+    pub hall: &'h Hall<'t, L, M>,
+    pub gate: &'h G,
+    pub number: u32,
+    pub ghost run: { L.game ≡ Some session.now } by { Coded-set (coded_option game_code) L.game (Some session.now) },
 }
 
 impl<'h, 't, L: RunLedger, M: Ledger, G: Gate, R: Wait + Clock> Drop

@@ -8,11 +8,11 @@ use game_session::Session;
 use run_ledger::RunLedger;
 use std::marker::PhantomData;
 
-// A task of the run that `L` names: whoever has it knows that it is of this run's game.
-pub(crate) struct RunTask<'t, L: RunLedger> {
-    pub(crate) task: Task<'t>,
+/// A task of the run that `L` names: whoever has it knows that it is of this run's game.
+pub struct RunTask<'t, L: RunLedger> {
+    pub task: Task<'t>,
     of: PhantomData<L>,
-    ghost game_is: { L.game ≡ Some (game_of task) } by { Coded-set (coded_option game_code) L.game (Some (game_of task)) },
+    pub ghost game_is: { L.game ≡ Some (game_of task) } by { Coded-set (coded_option game_code) L.game (Some (game_of task)) },
 }
 
 impl<'t, L: RunLedger> Drop for RunTask<'t, L> {

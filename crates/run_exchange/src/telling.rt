@@ -2,7 +2,7 @@
 ghost use Rattle.std.specs.Prelude.{◌≡◌};
 ghost use Rattle.band_mail.specs.Mails.{IsPutterOf};
 ghost use Rattle.frame_tasks.specs.BoardSteps.{IsToldIn};
-ghost use Rattle.run_worker.specs.Own.{IsWorkIn};
+ghost use Rattle.run_exchange.specs.Own.{IsWorkIn};
 
 use crate::asking::is_question;
 use crate::ending::end_of;
@@ -100,9 +100,10 @@ impl<'h, 't, L: RunLedger, M: Ledger, G: Gate, R: Wait + Clock> Worker<'h, 't, L
         }
     }
 
-    // Delivers what a worker's work came to, its band first, so that all bands of a frame are in the mail before its last
-    // Draw is finished. There is no next task where the board is done or stopped.
-    pub(crate) fn deliver(
+    /// Delivers what a worker's work came to, its band first, so that all bands of a frame are in the mail before its last
+    /// Draw is finished. Waits while the worker's queue of the mail is full, and for the next task: there is none where the
+    /// board is done or stopped. It fails as `wait_for_task` does.
+    pub fn deliver(
         &self,
         step: Step<'t>,
         putter: &mut Putter<RunBand<'t, L>>,

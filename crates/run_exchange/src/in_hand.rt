@@ -9,12 +9,12 @@ use run_ledger::RunLedger;
 use std::sync::ledger::Share;
 use waiting::Rest;
 
-// What a worker has in hand: its share of the events, how long it rests next, and its next task, where there is one.
-pub(crate) struct InHand<'t, L: RunLedger> {
-    pub(crate) share: Share<L>,
-    pub(crate) rest: Rest,
-    pub(crate) next: Option<RunTask<'t, L>>,
-    pub(crate) ghost one_part: { share.parts ≡ 1 },
+/// What a worker has in hand: its share of the events, how long it rests next, and its next task, where there is one.
+pub struct InHand<'t, L: RunLedger> {
+    pub share: Share<L>,
+    pub rest: Rest,
+    pub next: Option<RunTask<'t, L>>,
+    pub ghost one_part: { share.parts ≡ 1 },
 }
 
 impl<'t, L: RunLedger> Drop for InHand<'t, L> {
@@ -28,13 +28,9 @@ impl<'t, L: RunLedger> Drop for InHand<'t, L> {
 }
 
 impl<'t, L: RunLedger> InHand<'t, L> {
-    // What the worker's thread hands back.
-    pub(crate) fn into_worked(
-        self,
-        putter: Putter<RunBand<'t, L>>,
-        fault: Option<Cause>,
-    ) -> Worked<'t, L>
-        ensures { result.putter ≡ putter.entry }
+    /// What the worker's thread hands back, with its Putter and the fault that it met, if it met one.
+    pub fn into_worked(self, putter: Putter<RunBand<'t, L>>, fault: Option<Cause>) -> Worked<'t, L>
+        ensures putter { result.putter ≡ putter.entry }
     {
         let Self {
             share,

@@ -61,8 +61,9 @@ impl<'h, 't, L: RunLedger, M: Ledger, G: Gate, R: Wait + Clock> Worker<'h, 't, L
         self.work_at_hand(board, hand)
     }
 
-    // Waits for a task. There is none where the board is done or stopped.
-    pub(crate) fn wait_for_task(&self, hand: &mut InHand<'t, L>) -> Result<(), Cause> {
+    /// Waits for a task. There is none where the board is done or stopped. OutOfMemory where there is no memory for what is
+    /// worked or said within the lock, Stranger where the board refuses a call.
+    pub fn wait_for_task(&self, hand: &mut InHand<'t, L>) -> Result<(), Cause> {
         let hall = self.hall;
         let (mut board, mut is_news) = self.begin_to_wait(&mut hand.rest);
         for _ in self.rt.forever() {
