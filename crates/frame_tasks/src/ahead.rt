@@ -82,7 +82,7 @@ impl<'t> Ahead<'t> {
             None => Ok(Ahead::Waits(Arc::new(alloc, pending.move_in(alloc)?)?)),
             Some(answer) => {
                 let outcome = gone_on(scratch, start, agent, pending, answer)?;
-                Ok(Ahead::of_outcome(alloc, start, agent, question, answer, outcome)?)
+                Ahead::of_outcome(alloc, start, agent, question, answer, outcome)
             }
         }
     }
@@ -103,7 +103,7 @@ impl<'t> Ahead<'t> {
             None => Ok(Ahead::Waits(Arc::try_clone(pending)?)),
             Some(answer) => {
                 let outcome = copy_gone_on(scratch, start, agent, pending, answer)?;
-                Ok(Ahead::of_outcome(alloc, start, agent, question, answer, outcome)?)
+                Ahead::of_outcome(alloc, start, agent, question, answer, outcome)
             }
         }
     }

@@ -213,7 +213,7 @@ impl<'t> ThinkTask<'t> {
         match &self.stand {
             Stand::Start => {
                 let outcome = begun(alloc, scratch.clone()?, start, self.agent)?;
-                Ok(self.step(alloc, scratch, outcome)?)
+                self.step(alloc, scratch, outcome)
             }
             Stand::Answered {
                 question: _,
@@ -221,7 +221,7 @@ impl<'t> ThinkTask<'t> {
                 answer,
             } => {
                 let outcome = copy_gone_on(scratch.clone()?, start, self.agent, pending, *answer)?;
-                Ok(self.step(alloc, scratch, outcome)?)
+                self.step(alloc, scratch, outcome)
             }
             Stand::Asks { question, pending } => {
                 let ahead = Ahead::of_shared(
