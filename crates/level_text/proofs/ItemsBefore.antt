@@ -4,10 +4,7 @@ use Rattle.serde_json.specs.Data.{Items, no_items, item, string}
 use Rattle.serde_json.specs.View.{view, items_view}
 use Rattle.serde_json.specs.declared.value.Value.{Value, the_lemmas}
 use Rattle.serde_json.specs.declared.value.Value.TheVariants as value
-
-abbrev pub items_before : List Value → Items → Items
-items_before [] rest = rest
-items_before (v ∷ vs) rest = item (view v) (items_before vs rest)
+use Rattle.level_text.specs.Begun.{items_before}
 
 pub items_before-no_items : (vs : List Value) → items_before vs no_items ≡ items_view vs
 items_before-no_items [] = refl

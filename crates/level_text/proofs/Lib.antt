@@ -19,6 +19,8 @@ pub mod JsonBytes
 pub mod Drafted
 pub mod ItemsBefore
 pub mod WrittenSteps
+pub mod NodesWritten
+pub mod NodesOwn
 pub mod NodesSpelled
 pub mod LevelsSpelled
 pub mod TreesWritten

@@ -1,5 +1,5 @@
 -- Reading the nodes of an array, one after another.
-use Rattle.std.proofs.Common.{◌≡◌, ℕ, ◌+◌, ◌<◌, ◌≤◌, List, [], ◌∷◌, ◌++◌, length, get_or, drop, sym, ap, ◌∙◌, Some, option_map, option_and_then, Global}
+use Rattle.std.proofs.Common.{◌≡◌, ℕ, ◌+◌, ◌<◌, ◌≤◌, List, [], ◌∷◌, ◌++◌, length, get_or, drop, sym, ap, ◌∙◌, Some, None, option_map, option_and_then, Global}
 use Rattle.serde_json.specs.View.{view, items_view}
 use Rattle.serde_json.specs.declared.value.Value.{Value}
 use Rattle.bt_nodes.specs.Plain.{tree, plain, plains}
@@ -14,6 +14,14 @@ pub read_more : (ns : List (Node Global)) (n : Node Global) (vs : List Value) (i
 read_more ns n vs i d h e before =
     let left = forest_in (items_view (drop (i + 1) vs)) in
     one_more ns n left ∙ sym (ap (option_map (forest_before ns)) (ap forest_in (items_view-drop vs i d h) ∙ ap (option_and_then (λ p. option_map (tree p) left)) e)) ∙ before
+
+-- one that is no node was met
+pub read_none : (ns : List (Node Global)) (vs : List Value) (i : ℕ) (d : Value) → i < length vs → node_of (view (get_or vs i d)) ≡ None
+    → option_map (forest_before ns) (forest_in (items_view (drop i vs))) ≡ forest_in (items_view vs)
+    → None ≡ forest_in (items_view vs)
+read_none ns vs i d h e before =
+    let left = forest_in (items_view (drop (i + 1) vs)) in
+    sym (ap (option_map (forest_before ns)) (ap forest_in (items_view-drop vs i d h) ∙ ap (option_and_then (λ p. option_map (tree p) left)) e)) ∙ before
 
 pub read_all : (ns : List (Node Global)) (vs : List Value) (i : ℕ) → length vs ≤ i
     → option_map (forest_before ns) (forest_in (items_view (drop i vs))) ≡ forest_in (items_view vs)

@@ -4,7 +4,8 @@ use Rattle.std.proofs.lemmas.List.{drop_more}
 use Rattle.serde_json.specs.Data.{Data, Items, no_items, item}
 use Rattle.serde_json.specs.View.{view, items_view}
 use Rattle.serde_json.specs.declared.value.Value.{Value}
-use Rattle.level_text.proofs.ItemsBefore.{items_before, items_before-no_items, items_before-push}
+use Rattle.level_text.specs.Begun.{items_before}
+use Rattle.level_text.proofs.ItemsBefore.{items_before-no_items, items_before-push}
 
 pub drop-end : {A : Type 0} (xs : List A) (i : ℕ) → length xs ≤ i → drop i xs ≡ []
 drop-end [] zero h = refl
@@ -23,6 +24,6 @@ module _ {A : Type 0} (items : List A → Items) (datum : A → Data) (cons : (x
       items_before-push vs v (items (drop (i + 1) xs)) ∙ ap (λ d. items_before vs (item d (items (drop (i + 1) xs)))) seen
       ∙ ap (items_before vs) (sym (cons x (drop (i + 1) xs))) ∙ sym (ap (λ ys. items_before vs (items ys)) (drop-read xs i x h read)) ∙ before
 
-  pub written_all : (vs : List Value) (xs : List A) (i : ℕ) → items [] ≡ no_items → length xs ≤ i → items_before vs (items (drop i xs)) ≡ items xs → items_view vs ≡ items xs
-  written_all vs xs i empty h before =
+  pub written_all : (vs : List Value) (xs : List A) (i : ℕ) → items [] ≡ no_items → length xs ≤ i → (all : Items) → items_before vs (items (drop i xs)) ≡ all → items_view vs ≡ all
+  written_all vs xs i empty h all before =
       sym (items_before-no_items vs) ∙ ap (items_before vs) (sym empty) ∙ sym (ap (λ ys. items_before vs (items ys)) (drop-end xs i h)) ∙ before

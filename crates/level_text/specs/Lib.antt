@@ -7,3 +7,4 @@ pub mod TreeFaults
 pub mod Levels
 pub mod Written
 pub mod Marks
+pub mod Begun

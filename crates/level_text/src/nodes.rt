@@ -2,11 +2,11 @@
 ghost use Rattle.std.specs.Prelude.{◌≡◌, ◌<◌, None, IfOk, IfNone, IfSome, option_map};
 ghost use Rattle.serde_json.specs.View.{view, items_view};
 ghost use Rattle.serde_json.specs.declared.value.Value.{size-Value};
-ghost use Rattle.bt_nodes.specs.Plain.{plain, plains};
+ghost use Rattle.bt_nodes.specs.Plain.{plain};
 ghost use Rattle.level_text.specs.Nodes.{node_of as spelled_node, forest_in, child_in};
-ghost use Rattle.level_text.specs.Inner.{form_in, deepest};
+ghost use Rattle.level_text.specs.Inner.{form_in, deepest, over_forest, over_child};
 
-use crate::inner::{Inner, inner_of};
+use crate::inner::{Decorator, Inner, Lister, inner_of};
 use crate::leaves::leaf_of;
 use bt_nodes::Node;
 use serde_json::Value;
@@ -34,20 +34,20 @@ pub(crate) fn node_of(alloc: Global, value: &Value) -> Result<Option<Node<Global
         return Ok(None);
     };
     match inner_of(head, arguments) {
-        Some(Inner::Lists(lister, values)) => Ok(forest_of(alloc, values)?.map(
-            |children| lister.over(children),
-        )),
-        Some(Inner::Decorates(decorator, values)) => Ok(child_of(alloc, values)?.map(
-            |child| decorator.over(child),
-        )),
+        Some(Inner::Lists(lister, values)) => list_of(alloc, lister, values),
+        Some(Inner::Decorates(decorator, values)) => decorator_of(alloc, decorator, values),
         None => Ok(leaf_of(head, arguments)),
     }
 }
 
-/// The nodes that values spell.
+/// The node that lists the nodes that values spell.
 #[cycle(nodes)]
-fn forest_of(alloc: Global, values: &[Value]) -> Result<Option<Vec<Node<Global>>>, AllocError>
-    ensures { IfOk result (λ found. option_map (λ v. plains v.items) found ≡ forest_in (items_view values.now)) }
+fn list_of(
+    alloc: Global,
+    lister: Lister,
+    values: &[Value],
+) -> Result<Option<Node<Global>>, AllocError>
+    ensures { IfOk result (λ found. option_map plain found ≡ option_map (over_forest lister) (forest_in (items_view values.now))) }
 {
     let mut nodes = Vec::new(alloc);
     'values: for value in values {
@@ -56,18 +56,22 @@ fn forest_of(alloc: Global, values: &[Value]) -> Result<Option<Vec<Node<Global>>
             None => return Ok(None),
         }
     }
-    Ok(Some(nodes))
+    Ok(Some(lister.over(nodes)))
 }
 
-/// The node that the only value spells.
+/// The node that decorates the node that the only value spells.
 #[cycle(nodes)]
-fn child_of(alloc: Global, values: &[Value]) -> Result<Option<Box<Node<Global>>>, AllocError>
-    ensures { IfOk result (λ found. option_map (λ b. plain b.value) found ≡ child_in (items_view values.now)) }
+fn decorator_of(
+    alloc: Global,
+    decorator: Decorator,
+    values: &[Value],
+) -> Result<Option<Node<Global>>, AllocError>
+    ensures { IfOk result (λ found. option_map plain found ≡ option_map (over_child decorator) (child_in (items_view values.now))) }
 {
     match values {
         [] => Ok(None),
         [value] => match node_of(alloc, value)? {
-            Some(node) => Ok(Some(Box::new(alloc, node)?)),
+            Some(node) => Ok(Some(decorator.over(Box::new(alloc, node)?))),
             None => Ok(None),
         },
         [_, _, ..] => Ok(None),

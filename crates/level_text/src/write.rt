@@ -1,8 +1,8 @@
 // Levels as text.
 ghost use Rattle.std.specs.Prelude.{◌≡◌, Ok, IfOk, OnOk, IsTrue};
 ghost use Rattle.std.specs.List.{list_all};
-ghost use Rattle.serde_json.specs.Data.{array, object};
-ghost use Rattle.serde_json.specs.View.{view};
+ghost use Rattle.serde_json.specs.Data.{array, object, put as put_data};
+ghost use Rattle.serde_json.specs.View.{view, members_view};
 ghost use Rattle.game_session.specs.Kept.{texts_view, trees_view};
 ghost use Rattle.game_session.specs.Levels.{value_of as value_kept};
 ghost use Rattle.level_text.specs.Levels.{spelled};
@@ -12,7 +12,7 @@ ghost use Rattle.level_text.specs.Written.{texts_data, trees_data, level_data, l
 
 use crate::write_nodes::value_of;
 use game_session::{Level, NamedTree};
-use serde_json::{Map, Value, json};
+use serde_json::{Map, Value};
 use std::alloc::{AllocError, Global};
 
 fn texts_value(alloc: Global, texts: &[String]) -> Result<Value, AllocError>
@@ -25,6 +25,18 @@ fn texts_value(alloc: Global, texts: &[String]) -> Result<Value, AllocError>
     Ok(Value::Array(values))
 }
 
+fn put(
+    alloc: Global,
+    members: &mut Map<String, Value>,
+    name: &str,
+    value: Value,
+) -> Result<(), AllocError>
+    ensures { OnOk result (members_view members.new.entries ≡ put_data name.now (view value) (members_view members.old.entries)) }
+{
+    drop(members.insert(String::from_str(alloc, name)?, value)?);
+    Ok(())
+}
+
 fn trees_value(alloc: Global, trees: &[NamedTree]) -> Result<Value, AllocError>
     requires { IsTrue (is_in_order (names_of (trees_view trees.now))) }
     ensures value { IfOk result (λ v. view v ≡ object (trees_data (trees_view trees.now))) }
@@ -32,7 +44,12 @@ fn trees_value(alloc: Global, trees: &[NamedTree]) -> Result<Value, AllocError>
 {
     let mut members = Map::new(alloc);
     'trees: for named in trees {
-        drop(members.insert(named.name.clone()?, value_of(alloc, named.tree.root())?)?);
+        put(
+            alloc,
+            &mut members,
+            &named.name,
+            value_of(alloc, named.tree.root())?,
+        )?;
     }
     Ok(Value::Object(members))
 }
@@ -41,10 +58,26 @@ fn level_value(alloc: Global, level: &Level) -> Result<Value, AllocError>
     ensures value { IfOk result (λ v. view v ≡ level_data (value_kept level.now)) }
     ensures marks { OnOk result (IsTrue (list_all (λ t. has_marks t.tree) (value_kept level.now).trees)) }
 {
-    let agents = texts_value(alloc, level.names())?;
-    let map = texts_value(alloc, level.rows())?;
-    let trees = trees_value(alloc, level.named_trees())?;
-    json!(in alloc; {"agents": agents, "map": map, "trees": trees})
+    let mut members = Map::new(alloc);
+    put(
+        alloc,
+        &mut members,
+        "agents",
+        texts_value(alloc, level.names())?,
+    )?;
+    put(
+        alloc,
+        &mut members,
+        "map",
+        texts_value(alloc, level.rows())?,
+    )?;
+    put(
+        alloc,
+        &mut members,
+        "trees",
+        trees_value(alloc, level.named_trees())?,
+    )?;
+    Ok(Value::Object(members))
 }
 
 /// The level as compact JSON text: the keys `agents`, `map` and `trees`, the trees in order of their names' bytes, no

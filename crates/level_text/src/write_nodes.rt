@@ -1,10 +1,11 @@
 // JSON values of nodes.
-ghost use Rattle.std.specs.Prelude.{◌≡◌, ◌<◌, ◌+◌, IfOk, OnOk, IsTrue};
-ghost use Rattle.serde_json.specs.Data.{item, no_items};
+ghost use Rattle.std.specs.Prelude.{◌≡◌, ◌<◌, ◌+◌, Some, IfOk, OnOk, IsTrue, option_map};
+ghost use Rattle.serde_json.specs.Data.{array};
 ghost use Rattle.serde_json.specs.View.{view, items_view};
 ghost use Rattle.bt_nodes.specs.Plain.{plain, plains};
 ghost use Rattle.level_text.specs.Marks.{has_marks, all_have_marks};
-ghost use Rattle.level_text.specs.Written.{form as form_data, counted as counted_items, marked as marked_items, node_data, forest_data};
+ghost use Rattle.level_text.specs.Begun.{head, mark as mark_data, own, below, has_own_mark, items_before};
+ghost use Rattle.level_text.specs.Written.{node_data, forest_data};
 
 use bt_nodes::Node;
 use serde_json::Value;
@@ -16,85 +17,97 @@ pub(crate) fn value_of(alloc: Global, node: &Node<Global>) -> Result<Value, Allo
     ensures value { IfOk result (λ v. view v ≡ node_data (plain node.now)) }
     ensures marks { OnOk result (IsTrue (has_marks (plain node.now))) }
 {
-    match node {
-        Node::Seq(children) => form(alloc, "seq", values_of(alloc, children)?),
-        Node::Fallback(children) => form(alloc, "fallback", values_of(alloc, children)?),
-        Node::Par(m, children) => form(
-            alloc,
-            "par",
-            counted(alloc, *m, values_of(alloc, children)?)?,
-        ),
-        Node::SeqStar(children) => form(alloc, "seq*", values_of(alloc, children)?),
-        Node::FallbackStar(children) => form(alloc, "fallback*", values_of(alloc, children)?),
-        Node::Not(child) => form(alloc, "not", only(alloc, value_of(alloc, child)?)?),
-        Node::Tries(n, child) => form(
-            alloc,
-            "tries",
-            counted(alloc, *n, only(alloc, value_of(alloc, child)?)?)?,
-        ),
-        Node::Ticks(n, child) => form(
-            alloc,
-            "ticks",
-            counted(alloc, *n, only(alloc, value_of(alloc, child)?)?)?,
-        ),
-        Node::Wait(n) => form(alloc, "wait", counted(alloc, *n, Vec::new(alloc))?),
-        Node::Move(place) => form(alloc, "move", marked(alloc, b'0', place.number())?),
-        Node::Take => form(alloc, "take", Vec::new(alloc)),
-        Node::Drop => form(alloc, "drop", Vec::new(alloc)),
-        Node::At(place) => form(alloc, "at", marked(alloc, b'0', place.number())?),
-        Node::Carrying => form(alloc, "carrying", Vec::new(alloc)),
-        Node::Item => form(alloc, "item", Vec::new(alloc)),
-        Node::Signal(signal) => form(alloc, "signal", marked(alloc, b'a', signal.number())?),
-        Node::Near(n) => form(alloc, "near", counted(alloc, *n, Vec::new(alloc))?),
+    let mut values = begun(alloc, node)?;
+    match node.decorated() {
+        Some(child) => values.push(value_of(alloc, child)?)?,
+        None => push_all(alloc, node.listed(), &mut values)?,
     }
+    Ok(Value::Array(values))
 }
 
 #[cycle(write_nodes)]
-fn values_of(alloc: Global, nodes: &[Node<Global>]) -> Result<Vec<Value>, AllocError>
-    ensures value { IfOk result (λ v. items_view v.items ≡ forest_data (plains nodes.now)) }
+fn push_all(
+    alloc: Global,
+    nodes: &[Node<Global>],
+    values: &mut Vec<Value>,
+) -> Result<(), AllocError>
+    ensures value { OnOk result (items_view values.new.items ≡ items_before values.old.items (forest_data (plains nodes.now))) }
     ensures marks { OnOk result (IsTrue (all_have_marks (plains nodes.now))) }
 {
-    let mut values = Vec::with_capacity(alloc, nodes.len())?;
     'nodes: for node in nodes {
         values.push(value_of(alloc, node)?)?;
+    }
+    Ok(())
+}
+
+/// What the node's array begins with: the head and the node's own argument.
+fn begun(alloc: Global, node: &Node<Global>) -> Result<Vec<Value>, AllocError>
+    ensures value { IfOk result (λ vs. array (items_before vs.items (below (plain node.now))) ≡ node_data (plain node.now)) }
+    ensures marks { OnOk result (IsTrue (has_own_mark (plain node.now))) }
+{
+    // A leaf and most other kinds have one argument at most beside those that they list.
+    let mut values = Vec::with_capacity(alloc, node.listed().len().saturating_add(2))?;
+    values.push(Value::try_from_str(alloc, head_of(node))?)?;
+    match own_of(alloc, node)? {
+        Some(value) => values.push(value)?,
+        None => {}
     }
     Ok(values)
 }
 
-/// A head and its arguments.
-fn form(alloc: Global, head: &str, arguments: Vec<Value>) -> Result<Value, AllocError>
-    ensures { IfOk result (λ v. view v ≡ form_data head.now (items_view arguments.items)) }
+fn head_of(node: &Node<Global>) -> &'static str
+    ensures { result.now ≡ head (plain node.now) }
 {
-    Ok(Value::Array(with_first(alloc, Value::try_from_str(alloc, head)?, arguments)?))
+    match node {
+        Node::Seq(_) => "seq",
+        Node::Fallback(_) => "fallback",
+        Node::Par(_, _) => "par",
+        Node::SeqStar(_) => "seq*",
+        Node::FallbackStar(_) => "fallback*",
+        Node::Not(_) => "not",
+        Node::Tries(_, _) => "tries",
+        Node::Ticks(_, _) => "ticks",
+        Node::Wait(_) => "wait",
+        Node::Move(_) => "move",
+        Node::Take => "take",
+        Node::Drop => "drop",
+        Node::At(_) => "at",
+        Node::Carrying => "carrying",
+        Node::Item => "item",
+        Node::Signal(_) => "signal",
+        Node::Near(_) => "near",
+    }
 }
 
-fn counted(alloc: Global, count: u64, arguments: Vec<Value>) -> Result<Vec<Value>, AllocError>
-    ensures { IfOk result (λ v. items_view v.items ≡ counted_items count (items_view arguments.items)) }
+/// The number, place or signal that stands in the node itself.
+fn own_of(alloc: Global, node: &Node<Global>) -> Result<Option<Value>, AllocError>
+    ensures value { IfOk result (λ o. option_map view o ≡ own (plain node.now)) }
+    ensures marks { OnOk result (IsTrue (has_own_mark (plain node.now))) }
 {
-    with_first(alloc, Value::from(count), arguments)
-}
-
-fn only(alloc: Global, value: Value) -> Result<Vec<Value>, AllocError>
-    ensures { IfOk result (λ v. items_view v.items ≡ item (view value) no_items) }
-{
-    with_first(alloc, value, Vec::new(alloc))
-}
-
-fn with_first(alloc: Global, first: Value, mut rest: Vec<Value>) -> Result<Vec<Value>, AllocError>
-    ensures { IfOk result (λ v. items_view v.items ≡ item (view first) (items_view rest.items)) }
-{
-    let mut values = Vec::with_capacity(alloc, rest.len().saturating_add(1))?;
-    values.push(first)?;
-    values.append(&mut rest)?;
-    Ok(values)
+    match node {
+        Node::Par(n, _) | Node::Tries(n, _) | Node::Ticks(n, _) | Node::Wait(n) | Node::Near(n) => {
+            Ok(Some(Value::from(*n)))
+        }
+        Node::Move(place) | Node::At(place) => Ok(Some(mark(alloc, b'0', place.number())?)),
+        Node::Signal(signal) => Ok(Some(mark(alloc, b'a', signal.number())?)),
+        Node::Seq(_)
+        | Node::Fallback(_)
+        | Node::SeqStar(_)
+        | Node::FallbackStar(_)
+        | Node::Not(_)
+        | Node::Take
+        | Node::Drop
+        | Node::Carrying
+        | Node::Item => Ok(None),
+    }
 }
 
 /// A text of the character that stands `number` behind `low`.
-fn marked(alloc: Global, low: u8, number: u32) -> Result<Vec<Value>, AllocError>
+fn mark(alloc: Global, low: u8, number: u32) -> Result<Value, AllocError>
     requires { low + number < 128 }
-    ensures { IfOk result (λ v. items_view v.items ≡ marked_items (low + number)) }
+    ensures { IfOk result (λ v. Some (view v) ≡ mark_data (low + number)) }
 {
     let mut text = String::new(alloc);
     text.push(char::from(low + number as u8))?;
-    only(alloc, Value::String(text))
+    Ok(Value::String(text))
 }

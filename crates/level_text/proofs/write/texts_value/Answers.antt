@@ -4,7 +4,8 @@ use Rattle.serde_json.specs.declared.value.Value.TheVariants as value
 use Rattle.serde_json.proofs.Views.{view-Array}
 use Rattle.game_session.specs.Kept.{texts_view}
 use Rattle.level_text.specs.Written.{texts_data}
-use Rattle.level_text.proofs.ItemsBefore.{items_before, view-String}
+use Rattle.level_text.specs.Begun.{items_before}
+use Rattle.level_text.proofs.ItemsBefore.{view-String}
 use Rattle.level_text.proofs.WrittenSteps.{written_more, written_all}
 use Rattle.level_text.proofs.write.texts_value.Goals as goal
 
@@ -19,4 +20,4 @@ texts-preserved c =
 pub returns : goal.returns
 returns c =
     view-Array c.texts.values
-    ∙ ap array (written_all (λ ts. texts_data (texts_view ts)) (λ t. string (string_bytes t)) (λ _ _. refl) c.texts.values.items c.args.texts.now c.texts.text-index refl c.texts-test.false c.texts.invariant)
+    ∙ ap array (written_all (λ ts. texts_data (texts_view ts)) (λ t. string (string_bytes t)) (λ _ _. refl) c.texts.values.items c.args.texts.now c.texts.text-index refl c.texts-test.false _ c.texts.invariant)

@@ -1,7 +1,7 @@
 use Rattle.std.proofs.Common.{◌≡◌, drop}
 use Rattle.game_session.specs.Kept.{texts_view}
 use Rattle.level_text.specs.Written.{texts_data}
-use Rattle.level_text.proofs.ItemsBefore.{items_before}
+use Rattle.level_text.specs.Begun.{items_before}
 use Rattle.level_text.proofs.write.texts_value.Given as goal
 
 abbrev pub invariant-texts : goal.invariant-texts

@@ -1,7 +1,7 @@
 use Rattle.std.proofs.Common.{◌∙◌, ap, sym, string_bytes}
 use Rattle.serde_json.specs.Data.{object, put}
 use Rattle.serde_json.specs.View.{view, members_view}
-use Rattle.serde_json.proofs.Views.{view-Object, members_view-insert_entry}
+use Rattle.serde_json.proofs.Views.{view-Object}
 use Rattle.bt_nodes.specs.Trees.{plain_of}
 use Rattle.game_session.specs.declared.named_tree.NamedTree.{NamedTree}
 use Rattle.level_text.specs.Marks.{has_marks}
@@ -13,8 +13,7 @@ use Rattle.level_text.proofs.write.trees_value.Goals as goal
 pub trees-preserved : goal.trees-preserved
 trees-preserved c =
     let t : NamedTree = c.named-item.result in (
-      ap members_view c.in_ok-insert.ensures.entries ∙ members_view-insert_entry c.trees.members.entries c.in_ok-clone.field-0 c.in_ok-value_of.field-0
-          ∙ ap (λ k. put k (view c.in_ok-value_of.field-0) (members_view c.trees.members.entries)) c.in_ok-clone.ensures.cases
+      c.in_ok-put.ensures ∙ ap (λ k. put k (view c.in_ok-value_of.field-0) (members_view c.trees.members.entries)) c.deref.ensures
           ∙ ap (λ d. put (string_bytes t.name) d (members_view c.trees.members.entries)) (c.in_ok-value_of.ensures.value ∙ ap node_data c.root.ensures.value)
           ∙ ap (put (string_bytes t.name) (node_data (plain_of t.tree))) c.trees.invariant.0
           ∙ put_more c.args.trees.now c.trees.named-index t c.trees-test.true c.named-item.is c.requires,
