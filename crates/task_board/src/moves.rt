@@ -20,10 +20,10 @@ impl<'t> TaskBoard<'t> {
         requires { MayBeTakenUp self.now job step }
         ensures { IfOk result (IsTaskAt self.now.game job step) }
     {
-        let Ok(task) = self.shelf.task(self.alloc, job, step) else {
-            return Err(OutOfMemory);
-        };
-        Ok(task)
+        match self.shelf.task(self.alloc, job, step) {
+            Ok(task) => Ok(task),
+            Err(_) => Err(OutOfMemory),
+        }
     }
 
     /// Whether a worker may start this job.
