@@ -1,9 +1,8 @@
 -- What a worker is found to do next may be taken up, and is taken by its event.
 use Rattle.std.proofs.Common.{◌≡◌, ℕ, Ok, Option, Some, option_map, refl, sym, subst, inl, inr}
 use Rattle.game_rules.specs.Game.{Game}
-use Rattle.job_core.specs.declared.names.JobName.{JobName}
 use Rattle.job_core.specs.declared.names.Event.TheVariants.{Start, Resume}
-use Rattle.job_core.specs.Core.{IsLegal, IsLegalList}
+use Rattle.job_core.specs.Core.{IsLegalList}
 use Rattle.board_law.specs.Lists.{first_place}
 use Rattle.board_law.specs.Board.{holds}
 use Rattle.board_law.specs.Pick.{Ready, New, given}
@@ -15,7 +14,7 @@ use Rattle.job_log.specs.declared.next.Next.{Next}
 use Rattle.job_log.specs.declared.next.Next.TheVariants as next
 use Rattle.job_log.specs.declared.fault.BoardFault.TheVariants.{OutOfMemory}
 use Rattle.job_shelf.specs.Shelf.{Shelved}
-use Rattle.task_board.specs.Boards.{Played, setup_in, state_in, Happens, IsBoard, IsTaken, IsTakeRefused}
+use Rattle.task_board.specs.Boards.{Played, Happens, IsBoard, IsTaken, IsTakeRefused}
 use Rattle.task_board.specs.Found.{IsFound, event_of, job_next, step_next}
 use Rattle.task_board.specs.Given.{MayBeTakenUp}
 use Rattle.task_board.proofs.Boarding.{known, known_of, seen_as, starts, resumes}

@@ -1,4 +1,4 @@
-use Rattle.std.proofs.Common.{◌≡◌, ℕ, Ok, Err, None, refl, sym, ap, ◌∙◌, subst}
+use Rattle.std.proofs.Common.{◌≡◌, Ok, Err, None, refl, sym, ap, ◌∙◌, subst}
 use Rattle.board_law.specs.Board.{Held}
 use Rattle.frame_tasks.specs.Tasks.{IsTaskAt}
 use Rattle.job_log.specs.Looks.{Always, IsGivenTo}
