@@ -1,7 +1,6 @@
 -- What a worker is found to do next may be taken up, and is taken by its event.
 use Rattle.std.proofs.Common.{◌≡◌, ℕ, Ok, Option, Some, option_map, refl, sym, subst, inl, inr}
 use Rattle.game_rules.specs.Game.{Game}
-use Rattle.job_core.specs.declared.names.Event.TheVariants.{Start, Resume}
 use Rattle.job_core.specs.Core.{IsLegalList}
 use Rattle.board_law.specs.Lists.{first_place}
 use Rattle.board_law.specs.Board.{holds}
