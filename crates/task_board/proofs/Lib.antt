@@ -1,5 +1,6 @@
 pub mod Boarding
 pub mod Tasked
+pub mod Finding
 pub mod Sized
 pub mod Beginning
 pub mod Handing

@@ -1,4 +1,5 @@
 pub mod Boards
+pub mod Found
 pub mod BoardCode
 pub mod Parked
 pub mod HandedIn

@@ -29,25 +29,25 @@ impl<'t> TaskBoard<'t> {
         ensures unchanged { OnErr result (self.new ≡ self.old) }
     {
         match step {
-            BoardStep::Logic(logic) => match logic {
-                LogicStep::Begins => match self.begin_frame(worker) {
-                    Ok(()) => Ok(()),
-                    Err(fault) => Err(Refused {
-                        fault,
-                        value: BoardStep::Logic(LogicStep::Begins),
-                    }),
-                },
-                LogicStep::Turned(turn) => self.hand_in_end(worker, Done::Turned(turn)),
+            BoardStep::Logic(LogicStep::Begins) => match self.begin_frame(worker) {
+                Ok(()) => Ok(()),
+                Err(fault) => Err(Refused {
+                    fault,
+                    value: BoardStep::Logic(LogicStep::Begins),
+                }),
             },
-            BoardStep::Think(think) => match think {
-                ThinkStep::Ended(thought) => self.hand_in_end(worker, Done::Thought(thought)),
-                ThinkStep::Asks(parked) => match self.ask_own(worker, parked) {
-                    Ok(()) => Ok(()),
-                    Err(refused) => Err(Refused {
-                        fault: refused.fault,
-                        value: BoardStep::Think(ThinkStep::Asks(refused.value)),
-                    }),
-                },
+            BoardStep::Logic(LogicStep::Turned(turn)) => {
+                self.hand_in_end(worker, Done::Turned(turn))
+            }
+            BoardStep::Think(ThinkStep::Ended(thought)) => {
+                self.hand_in_end(worker, Done::Thought(thought))
+            }
+            BoardStep::Think(ThinkStep::Asks(parked)) => match self.ask_own(worker, parked) {
+                Ok(()) => Ok(()),
+                Err(refused) => Err(Refused {
+                    fault: refused.fault,
+                    value: BoardStep::Think(ThinkStep::Asks(refused.value)),
+                }),
             },
             BoardStep::Path(way) => self.hand_in_end(worker, Done::Way(way)),
             BoardStep::Draw(mark) => self.hand_in_end(worker, Done::Drawn(mark)),

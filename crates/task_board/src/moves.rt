@@ -20,10 +20,10 @@ impl<'t> TaskBoard<'t> {
         requires { MayBeTakenUp self.now job step }
         ensures { IfOk result (IsTaskAt self.now.game job step) }
     {
-        let Ok(task) = self.shelf.task(self.alloc, job, step) else {
-            return Err(OutOfMemory);
-        };
-        Ok(task)
+        match self.shelf.task(self.alloc, job, step) {
+            Ok(task) => Ok(task),
+            Err(_) => Err(OutOfMemory),
+        }
     }
 
     /// Whether a worker may start this job.
@@ -82,6 +82,7 @@ impl<'t> TaskBoard<'t> {
     }
 
     /// A worker starts a job.
+    #[inline(always)]
     pub fn begin(&mut self, worker: u32, job: JobName) -> Result<(), OutOfMemory>
         requires { IsLegal (setup_in self.old) (state_in self.old) (Start worker job) }
         ensures ok { OnOk result (Happens self.old self.new (Start worker job)) }
@@ -94,6 +95,7 @@ impl<'t> TaskBoard<'t> {
     }
 
     /// A worker goes on with a job, on the fiber that holds it.
+    #[inline(always)]
     pub fn go_on(&mut self, worker: u32, fiber: Fiber, job: JobName) -> Result<(), OutOfMemory>
         requires legal { IsLegal (setup_in self.old) (state_in self.old) (Resume worker job) }
         requires place { first_place (holds job) (core_of (setup_in self.old) self.old.events).seats.jobs ≡ fiber }

@@ -2,6 +2,7 @@ ghost use Rattle.std.specs.Prelude.{◌≡◌, IfOk, IfErr, OnOk, OnErr};
 ghost use Rattle.job_core.specs.declared.names.JobName.TheVariants.{Think};
 ghost use Rattle.job_core.specs.declared.names.Event.TheVariants.{Ask, Finish};
 ghost use Rattle.job_core.specs.Core.{Runs, IsLegal};
+ghost use Rattle.job_log.specs.declared.fault.BoardFault.TheVariants.{OutOfMemory};
 ghost use Rattle.task_board.specs.Boards.{setup_in, state_in, Happens, IsRefused, IsEmitRefused, IsShown, IsStopped};
 ghost use Rattle.job_shelf.specs.Dones.{game_done, job_done, IsOtherDone};
 ghost use Rattle.task_board.specs.Parked.{IsOtherParked};
@@ -116,6 +117,27 @@ impl<'t> TaskBoard<'t> {
         self.finish_own(worker, done)
     }
 
+    // Whether this is the end of the worker's job, which may be over. Memory is all else that may be wanting.
+    #[inline(always)]
+    fn may_end(&self, worker: u32, done: &Done<'t>) -> Result<(), BoardFault>
+        requires { game_done done.now ≡ self.now.game }
+        ensures legal { OnOk result (IsLegal (setup_in self.now) (state_in self.now) (Finish worker (job_done done.now))) }
+        ensures full { OnOk result (IsRefused self.now worker (IsOtherDone done.now self.now.game) (Finish worker) OutOfMemory) }
+        ensures refused { IfErr result (IsRefused self.now worker (IsOtherDone done.now self.now.game) (Finish worker)) }
+    {
+        let held = match self.jobs.running(worker) {
+            Ok(held) => held,
+            Err(fault) => return Err(fault),
+        };
+        if !is_of(done, held.job) {
+            return Err(BoardFault::WrongResult);
+        }
+        if !done.is_at(held.step) {
+            return Err(BoardFault::Illegal);
+        }
+        Ok(())
+    }
+
     /// The same for what came of a task of this board, whose game is the board's: no sessions are compared.
     #[inline(always)]
     pub fn finish_own(&mut self, worker: u32, done: Done<'t>) -> Result<(), Refused<Done<'t>>>
@@ -125,21 +147,9 @@ impl<'t> TaskBoard<'t> {
         ensures back { IfErr result (λ r. r.value ≡ done.entry) }
         ensures unchanged { OnErr result (self.new ≡ self.old) }
     {
-        let held = match self.jobs.running(worker) {
-            Ok(held) => held,
+        match self.may_end(worker, &done) {
+            Ok(()) => {}
             Err(fault) => return Err(Refused { fault, value: done }),
-        };
-        if !is_of(&done, held.job) {
-            return Err(Refused {
-                fault: BoardFault::WrongResult,
-                value: done,
-            });
-        }
-        if !done.is_at(held.step) {
-            return Err(Refused {
-                fault: BoardFault::Illegal,
-                value: done,
-            });
         }
         match self.end(worker, done) {
             Ok(()) => Ok(()),

@@ -1,13 +1,14 @@
-use Rattle.std.proofs.Common.{◌≡◌, ℕ, Ok, Err, Some, None, option_map, refl, sym, ap, ◌∙◌, subst}
-use Rattle.board_law.specs.Lists.{first_place}
-use Rattle.board_law.specs.Board.{holds}
-use Rattle.board_law.specs.Pick.{Ready, New, given}
-use Rattle.job_core.specs.Core.{IsLegalList}
-use Rattle.job_log.specs.Logged.{setup_of, kept}
-use Rattle.job_log.specs.Looks.{Always, IsGivenTo, IsPlace, as_pick}
-use Rattle.job_log.specs.declared.next.Next.TheVariants as next
-use Rattle.task_board.specs.Boards.{IsTaken, IsTakeRefused, IsStart, IsResume}
-use Rattle.task_board.proofs.Boarding.{known, known_of, idle_or, seen_as}
+use Rattle.std.proofs.Common.{◌≡◌, Ok, Err, None, refl, sym, ap, ◌∙◌, subst}
+use Rattle.board_law.specs.Board.{Held}
+use Rattle.frame_tasks.specs.Tasks.{IsTaskAt}
+use Rattle.job_log.specs.Looks.{Always, IsGivenTo}
+use Rattle.job_shelf.specs.Shelf.{Shelved, sizes}
+use Rattle.board_law.specs.Needed.{HasParts}
+use Rattle.job_log.specs.declared.fault.BoardFault.TheVariants.{OutOfMemory}
+use Rattle.task_board.specs.Boards.{Played, IsTaken, IsTakeRefused}
+use Rattle.task_board.specs.Found.{IsFound, job_next, step_next}
+use Rattle.task_board.proofs.Boarding.{known, idle_or, seen_as, task_there}
+use Rattle.task_board.proofs.Finding.{found, may_be_taken_up, want_of_memory, is_taken}
 use Rattle.task_board.proofs.board.TaskBoard.take.Goals as goal
 
 pub returns-in-Err-clause-refused : goal.returns-in-Err-clause-refused
@@ -19,25 +20,38 @@ returns-in_default-clause-ok c =
     let none = known c.self.inside.session.now c.self.inside.jobs c.self.inside.shelf c.self.invariant (IsGivenTo c.args.worker (Ok None)) told in
     subst (λ b. IsTaken b b c.args.worker None) c.self.view_is (refl, none.0, none.1, none.2)
 
-pub start-requires : goal.start-requires
-start-requires c =
-    let is : c.in-Ok.given ≡ Some (next.Start c.in-Start.job) = c.in-Some.is ∙ ap Some c.in-Start.is in
-    let told = subst (λ o. Always c.self.inside.jobs (IsGivenTo c.args.worker (Ok o))) is c.in-Ok.ensures.given in
-    let picked = subst (λ o. (q : ℕ → ℕ → ℕ) → IsLegalList (setup_of c.self.inside.jobs q) c.self.inside.jobs.events → option_map as_pick o ≡ given (kept c.self.inside.jobs q)) is c.in-Ok.ensures.picked in
-    subst (λ b. IsStart b c.args.worker c.in-Start.job) c.self.view_is (record {
-      legal = known c.self.inside.session.now c.self.inside.jobs c.self.inside.shelf c.self.invariant (IsGivenTo c.args.worker (Ok (Some (next.Start c.in-Start.job)))) told;
-      picked = sym (known_of c.self.inside.session.now c.self.inside.jobs c.self.inside.shelf c.self.invariant (λ v q. Some (New c.in-Start.job) ≡ given (kept v q)) picked);
-    })
+pub task-requires : goal.task-requires
+task-requires c =
+    let is = found c.self.inside.session.now c.self.inside.jobs c.self.inside.shelf c.self.invariant c.args.worker c.in-Ok.given c.in-Some.next c.in-Some.is c.in-Ok.ensures.given c.in-Ok.ensures.picked c.in-Ok.ensures.place in
+    let job : job_next c.in-Some.next ≡ c.held.inside.job = sym (ap (λ (h : Held). h.job) c.held.view_is ∙ c.held_next-held.ensures.job) in
+    let step : step_next c.in-Some.next ≡ c.held.inside.step = sym (ap (λ (h : Held). h.step) c.held.view_is ∙ c.held_next-held.ensures.step) in
+    subst (λ k. HasParts (sizes c.self.inside.shelf) c.self.inside.shelf.stored c.held.inside.job k) step
+    (subst (λ j. HasParts (sizes c.self.inside.shelf) c.self.inside.shelf.stored j (step_next c.in-Some.next)) job
+    (task_there c.self.inside.session.now c.self.inside.jobs c.self.inside.shelf c.self.invariant (job_next c.in-Some.next) (step_next c.in-Some.next) (may_be_taken_up (seen_as c.self.inside.session.now c.self.inside.jobs) c.args.worker c.in-Some.next is)))
 
-pub resume-requires : goal.resume-requires
-resume-requires c =
-    let is : c.in-Ok.given ≡ Some (next.Resume c.in-Resume.fiber c.in-Resume.held) = c.in-Some.is ∙ ap Some c.in-Resume.is in
-    let told = known c.self.inside.session.now c.self.inside.jobs c.self.inside.shelf c.self.invariant (IsGivenTo c.args.worker (Ok (Some (next.Resume c.in-Resume.fiber c.in-Resume.held)))) (subst (λ o. Always c.self.inside.jobs (IsGivenTo c.args.worker (Ok o))) is c.in-Ok.ensures.given) in
-    let picked = subst (λ o. (q : ℕ → ℕ → ℕ) → IsLegalList (setup_of c.self.inside.jobs q) c.self.inside.jobs.events → option_map as_pick o ≡ given (kept c.self.inside.jobs q)) is c.in-Ok.ensures.picked in
-    let place = subst (λ o. (q : ℕ → ℕ → ℕ) → IsLegalList (setup_of c.self.inside.jobs q) c.self.inside.jobs.events → IsPlace (kept c.self.inside.jobs q) o) is c.in-Ok.ensures.place in
-    subst (λ b. IsResume b c.args.worker c.in-Resume.fiber c.in-Resume.held) c.self.view_is (record {
-      legal = told.0;
-      stands = told.1;
-      picked = sym (known_of c.self.inside.session.now c.self.inside.jobs c.self.inside.shelf c.self.invariant (λ v q. Some (Ready c.in-Resume.fiber) ≡ given (kept v q)) picked);
-      holder = known_of c.self.inside.session.now c.self.inside.jobs c.self.inside.shelf c.self.invariant (λ v q. first_place (holds c.in-Resume.held.job) (kept v q).seats.jobs ≡ c.in-Resume.fiber) place;
-    })
+pub take_up-requires : goal.take_up-requires
+take_up-requires c =
+    subst (λ b. IsFound b c.args.worker c.in-Some.next) c.self.view_is
+    (found c.self.inside.session.now c.self.inside.jobs c.self.inside.shelf c.self.invariant c.args.worker c.in-Ok.given c.in-Some.next c.in-Some.is c.in-Ok.ensures.given c.in-Ok.ensures.picked c.in-Ok.ensures.place)
+
+pub returns-in_default-task-clause-refused : goal.returns-in_default-task-clause-refused
+returns-in_default-task-clause-refused c =
+    subst (λ b. IsTakeRefused b c.args.worker OutOfMemory) c.self.view_is
+    (want_of_memory (seen_as c.self.inside.session.now c.self.inside.jobs) c.args.worker c.in-Some.next
+    (found c.self.inside.session.now c.self.inside.jobs c.self.inside.shelf c.self.invariant c.args.worker c.in-Ok.given c.in-Some.next c.in-Some.is c.in-Ok.ensures.given c.in-Ok.ensures.picked c.in-Ok.ensures.place))
+
+pub returns-in_default-take_up-clause-refused : goal.returns-in_default-take_up-clause-refused
+returns-in_default-take_up-clause-refused c =
+    subst (λ b. IsTakeRefused b c.args.worker OutOfMemory) c.self.view_is
+    (want_of_memory (seen_as c.self.inside.session.now c.self.inside.jobs) c.args.worker c.in-Some.next
+    (found c.self.inside.session.now c.self.inside.jobs c.self.inside.shelf c.self.invariant c.args.worker c.in-Ok.given c.in-Some.next c.in-Some.is c.in-Ok.ensures.given c.in-Ok.ensures.picked c.in-Ok.ensures.place))
+
+pub returns-clause-ok : goal.returns-clause-ok
+returns-clause-ok c =
+    let is = found c.self.inside.session.now c.self.inside.jobs c.self.inside.shelf c.self.invariant c.args.worker c.in-Ok.given c.in-Some.next c.in-Some.is c.in-Ok.ensures.given c.in-Ok.ensures.picked c.in-Ok.ensures.place in
+    let job : c.held.inside.job ≡ job_next c.in-Some.next = ap (λ (h : Held). h.job) c.held.view_is ∙ c.held_next-held.ensures.job in
+    let step : c.held.inside.step ≡ step_next c.in-Some.next = ap (λ (h : Held). h.step) c.held.view_is ∙ c.held_next-held.ensures.step in
+    let made = subst (λ (k : Shelved). IsTaskAt k.game c.held.inside.job c.held.inside.step c.in-Ok-task.task) c.self.invariant.shelf_is c.in-Ok-task.ensures in
+    let task = subst (λ k. IsTaskAt c.self.inside.session.now (job_next c.in-Some.next) k c.in-Ok-task.task) step (subst (λ j. IsTaskAt c.self.inside.session.now j c.held.inside.step c.in-Ok-task.task) job made) in
+    is_taken c.args.self.now c.take_up.new.self c.args.worker c.in-Some.next c.in-Ok-task.task (subst (λ b. IsFound b c.args.worker c.in-Some.next) c.self.view_is is)
+    (subst (λ (b : Played). IsTaskAt b.game (job_next c.in-Some.next) (step_next c.in-Some.next) c.in-Ok-task.task) c.self.view_is task) c.in-Ok-take_up.ensures.ok

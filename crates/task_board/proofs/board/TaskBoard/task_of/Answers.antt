@@ -7,5 +7,5 @@ use Rattle.task_board.proofs.board.TaskBoard.task_of.Goals as goal
 pub task-requires : goal.task-requires
 task-requires c = task_there c.self.inside.session.now c.self.inside.jobs c.self.inside.shelf c.self.invariant c.args.job c.args.step (rw (← c.self.view_is) at c.requires)
 
-pub returns : goal.returns
-returns c = rw (← c.self.view_is) (subst (λ (k : Shelved). IsTaskAt k.game c.args.job c.args.step c.in-Ok.task) c.self.invariant.shelf_is c.in-Ok.ensures)
+pub returns-in-Ok : goal.returns-in-Ok
+returns-in-Ok c = rw (← c.self.view_is) (subst (λ (k : Shelved). IsTaskAt k.game c.args.job c.args.step c.in-Ok.task) c.self.invariant.shelf_is c.in-Ok.ensures)

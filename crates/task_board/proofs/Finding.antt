@@ -1,0 +1,58 @@
+-- What a worker is found to do next may be taken up, and is taken by its event.
+use Rattle.std.proofs.Common.{◌≡◌, ℕ, Ok, Option, Some, option_map, refl, sym, subst, inl, inr}
+use Rattle.game_rules.specs.Game.{Game}
+use Rattle.job_core.specs.Core.{IsLegalList}
+use Rattle.board_law.specs.Lists.{first_place}
+use Rattle.board_law.specs.Board.{holds}
+use Rattle.board_law.specs.Pick.{Ready, New, given}
+use Rattle.frame_tasks.specs.Tasks.{IsTaskAt}
+use Rattle.frame_tasks.specs.declared.task.Task.{Task}
+use Rattle.job_log.specs.Logged.{Logged, setup_of, kept}
+use Rattle.job_log.specs.Looks.{Always, IsGivenTo, IsPlace, as_pick}
+use Rattle.job_log.specs.declared.next.Next.{Next}
+use Rattle.job_log.specs.declared.next.Next.TheVariants as next
+use Rattle.job_log.specs.declared.fault.BoardFault.TheVariants.{OutOfMemory}
+use Rattle.job_shelf.specs.Shelf.{Shelved}
+use Rattle.task_board.specs.Boards.{Played, Happens, IsBoard, IsTaken, IsTakeRefused}
+use Rattle.task_board.specs.Found.{IsFound, event_of, job_next, step_next}
+use Rattle.task_board.specs.Given.{MayBeTakenUp}
+use Rattle.task_board.proofs.Boarding.{known, known_of, seen_as, starts, resumes}
+
+module _ (g : Game) (jobs : Logged) (shelf : Shelved) (k : IsBoard (seen_as g jobs) jobs shelf) where
+  of_next : (w : ℕ) (n : Next) → Always jobs (IsGivenTo w (Ok (Some n)))
+      → ((q : ℕ → ℕ → ℕ) → IsLegalList (setup_of jobs q) jobs.events → option_map as_pick (Some n) ≡ given (kept jobs q))
+      → ((q : ℕ → ℕ → ℕ) → IsLegalList (setup_of jobs q) jobs.events → IsPlace (kept jobs q) (Some n)) → IsFound (seen_as g jobs) w n
+  of_next w (next.Start j) told picked place =
+      record {
+        legal = known g jobs shelf k (IsGivenTo w (Ok (Some (next.Start j)))) told;
+        picked = sym (known_of g jobs shelf k (λ v q. Some (New j) ≡ given (kept v q)) picked);
+      }
+  of_next w (next.Resume fiber held) told picked place =
+      let is = known g jobs shelf k (IsGivenTo w (Ok (Some (next.Resume fiber held)))) told in
+      record {
+        legal = is.0;
+        stands = is.1;
+        picked = sym (known_of g jobs shelf k (λ v q. Some (Ready fiber) ≡ given (kept v q)) picked);
+        holder = known_of g jobs shelf k (λ v q. first_place (holds held.job) (kept v q).seats.jobs ≡ fiber) place;
+      }
+
+  -- what the jobs give is found
+  pub found : (w : ℕ) (o : Option Next) (n : Next) → o ≡ Some n → Always jobs (IsGivenTo w (Ok o))
+      → ((q : ℕ → ℕ → ℕ) → IsLegalList (setup_of jobs q) jobs.events → option_map as_pick o ≡ given (kept jobs q))
+      → ((q : ℕ → ℕ → ℕ) → IsLegalList (setup_of jobs q) jobs.events → IsPlace (kept jobs q) o) → IsFound (seen_as g jobs) w n
+  found w o n is told picked place =
+      of_next w n (subst (λ x. Always jobs (IsGivenTo w (Ok x))) is told)
+      (subst (λ x. (q : ℕ → ℕ → ℕ) → IsLegalList (setup_of jobs q) jobs.events → option_map as_pick x ≡ given (kept jobs q)) is picked)
+      (subst (λ x. (q : ℕ → ℕ → ℕ) → IsLegalList (setup_of jobs q) jobs.events → IsPlace (kept jobs q) x) is place)
+
+pub may_be_taken_up : (b : Played) (w : ℕ) (n : Next) → IsFound b w n → MayBeTakenUp b (job_next n) (step_next n)
+may_be_taken_up b w (next.Start j) f = (w, inl (f.legal, refl))
+may_be_taken_up b w (next.Resume fiber held) f = (w, inr (f.legal, f.stands))
+
+pub want_of_memory : (b : Played) (w : ℕ) (n : Next) → IsFound b w n → IsTakeRefused b w OutOfMemory
+want_of_memory b w (next.Start j) f = (j, inl f.legal)
+want_of_memory b w (next.Resume fiber held) f = (held.job, inr f.legal)
+
+pub is_taken : (old new : Played) (w : ℕ) (n : Next) (task : Task) → IsFound old w n → IsTaskAt old.game (job_next n) (step_next n) task → Happens old new (event_of w n) → IsTaken old new w (Some task)
+is_taken old new w (next.Start j) task f t h = inl (starts old new w j task f t h.logged)
+is_taken old new w (next.Resume fiber held) task f t h = inr (resumes old new w fiber held task f t h.logged)
