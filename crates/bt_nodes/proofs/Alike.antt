@@ -1,6 +1,6 @@
 -- A tree is settled by its root's kind, the number that stands in it, and what stands below it.
 use Rattle.std.proofs.Common.{◌≡◌, ◌≢◌, map, take, ℕ, zero, suc, ◌+◌, ◌<◌, ◌≤◌, List, [], ◌∷◌, length, get_or, Option, Some, None, refl, sym, ap, ◌∙◌, arith, unwrap_or}
-use Rattle.bt_nodes.specs.Plain.{Sequence, Fallback, TakeItem, DropItem, AtPlace, Carries, OnItem, SignalOn, NearOther, Plain, Composite, CompositeStar, Parallel, Invert, Tries, Ticks, Wait, MoveTo, Does, Forest, none, forest_of, plain, plains}
+use Rattle.bt_nodes.specs.Plain.{Sequence, Fallback, TakeItem, DropItem, AtPlace, Carries, OnItem, SignalOn, NearOther, GivesTo, Plain, Composite, CompositeStar, Parallel, Invert, Tries, Ticks, Wait, MoveTo, Does, Forest, none, forest_of, plain, plains}
 use Rattle.std.proofs.lemmas.List.{take_more, take_all}
 use Rattle.bt_nodes.specs.Sizes.{size, sizes, count}
 use Rattle.bt_nodes.specs.Heads.{kind_of, number_of, listed, decorated}
@@ -27,6 +27,7 @@ built kind.Carrying n cs c = Does Carries
 built kind.Item n cs c = Does OnItem
 built kind.Signal n cs c = Does (SignalOn (unwrap_or n 0))
 built kind.Near n cs c = Does (NearOther (unwrap_or n 0))
+built kind.Give n cs c = Does (GivesTo (unwrap_or n 0))
 
 again : (p : Plain) → built (kind_of p) (number_of p) (listed p) (decorated p) ≡ p
 again (Composite Sequence cs) = refl
@@ -46,6 +47,7 @@ again (Does Carries) = refl
 again (Does OnItem) = refl
 again (Does (SignalOn a)) = refl
 again (Does (NearOther n)) = refl
+again (Does (GivesTo b)) = refl
 
 pub same_tree : (p q : Plain) → kind_of p ≡ kind_of q → number_of p ≡ number_of q → listed p ≡ listed q → decorated p ≡ decorated q → p ≡ q
 same_tree p q k n l d =

@@ -1,6 +1,6 @@
 -- The root of a tree: its kind, the number that stands in it, and what stands below it. They say which tree it is.
 use Rattle.std.specs.Prelude.{ℕ, Bool, true, false, Option, Some, None}
-use Rattle.bt_nodes.specs.Plain.{Sequence, Fallback, Leaf, TakeItem, DropItem, AtPlace, Carries, OnItem, SignalOn, NearOther, Plain, Composite, CompositeStar, Parallel, Invert, Tries, Ticks, Wait, MoveTo, Does, Forest, none}
+use Rattle.bt_nodes.specs.Plain.{Sequence, Fallback, Leaf, TakeItem, DropItem, AtPlace, Carries, OnItem, SignalOn, NearOther, GivesTo, Plain, Composite, CompositeStar, Parallel, Invert, Tries, Ticks, Wait, MoveTo, Does, Forest, none}
 use Rattle.bt_nodes.specs.Sizes.{count}
 use Rattle.bt_nodes.specs.Limits.{has_tree, is_threshold, is_count, has_distance}
 use Rattle.bt_nodes.specs.declared.kind.NodeKind.{NodeKind}
@@ -14,6 +14,7 @@ leaf_kind Carries = kind.Carrying
 leaf_kind OnItem = kind.Item
 leaf_kind (SignalOn a) = kind.Signal
 leaf_kind (NearOther n) = kind.Near
+leaf_kind (GivesTo b) = kind.Give
 
 abbrev pub kind_of : Plain → NodeKind
 kind_of (Composite Sequence children) = kind.Seq
@@ -36,6 +37,7 @@ leaf_number Carries = None
 leaf_number OnItem = None
 leaf_number (SignalOn a) = Some a
 leaf_number (NearOther n) = Some n
+leaf_number (GivesTo b) = Some b
 
 abbrev pub number_of : Plain → Option ℕ
 number_of (Composite kind children) = None

@@ -1,7 +1,7 @@
 -- The limits of a tree, and the first one that a tree breaks.
 use Rattle.std.specs.Prelude.{ℕ, Bool, true, false, ◌&&◌, nat_le, nat_lt, if◌then◌else◌, Option, Some, None}
 use Rattle.bt_nodes.specs.Plain.{Plain, Composite, CompositeStar, Parallel, Invert, Tries, Ticks, Wait, MoveTo, Does}
-use Rattle.bt_nodes.specs.Plain.{Leaf, TakeItem, DropItem, AtPlace, Carries, OnItem, SignalOn, NearOther, Forest, none, tree}
+use Rattle.bt_nodes.specs.Plain.{Leaf, TakeItem, DropItem, AtPlace, Carries, OnItem, SignalOn, NearOther, GivesTo, Forest, none, tree}
 use Rattle.bt_nodes.specs.Sizes.{size, depth, count}
 use Rattle.bt_nodes.specs.declared.fault.TreeFault.{TreeFault}
 use Rattle.bt_nodes.specs.declared.fault.TreeFault.TheVariants.{TooManyNodes, TooDeep, NoChild, Threshold, Count}
@@ -59,6 +59,7 @@ has_distance Carries = true
 has_distance OnItem = true
 has_distance (SignalOn a) = true
 has_distance (NearOther n) = nat_le 1 n && nat_le n 16
+has_distance (GivesTo b) = true
 
 -- each number of ticks is from 1 to 1000, and each distance from 1 to 16
 abbrev mutual

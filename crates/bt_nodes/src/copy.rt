@@ -84,6 +84,7 @@ impl<A: Allocator> Node<A> {
             Node::Item => Node::Item,
             Node::Signal(signal) => Node::Signal(*signal),
             Node::Near(distance) => Node::Near(*distance),
+            Node::Give(letter) => Node::Give(*letter),
             _ => unreachable!(),
         }
     }

@@ -29,10 +29,11 @@ impl<A: Allocator> Node<A> {
             Node::Item => NodeKind::Item,
             Node::Signal(_) => NodeKind::Signal,
             Node::Near(_) => NodeKind::Near,
+            Node::Give(_) => NodeKind::Give,
         }
     }
 
-    // The number that stands in a node: a threshold, ticks, a place, a signal or a distance.
+    // The number that stands in a node: a threshold, ticks, a place, a signal, a distance or an agent.
     pub(crate) fn number(&self) -> Option<u64>
         ensures { result ≡ number_of (plain self.now) }
     {
@@ -44,7 +45,16 @@ impl<A: Allocator> Node<A> {
             | Node::Near(number) => Some(*number),
             Node::Move(place) | Node::At(place) => Some(u64::from(place.number())),
             Node::Signal(signal) => Some(u64::from(signal.number())),
-            _ => None,
+            Node::Give(letter) => Some(u64::from(letter.number())),
+            Node::Seq(_)
+            | Node::Fallback(_)
+            | Node::SeqStar(_)
+            | Node::FallbackStar(_)
+            | Node::Not(_)
+            | Node::Take
+            | Node::Drop
+            | Node::Carrying
+            | Node::Item => None,
         }
     }
 

@@ -18,4 +18,5 @@ pub(crate) enum NodeKind {
     Item,
     Signal,
     Near,
+    Give,
 }

@@ -3,12 +3,12 @@ use Rattle.std.proofs.Common.{◌≡◌, ℕ, zero, suc, ◌+◌, List, [], ◌�
 use Rattle.std.specs.Prelude.{if◌then◌else◌}
 use Rattle.grid_world.specs.declared.cell.Answer.{Answer}
 use Rattle.grid_world.specs.declared.cell.Answer.TheVariants.{Here, NoWay, Step}
-use Rattle.grid_world.specs.declared.cell.Intent.TheVariants.{Take, Drop}
+use Rattle.grid_world.specs.declared.cell.Intent.TheVariants.{Take, Drop, Give}
 use Rattle.bt_nodes.specs.declared.node.Status.{Status}
 use Rattle.bt_nodes.specs.declared.node.Status.TheVariants.{Success, Failure, Running}
-use Rattle.bt_nodes.specs.Plain.{Kind, Sequence, Fallback, Leaf, TakeItem, DropItem, AtPlace, Carries, OnItem, SignalOn, NearOther, Plain, Composite, CompositeStar, Parallel, Invert, Tries, Ticks, Wait, MoveTo, Does, Forest, none, tree}
+use Rattle.bt_nodes.specs.Plain.{Kind, Sequence, Fallback, Leaf, TakeItem, DropItem, AtPlace, Carries, OnItem, SignalOn, NearOther, GivesTo, Plain, Composite, CompositeStar, Parallel, Invert, Tries, Ticks, Wait, MoveTo, Does, Forest, none, tree}
 use Rattle.bt_nodes.specs.Sizes.{size, count}
-use Rattle.game_rules.specs.View.{View, carries, is_on_item, stands_on, has_signal, is_near}
+use Rattle.game_rules.specs.View.{View, carries, is_on_item, stands_on, has_signal, is_near, can_give}
 use Rattle.game_rules.specs.Tick.{Reply, Gives, Stands, State, Result, gives, on, on_reply, number_of, put, want, follow, ask, test, does, stops, on_kind, tick, tick_line, tick_star, tick_all}
 use Rattle.bt_tick.specs.Children.{from_child, child_number}
 use Rattle.bt_tick.specs.Suspended.{Open, go_on, close_at, close, unwind, before, after}
@@ -62,6 +62,7 @@ module _ (ps : List ℕ) where
   does_carries OnItem v s = test_carries (is_on_item v) s
   does_carries (SignalOn a) v s = test_carries (has_signal v a) s
   does_carries (NearOther n) v s = test_carries (is_near v n) s
+  does_carries (GivesTo b) v s = if_carries (can_give v b) (λ t. gives Running (want (Give b) t)) (gives Failure) s refl refl
 
   module _ (v : View) where
     mutual

@@ -3,13 +3,13 @@ use Rattle.std.proofs.Common.{◌≡◌, ℕ, ◌+◌, ◌*◌, ◌<◌, ◌≤�
 use Rattle.std.specs.Prelude.{if◌then◌else◌}
 use Rattle.std.proofs.lemmas.Bool.Decides.{nat_tests}
 use Rattle.grid_world.specs.declared.cell.Intent.{Intent}
-use Rattle.grid_world.specs.declared.cell.Intent.TheVariants.{Take, Drop}
-use Rattle.bt_nodes.specs.declared.node.Node.{Wait as WaitNode, Take as TakeNode, Drop as DropNode, At, Carrying, Item, Signal, Near, the_lemmas}
+use Rattle.grid_world.specs.declared.cell.Intent.TheVariants.{Take, Drop, Give}
+use Rattle.bt_nodes.specs.declared.node.Node.{Wait as WaitNode, Take as TakeNode, Drop as DropNode, At, Carrying, Item, Signal, Near, Give as GiveNode, the_lemmas}
 use Rattle.bt_nodes.specs.declared.node.Status.{Status}
 use Rattle.bt_nodes.specs.declared.node.Status.TheVariants.{Success, Failure, Running}
-use Rattle.bt_nodes.specs.Plain.{Plain, Kind, Leaf, Composite, Invert, Tries, Ticks, Wait, Does, Forest, TakeItem, DropItem, AtPlace, Carries, OnItem, SignalOn, NearOther, plain}
+use Rattle.bt_nodes.specs.Plain.{Plain, Kind, Leaf, Composite, Invert, Tries, Ticks, Wait, Does, Forest, TakeItem, DropItem, AtPlace, Carries, OnItem, SignalOn, NearOther, GivesTo, plain}
 use Rattle.bt_nodes.specs.Sizes.{size}
-use Rattle.game_rules.specs.View.{View, carries, is_on_item}
+use Rattle.game_rules.specs.View.{View, carries, is_on_item, can_give}
 use Rattle.game_rules.specs.Tick.{State, gives, put, want, number_of, test, does, tick}
 use Rattle.bt_tick.specs.Conditions.{Tests}
 use Rattle.bt_tick.specs.Suspended.{Open, go_on, close_at, unwind}
@@ -43,6 +43,9 @@ plain-Signal A a = search (rules, the_lemmas)
 
 pub plain-Near : (A : Type 0) (n : ℕ) → plain {A = A} (Near n) ≡ Does (NearOther n)
 plain-Near A n = search (rules, the_lemmas)
+
+pub plain-Give : (A : Type 0) (b : ℕ) → plain {A = A} (GiveNode b) ≡ Does (GivesTo b)
+plain-Give A b = search (rules, the_lemmas)
 
 -- ---- what a node with this number does
 
@@ -112,6 +115,10 @@ module _ (v : View) (p : Plain) (n : ℕ) (s : State) where
 
   pub drops_none : p ≡ Does DropItem → false ≡ carries v → gives Failure s ≡ tick v p n s
   drops_none is a = drops false (is_on_item v) is a refl
+
+  pub hands_over : (b : ℕ) (may : Bool) → p ≡ Does (GivesTo b) → may ≡ can_give v b
+      → (if may then gives Running (want (Give b) s) else gives Failure s) ≡ tick v p n s
+  hands_over b may is a = ap (λ x. if x then gives Running (want (Give b) s) else gives Failure s) a ∙ ticks_as (Does (GivesTo b)) is
 
   -- a condition
   pub answers : (b : Bool) (st : Status) → Tests v p b → st ≡ (if b then Success else Failure) → gives st s ≡ tick v p n s

@@ -118,6 +118,14 @@ impl<'t, T: Allocator, A: Allocator + Clone> Machine<'t, T, A> {
                 self.want(Intent::Drop)?;
                 Ok(Mode::Up(Status::Running, after))
             }
+            Node::Give(letter) => {
+                let agent = letter.number();
+                if !view.can_give(agent) {
+                    return Ok(Mode::Up(Status::Failure, after));
+                }
+                self.want(Intent::Give(agent))?;
+                Ok(Mode::Up(Status::Running, after))
+            }
             Node::Par(_, _)
             | Node::At(_)
             | Node::Carrying

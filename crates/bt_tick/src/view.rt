@@ -1,7 +1,7 @@
-ghost use Rattle.std.specs.Prelude.{◌≡◌, ◌+◌, ◌<◌};
-ghost use Rattle.grid_world.specs.Grid.{is_spot};
+ghost use Rattle.std.specs.Prelude.{◌≡◌, ◌<◌};
+ghost use Rattle.grid_world.specs.Grid.{is_spot, steps_between};
 ghost use Rattle.grid_world.specs.World.{IsStanding};
-ghost use Rattle.game_rules.specs.View.{self_of, gap};
+ghost use Rattle.game_rules.specs.View.{self_of};
 
 use crate::nearest::Nearest;
 use grid_world::{Agent, Cell, Place, Signal, Signals, World};
@@ -16,7 +16,7 @@ pub struct View<'w> {
 
 // How many columns and rows lie between two agents.
 fn distance(a: Agent, b: Agent) -> u64
-    ensures { result ≡ gap a.x b.x + gap a.y b.y }
+    ensures { result ≡ steps_between a b }
 {
     u64::from(a.x.abs_diff(b.x)) + u64::from(a.y.abs_diff(b.y))
 }
@@ -32,7 +32,7 @@ fn is_spot(place: Place, cell: Cell) -> bool
 
 impl View<'_> {
     ghost use Rattle.bt_tick.specs.Views.{view_of, IsInWorld, Tells};
-    ghost use Rattle.game_rules.specs.View.{carries, is_on_item, stands_on, has_signal};
+    ghost use Rattle.game_rules.specs.View.{carries, is_on_item, stands_on, has_signal, can_give};
 
     fn itself(&self) -> Agent
         requires { IsInWorld self.now }
@@ -72,6 +72,20 @@ impl View<'_> {
         ensures { result ≡ has_signal (view_of self.now) signal }
     {
         self.signals.is_on(signal)
+    }
+
+    // Whether the agent carries an item, and the agent with this number stands one step away with empty hands.
+    pub(crate) fn can_give(&self, agent: u32) -> bool
+        requires { IsInWorld self.now }
+        ensures { result ≡ can_give (view_of self.now) agent }
+    {
+        let me = self.itself();
+        let others = self.world.agents();
+        if agent as usize >= others.len() {
+            return false;
+        }
+        let other = others[agent as usize];
+        me.carrying && !other.carrying && distance(me, other) == 1
     }
 
     // How far away the nearest other agent is.

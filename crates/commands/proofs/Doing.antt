@@ -37,6 +37,7 @@ above_zero faults.AgentCount = omega arith
 above_zero (faults.BadTree name limit) = omega arith
 above_zero (faults.NoTree letter) = omega arith
 above_zero (faults.NoPlace name) = omega arith
+above_zero (faults.NoAgent name) = omega arith
 above_zero (faults.ScriptLine n) = omega arith
 above_zero (faults.ScriptOrder n) = omega arith
 above_zero faults.LogHead = omega arith

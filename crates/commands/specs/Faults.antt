@@ -13,7 +13,7 @@ use Rattle.run_fault.specs.declared.fault.Cause.TheVariants as causes
 use Rattle.play_run.specs.declared.fault.PlayFault.{PlayFault}
 use Rattle.play_run.specs.declared.fault.PlayFault.TheVariants.{Level, Script, Run}
 use Rattle.commands.specs.declared.faults.Fault.{Fault}
-use Rattle.commands.specs.declared.faults.Fault.TheVariants.{File, StandardInput, Json, Shape, MapSize, MapChar, Letters, AgentCount, BadTree, NoTree, NoPlace, ScriptLine, ScriptOrder, LogHead, LogLine, Write, Spawn, GateClosed, Stranger, OutOfMemory}
+use Rattle.commands.specs.declared.faults.Fault.TheVariants.{File, StandardInput, Json, Shape, MapSize, MapChar, Letters, AgentCount, BadTree, NoTree, NoPlace, NoAgent, ScriptLine, ScriptOrder, LogHead, LogLine, Write, Spawn, GateClosed, Stranger, OutOfMemory}
 use Rattle.play_run.specs.Games.{spelled_game}
 
 -- a file or a write failed; refused words or files; want of memory, or the run failed otherwise
@@ -45,6 +45,7 @@ IsOfLevel (levels.BadTree name why) _ = ⊥
 IsOfLevel (levels.NoTree agent) (NoTree letter) = agent < 26 → letter ≡ agent + 65
 IsOfLevel (levels.NoTree agent) _ = ⊥
 IsOfLevel (levels.NoPlace name) fault = fault ≡ NoPlace name
+IsOfLevel (levels.NoAgent name) fault = fault ≡ NoAgent name
 
 abbrev pub IsOfScript : ScriptFault → Fault → Type 0
 IsOfScript scripts.OutOfMemory fault = fault ≡ OutOfMemory

@@ -46,6 +46,7 @@ impl From<LevelFault> for Fault {
                 letter: letter_of(agent),
             },
             LevelFault::NoPlace { name } => Fault::NoPlace { name },
+            LevelFault::NoAgent { name } => Fault::NoAgent { name },
         }
     }
 }

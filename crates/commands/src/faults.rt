@@ -31,6 +31,8 @@ pub enum Fault {
     NoTree { letter: char },
     #[error("level: tree {name} names a place that is not on the map")]
     NoPlace { name: String },
+    #[error("level: tree {name} names an agent that is not on the map")]
+    NoAgent { name: String },
     #[error("script: line {0}")]
     ScriptLine(u64),
     #[error("script: order at line {0}")]

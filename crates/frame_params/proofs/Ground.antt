@@ -7,10 +7,10 @@ use Rattle.grid_world.specs.Ground.{bare}
 use Rattle.grid_world.specs.Way.{way, way_to}
 use Rattle.grid_world.specs.declared.cell.Answer.TheVariants.{NoWay}
 use Rattle.grid_world.specs.declared.cell.Intent.{Intent}
-use Rattle.grid_world.specs.declared.cell.Intent.TheVariants.{Stay, Move, Take, Drop}
+use Rattle.grid_world.specs.declared.cell.Intent.TheVariants.{Stay, Move, Take, Drop, Give}
 use Rattle.grid_world.specs.Open.{is_open}
 use Rattle.grid_world.specs.Walks.{next}
-use Rattle.grid_world.specs.Intents.{apply, apply_all, moved, handed, with_agent}
+use Rattle.grid_world.specs.Intents.{apply, apply_all, moved, handed, loaded, given, may_give, with_agent}
 use Rattle.game_rules.specs.Game.{Game, signals}
 use Rattle.game_rules.specs.Play.{play, thoughts}
 use Rattle.frame_params.specs.Contents.{world_after}
@@ -41,11 +41,19 @@ handed_ground : (g : Grid) (a : ℕ) (carrying : Bool) → SameGround g (handed 
 handed_ground g a carrying =
     record { width = refl; height = refl; cells = refl; agents = length-set g.agents a (record (agent_of g a) { carrying = carrying }) }
 
+loaded_ground : (g : Grid) (a : ℕ) (carrying : Bool) → SameGround g (loaded g a carrying)
+loaded_ground g a carrying =
+    record { width = refl; height = refl; cells = refl; agents = length-set g.agents a (record (agent_of g a) { carrying = carrying }) }
+
+given_ground : (g : Grid) (a b : ℕ) → SameGround g (given g a b)
+given_ground g a b = onward g (loaded g a false) (given g a b) (loaded_ground g a false) (loaded_ground (loaded g a false) b true)
+
 apply_ground : (g : Grid) (on : List Bool) (a : ℕ) (i : Intent) → SameGround g (apply g on a i)
 apply_ground g on a Stay = same g
 apply_ground g on a (Move d) = moved_ground g on a (next d (point_of (agent_of g a)))
 apply_ground g on a Take = chosen (not (agent_of g a).carrying && has_item g (point_of (agent_of g a))) g (handed g a true) g (handed_ground g a true) (same g)
 apply_ground g on a Drop = chosen ((agent_of g a).carrying && not (has_item g (point_of (agent_of g a)))) g (handed g a false) g (handed_ground g a false) (same g)
+apply_ground g on a (Give b) = chosen (may_give g a b) g (given g a b) g (given_ground g a b) (same g)
 
 apply_all_ground : (g : Grid) (on : List Bool) (a : ℕ) (is : List Intent) → SameGround g (apply_all g on a is)
 apply_all_ground g on a [] = same g

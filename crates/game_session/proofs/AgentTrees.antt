@@ -9,7 +9,8 @@ use Rattle.grid_world.specs.Grid.{Grid}
 use Rattle.bt_nodes.specs.Plain.{Does, Carries}
 use Rattle.game_session.specs.Parts.{NamedPlain, Parts}
 use Rattle.game_session.specs.Places.{places, has_place}
-use Rattle.game_session.specs.Faults.{is_named, agent_fault, place_fault, parts_fault, world_of}
+use Rattle.game_session.specs.Agents.{agents, has_agent}
+use Rattle.game_session.specs.Faults.{is_named, agent_fault, place_fault, crew_fault, parts_fault, world_of}
 use Rattle.game_session.specs.Kept.{index_of}
 use Rattle.game_session.specs.Levels.{tree_named, agent_trees}
 use Rattle.game_session.proofs.Faultless.{passes, faultless}
@@ -37,6 +38,12 @@ tree_is_placed g [] k d none h = absurd (omega arith)
 tree_is_placed g (t ∷ ts) zero d none h = (passes (list_all (has_place g) (places t.tree)) _ _ none).0
 tree_is_placed g (t ∷ ts) (suc k) d none h = tree_is_placed g ts k d (passes (list_all (has_place g) (places t.tree)) _ _ none).1 (omega arith)
 
+-- each tree's agents are on the map
+pub tree_is_crewed : (g : Grid) (ts : List NamedPlain) (k : ℕ) (d : NamedPlain) → crew_fault g ts ≡ None → k < length ts → list_all (has_agent g) (agents (get_or ts k d).tree) ≡ true
+tree_is_crewed g [] k d none h = absurd (omega arith)
+tree_is_crewed g (t ∷ ts) zero d none h = (passes (list_all (has_agent g) (agents t.tree)) _ _ none).0
+tree_is_crewed g (t ∷ ts) (suc k) d none h = tree_is_crewed g ts k d (passes (list_all (has_agent g) (agents t.tree)) _ _ none).1 (omega arith)
+
 module _ (parts : Parts) (picks : List ℕ) (none : parts_fault parts ≡ None) (picked : picks ≡ map (index_of parts.trees) parts.names)
     (k : ℕ) (h : k < length (agent_trees parts)) where
   is_agent : k < length parts.names
@@ -58,3 +65,6 @@ module _ (parts : Parts) (picks : List ℕ) (none : parts_fault parts ≡ None) 
 
   pub picked_is_placed : (i : ℕ) (t : NamedPlain) → list_all (has_place (world_of parts)) (places (get_or parts.trees (get_or picks k i) t).tree) ≡ true
   picked_is_placed i t = tree_is_placed (world_of parts) parts.trees (get_or picks k i) t (faultless parts none).places (pick_is_within i)
+
+  pub picked_is_crewed : (i : ℕ) (t : NamedPlain) → list_all (has_agent (world_of parts)) (agents (get_or parts.trees (get_or picks k i) t).tree) ≡ true
+  picked_is_crewed i t = tree_is_crewed (world_of parts) parts.trees (get_or picks k i) t (faultless parts none).crew (pick_is_within i)

@@ -12,6 +12,7 @@ use Rattle.bt_nodes.specs.Limits.{tree_fault}
 use Rattle.bt_nodes.specs.declared.fault.TreeFault.{TreeFault}
 use Rattle.game_session.specs.Parts.{Parts, NamedPlain}
 use Rattle.game_session.specs.Places.{places, has_place}
+use Rattle.game_session.specs.Agents.{agents, has_agent}
 
 -- names are the bytes of a text; agents count from 0
 pub data Fault : Type 0 where
@@ -24,6 +25,7 @@ pub data Fault : Type 0 where
   bad_tree : List ℕ → TreeFault → Fault
   no_tree : ℕ → Fault
   no_place : List ℕ → Fault
+  no_agent : List ℕ → Fault
 
 -- want of memory is no fault of a level
 abbrev pub fault_of_map : MapFault → Option Fault
@@ -62,6 +64,11 @@ abbrev pub place_fault : Grid → List NamedPlain → Option Fault
 place_fault g [] = None
 place_fault g (t ∷ ts) = if list_all (has_place g) (places t.tree) then place_fault g ts else Some (no_place t.name)
 
+-- the first tree that names an agent that is not on the map, used by an agent or not
+abbrev pub crew_fault : Grid → List NamedPlain → Option Fault
+crew_fault g [] = None
+crew_fault g (t ∷ ts) = if list_all (has_agent g) (agents t.tree) then crew_fault g ts else Some (no_agent t.name)
+
 -- each kind of fault is looked for in the whole file before the next
 abbrev pub parts_fault : Parts → Option Fault
 parts_fault parts =
@@ -69,4 +76,5 @@ parts_fault parts =
     (option_or (count_fault parts)
     (option_or (limit_fault parts.trees)
     (option_or (agent_fault 0 parts.names parts.trees)
-    (place_fault (world_of parts) parts.trees))))
+    (option_or (place_fault (world_of parts) parts.trees)
+    (crew_fault (world_of parts) parts.trees)))))

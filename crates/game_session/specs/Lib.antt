@@ -1,5 +1,6 @@
 pub mod Parts
 pub mod Places
+pub mod Agents
 pub mod Names
 pub mod Faults
 pub mod Kept

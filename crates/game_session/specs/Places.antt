@@ -1,7 +1,7 @@
 -- The places that a tree names.
 use Rattle.std.specs.Prelude.{ℕ, List, [], ◌∷◌, ◌++◌, Bool, is_some}
 use Rattle.grid_world.specs.Grid.{Grid, place_of}
-use Rattle.bt_nodes.specs.Plain.{Plain, Composite, CompositeStar, Parallel, Invert, Tries, Ticks, Wait, MoveTo, Does, Leaf, TakeItem, DropItem, AtPlace, Carries, OnItem, SignalOn, NearOther, Forest, none, tree}
+use Rattle.bt_nodes.specs.Plain.{Plain, Composite, CompositeStar, Parallel, Invert, Tries, Ticks, Wait, MoveTo, Does, Leaf, TakeItem, DropItem, AtPlace, Carries, OnItem, SignalOn, NearOther, GivesTo, Forest, none, tree}
 
 abbrev pub leaf_places : Leaf → List ℕ
 leaf_places TakeItem = []
@@ -11,6 +11,7 @@ leaf_places Carries = []
 leaf_places OnItem = []
 leaf_places (SignalOn a) = []
 leaf_places (NearOther n) = []
+leaf_places (GivesTo b) = []
 
 abbrev mutual
   pub places : Plain → List ℕ

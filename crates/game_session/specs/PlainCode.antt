@@ -2,7 +2,7 @@
 use Rattle.std.specs.Prelude.{◌≡◌, ℕ, ◌==◌, if◌then◌else◌, List, [], ◌∷◌, refl}
 use Rattle.std.proofs.Common.{ap, ◌∙◌}
 use Rattle.std.specs.Coded.{Coded, code_by, coded×, coded_ℕ, coded_list}
-use Rattle.bt_nodes.specs.Plain.{Kind, Sequence, Fallback, Leaf, TakeItem, DropItem, AtPlace, Carries, OnItem, SignalOn, NearOther, Plain, Composite, CompositeStar, Parallel, Invert, Tries, Ticks, Wait, MoveTo, Does, Forest, none, tree}
+use Rattle.bt_nodes.specs.Plain.{Kind, Sequence, Fallback, Leaf, TakeItem, DropItem, AtPlace, Carries, OnItem, SignalOn, NearOther, GivesTo, Plain, Composite, CompositeStar, Parallel, Invert, Tries, Ticks, Wait, MoveTo, Does, Forest, none, tree}
 
 abbrev Token : Type 0
 Token = ℕ × ℕ
@@ -25,6 +25,7 @@ leaf_token Carries = (13, 0)
 leaf_token OnItem = (14, 0)
 leaf_token (SignalOn a) = (15, a)
 leaf_token (NearOther n) = (16, n)
+leaf_token (GivesTo b) = (19, b)
 
 -- in front of what follows
 abbrev mutual
@@ -72,7 +73,7 @@ child (p ∷ trees) (cs ∷ lists) s = record { trees = trees; lists = tree p cs
 abbrev leaf_at : ℕ → ℕ → Leaf
 leaf_at t n =
     if t == 10 then TakeItem else (if t == 11 then DropItem else (if t == 12 then AtPlace n else (if t == 13 then Carries else
-    (if t == 14 then OnItem else (if t == 15 then SignalOn n else NearOther n)))))
+    (if t == 14 then OnItem else (if t == 15 then SignalOn n else (if t == 16 then NearOther n else GivesTo n))))))
 
 abbrev after_token : ℕ → ℕ → Waiting → Waiting
 after_token t n s =
@@ -102,6 +103,7 @@ leaf_again Carries rest s = refl
 leaf_again OnItem rest s = refl
 leaf_again (SignalOn a) rest s = refl
 leaf_again (NearOther n) rest s = refl
+leaf_again (GivesTo b) rest s = refl
 
 mutual
   read-written : (p : Plain) (rest : List Token) (s : Waiting) → read (written p rest) s ≡ read rest (with_tree p s)

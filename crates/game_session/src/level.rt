@@ -6,6 +6,7 @@ ghost use Rattle.game_session.specs.Faults.{parts_fault, world_of};
 ghost use Rattle.game_session.specs.Kept.{kept, index_of, texts_view, trees_view};
 ghost use Rattle.game_session.specs.Names.{is_in_order, names_of};
 ghost use Rattle.game_session.specs.Places.{places, has_place};
+ghost use Rattle.game_session.specs.Agents.{agents, has_agent};
 
 use crate::named_tree::NamedTree;
 use bt_nodes::Tree;
@@ -13,7 +14,7 @@ use grid_world::World;
 use std::alloc::Global;
 
 /// A level: a map, the tree names of its agents, and the trees by name, in order of the names' bytes. Each agent has
-/// a tree, and each place that a tree names is on the map.
+/// a tree, and each place and each agent that a tree names is on the map.
 pub struct Level {
     rows: Vec<String>,
     names: Vec<String>,
@@ -102,6 +103,7 @@ impl Level {
         requires { agent < length (agent_trees (value_of self.now)) }
         ensures value { slice_index_or (agent_trees (value_of self.now)) agent (Does Carries) ≡ plain_of result.now }
         ensures placed { IsTrue (list_all (has_place (world_of (value_of self.now))) (places (plain_of result.now))) }
+        ensures crewed { IsTrue (list_all (has_agent (world_of (value_of self.now))) (agents (plain_of result.now))) }
     {
         &self.trees[self.picks[agent as usize]].tree
     }

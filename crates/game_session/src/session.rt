@@ -3,6 +3,7 @@ ghost use Rattle.std.specs.List.{list_all};
 ghost use Rattle.bt_nodes.specs.Plain.{Does, Carries};
 ghost use Rattle.bt_nodes.specs.Trees.{plain_of};
 ghost use Rattle.game_session.specs.Places.{places, has_place};
+ghost use Rattle.game_session.specs.Agents.{agents, has_agent};
 ghost use Rattle.game_session.specs.Levels.{value_of};
 ghost use Rattle.game_session.specs.Sessions.{game_of};
 
@@ -58,11 +59,12 @@ impl Session {
         self.level.world()
     }
 
-    /// The tree of an agent, in constant time. The places that it names are on the map.
+    /// The tree of an agent, in constant time. The places and the agents that it names are on the map.
     pub fn tree_of(&self, agent: u32) -> &Tree<Global>
         requires { agent < length self.now.trees }
         ensures value { slice_index_or self.now.trees agent (Does Carries) ≡ plain_of result.now }
         ensures placed { IsTrue (list_all (has_place self.now.world) (places (plain_of result.now))) }
+        ensures crewed { IsTrue (list_all (has_agent self.now.world) (agents (plain_of result.now))) }
     {
         self.level.tree_of(agent)
     }

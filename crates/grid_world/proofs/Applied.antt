@@ -2,9 +2,9 @@
 use Rattle.std.proofs.Common.{◌≡◌, ℕ, suc, ◌+◌, ◌<◌, ◌&&◌, Bool, true, false, not, is_none, if◌then◌else◌, List, length, get_or, drop, Option, Some, None, refl, ap, ◌∙◌, arith, length-set}
 use Rattle.std.proofs.lemmas.List.{drop_more}
 use Rattle.grid_world.specs.declared.cell.Intent.{Intent}
-use Rattle.grid_world.specs.declared.cell.Intent.TheVariants.{Stay, Move, Take, Drop}
+use Rattle.grid_world.specs.declared.cell.Intent.TheVariants.{Stay, Move, Take, Drop, Give}
 use Rattle.grid_world.specs.Grid.{Grid, Point, agent_of, agent_on, has_item, point_of}
-use Rattle.grid_world.specs.Intents.{apply, apply_all, handed, moved, with_agent}
+use Rattle.grid_world.specs.Intents.{apply, apply_all, given, handed, may_give, moved, with_agent}
 use Rattle.grid_world.specs.Open.{is_open}
 use Rattle.grid_world.specs.Walks.{next}
 
@@ -29,6 +29,8 @@ length-apply g signals a Take =
 length-apply g signals a Drop =
     length-if ((agent_of g a).carrying && not (has_item g (point_of (agent_of g a)))) (handed g a false) g
     (length-set g.agents a _)
+length-apply g signals a (Give b) =
+    length-if (may_give g a b) (given g a b) g (length-set _ b _ ∙ length-set g.agents a _)
 
 -- one intent more
 pub apply_all-left : (g : Grid) (signals : List Bool) (a : ℕ) (intents : List Intent) (d : Intent)

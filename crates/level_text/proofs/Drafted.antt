@@ -4,7 +4,7 @@ use Rattle.std.specs.Str.{chars}
 use Rattle.grid_world.specs.Grid.{Grid}
 use Rattle.grid_world.specs.Map.{grid_of}
 use Rattle.game_session.specs.Parts.{Parts, NamedPlain}
-use Rattle.game_session.specs.Faults.{row_fault, count_fault, agent_fault, place_fault, world_of, agent_count}
+use Rattle.game_session.specs.Faults.{row_fault, count_fault, agent_fault, place_fault, crew_fault, world_of, agent_count}
 
 module _ (parts : Parts) where
   pub no_row_fault : (rows : List (List ℕ)) → rows ≡ parts.rows → row_fault rows ≡ None → row_fault parts.rows ≡ None
@@ -29,3 +29,6 @@ module _ (parts : Parts) where
 
   pub place_fault-same : (w : Grid) (ts : List NamedPlain) → w ≡ world_of parts → ts ≡ parts.trees → place_fault w ts ≡ place_fault (world_of parts) parts.trees
   place_fault-same w ts v t = ap (λ g. place_fault g ts) v ∙ ap (place_fault (world_of parts)) t
+
+  pub crew_fault-same : (w : Grid) (ts : List NamedPlain) → w ≡ world_of parts → ts ≡ parts.trees → crew_fault w ts ≡ crew_fault (world_of parts) parts.trees
+  crew_fault-same w ts v t = ap (λ g. crew_fault g ts) v ∙ ap (crew_fault (world_of parts)) t

@@ -2,7 +2,7 @@
 use Rattle.std.proofs.Common.{◌≡◌, ℕ, List, Option, Some, None, Err, refl}
 use Rattle.std.specs.Option.{option_or}
 use Rattle.game_session.specs.Parts.{Parts}
-use Rattle.game_session.specs.Faults.{Fault, row_fault, count_fault, limit_fault, agent_fault, place_fault, world_of, agent_count, no_place}
+use Rattle.game_session.specs.Faults.{Fault, row_fault, count_fault, limit_fault, agent_fault, place_fault, crew_fault, world_of, agent_count, no_place, no_agent}
 use Rattle.level_text.specs.Levels.{unless_fault, of_parts, fault_view, Names, NamesFirst, IsFaultOf, IsFirstOf}
 use Rattle.level_text.specs.declared.level_fault.LevelFault.{LevelFault}
 
@@ -30,3 +30,7 @@ at_count parts rows count = rw (rows, count) refl
 pub at_places : (parts : Parts) (name : List ℕ) → row_fault parts.rows ≡ None → count_fault parts ≡ None → limit_fault parts.trees ≡ None → agent_fault 0 parts.names parts.trees ≡ None
     → place_fault (world_of parts) parts.trees ≡ Some (no_place name) → of_parts (Some parts) ≡ Err (no_place name)
 at_places parts name rows count limits agents places = rw (rows, count, limits, agents, places) refl
+
+pub at_crew : (parts : Parts) (name : List ℕ) → row_fault parts.rows ≡ None → count_fault parts ≡ None → limit_fault parts.trees ≡ None → agent_fault 0 parts.names parts.trees ≡ None
+    → place_fault (world_of parts) parts.trees ≡ None → crew_fault (world_of parts) parts.trees ≡ Some (no_agent name) → of_parts (Some parts) ≡ Err (no_agent name)
+at_crew parts name rows count limits agents places crew = rw (rows, count, limits, agents, places, crew) refl

@@ -1,6 +1,6 @@
 -- Nodes that take no node, as plain trees.
 use Rattle.std.proofs.Common.{◌≡◌, ℕ, Global, rules}
-use Rattle.bt_nodes.specs.Plain.{Wait, MoveTo, Does, TakeItem, DropItem, AtPlace, Carries, OnItem, SignalOn, NearOther, plain}
+use Rattle.bt_nodes.specs.Plain.{Wait, MoveTo, Does, TakeItem, DropItem, AtPlace, Carries, OnItem, SignalOn, NearOther, GivesTo, plain}
 use Rattle.bt_nodes.specs.declared.node.Node.{the_lemmas}
 use Rattle.bt_nodes.specs.declared.node.Node as node
 
@@ -30,3 +30,6 @@ plain-Signal a = search (rules, the_lemmas)
 
 pub plain-Near : (n : ℕ) → plain {A = Global} (node.Near n) ≡ Does (NearOther n)
 plain-Near n = search (rules, the_lemmas)
+
+pub plain-Give : (b : ℕ) → plain {A = Global} (node.Give b) ≡ Does (GivesTo b)
+plain-Give b = search (rules, the_lemmas)

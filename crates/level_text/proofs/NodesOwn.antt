@@ -6,7 +6,7 @@ use Rattle.bt_nodes.specs.declared.node.Node.{Node}
 use Rattle.bt_nodes.specs.declared.node.Node as node
 use Rattle.bt_nodes.proofs.Views.{plain-Par, plain-Tries, plain-Ticks}
 use Rattle.level_text.specs.Begun.{own, count, mark}
-use Rattle.level_text.proofs.LeavesRead.{plain-Wait, plain-Move, plain-At, plain-Signal, plain-Near}
+use Rattle.level_text.proofs.LeavesRead.{plain-Wait, plain-Move, plain-At, plain-Signal, plain-Near, plain-Give}
 
 abbrev Children : Type 0
 Children = Vec (Node Global) Global
@@ -29,3 +29,6 @@ module _ (n : Node Global) where
 
   pub own_signal : (a : ℕ) → n ≡ node.Signal a → own (plain n) ≡ mark (97 + a)
   own_signal a e = ap (λ m. own (plain m)) e ∙ ap own (plain-Signal a)
+
+  pub own_agent : (b : ℕ) → n ≡ node.Give b → own (plain n) ≡ mark (65 + b)
+  own_agent b e = ap (λ m. own (plain m)) e ∙ ap own (plain-Give b)

@@ -3,7 +3,7 @@ use Rattle.std.proofs.Common.{◌≡◌, ℕ, ◌+◌, ◌-◌, ◌<◌, ◌≤�
 use Rattle.std.proofs.lemmas.Bool.{ltb-true, le-leb}
 use Rattle.serde_json.specs.Data.{depth as nesting, items_depth}
 use Rattle.serde_json.specs.Written.{has_float, items_have_float}
-use Rattle.bt_nodes.specs.Plain.{Plain, Composite, CompositeStar, Parallel, Invert, Tries, Ticks, Wait, MoveTo, Does, Sequence, Fallback, Leaf, TakeItem, DropItem, AtPlace, Carries, OnItem, SignalOn, NearOther, Forest, none, tree}
+use Rattle.bt_nodes.specs.Plain.{Plain, Composite, CompositeStar, Parallel, Invert, Tries, Ticks, Wait, MoveTo, Does, Sequence, Fallback, Leaf, TakeItem, DropItem, AtPlace, Carries, OnItem, SignalOn, NearOther, GivesTo, Forest, none, tree}
 use Rattle.bt_nodes.specs.Sizes.{depth, deepest}
 use Rattle.level_text.specs.Nodes.{mark_of, node_of, forest_in}
 use Rattle.level_text.specs.Marks.{has_marks, all_have_marks, leaf_has_marks}
@@ -26,6 +26,9 @@ place_is p h = mark_of-is 48 57 p (omega arith)
 signal_is : (a : ℕ) → a < 26 → mark_of 97 122 ((97 + a) ∷ []) ≡ Some a
 signal_is a h = mark_of-is 97 122 a (omega arith)
 
+agent_is : (b : ℕ) → b < 26 → mark_of 65 90 ((65 + b) ∷ []) ≡ Some b
+agent_is b h = mark_of-is 65 90 b (omega arith)
+
 leaf_is : (leaf : Leaf) → leaf_has_marks leaf ≡ true → node_of (leaf_data leaf) ≡ Some (Does leaf)
 leaf_is TakeItem h = refl
 leaf_is DropItem h = refl
@@ -34,6 +37,7 @@ leaf_is Carries h = refl
 leaf_is OnItem h = refl
 leaf_is (SignalOn a) h = ap (option_map (λ b. Does (SignalOn b))) (signal_is a (ltb-true a 26 h))
 leaf_is (NearOther n) h = refl
+leaf_is (GivesTo b) h = ap (option_map (λ c. Does (GivesTo c))) (agent_is b (ltb-true b 26 h))
 
 mutual
   pub node_of-node_data : (p : Plain) → has_marks p ≡ true → node_of (node_data p) ≡ Some p
@@ -68,6 +72,7 @@ leaf_nesting Carries = omega arith
 leaf_nesting OnItem = omega arith
 leaf_nesting (SignalOn a) = omega arith
 leaf_nesting (NearOther n) = omega arith
+leaf_nesting (GivesTo b) = omega arith
 
 mutual
   pub nesting-node_data : (p : Plain) → nesting (node_data p) ≤ depth p
@@ -93,6 +98,7 @@ leaf_has_no_float Carries = refl
 leaf_has_no_float OnItem = refl
 leaf_has_no_float (SignalOn a) = refl
 leaf_has_no_float (NearOther n) = refl
+leaf_has_no_float (GivesTo b) = refl
 
 mutual
   pub has_float-node_data : (p : Plain) → has_float (node_data p) ≡ false

@@ -3,7 +3,7 @@ use Rattle.std.proofs.Common.{◌≡◌, true, List, [], ◌∷◌, ◌++◌, Op
 use Rattle.serde_json.specs.Data.{Data, string, array, Items, no_items, item}
 use Rattle.serde_json.specs.View.{view, items_view}
 use Rattle.serde_json.specs.declared.value.Value.{Value}
-use Rattle.bt_nodes.specs.Plain.{Plain, Composite, CompositeStar, Parallel, Invert, Tries, Ticks, Wait, MoveTo, Does, TakeItem, DropItem, AtPlace, Carries, OnItem, SignalOn, NearOther, Forest}
+use Rattle.bt_nodes.specs.Plain.{Plain, Composite, CompositeStar, Parallel, Invert, Tries, Ticks, Wait, MoveTo, Does, TakeItem, DropItem, AtPlace, Carries, OnItem, SignalOn, NearOther, GivesTo, Forest}
 use Rattle.bt_nodes.specs.Heads.{listed, decorated}
 use Rattle.level_text.specs.Begun.{head, own, below, has_own_mark, items_before}
 use Rattle.level_text.specs.Marks.{has_marks, all_have_marks}
@@ -30,6 +30,7 @@ begins (Does Carries) = refl
 begins (Does OnItem) = refl
 begins (Does (SignalOn a)) = refl
 begins (Does (NearOther n)) = refl
+begins (Does (GivesTo b)) = refl
 
 module _ (p : Plain) (first : Value) (seen : view first ≡ string (head p)) where
   pub begun_alone : None ≡ own p → array (item (view first) (below p)) ≡ node_data p

@@ -3,7 +3,7 @@ use Rattle.std.specs.Prelude.{ℕ, ◌+◌, List, [], ◌∷◌, codes, nat_lt, 
 use Rattle.serde_json.specs.Data.{Data, number, unsigned, string, Items, no_items, item}
 use Rattle.serde_json.specs.View.{view}
 use Rattle.serde_json.specs.declared.value.Value.{Value}
-use Rattle.bt_nodes.specs.Plain.{Plain, Composite, CompositeStar, Parallel, Invert, Tries, Ticks, Wait, MoveTo, Does, Leaf, TakeItem, DropItem, AtPlace, Carries, OnItem, SignalOn, NearOther}
+use Rattle.bt_nodes.specs.Plain.{Plain, Composite, CompositeStar, Parallel, Invert, Tries, Ticks, Wait, MoveTo, Does, Leaf, TakeItem, DropItem, AtPlace, Carries, OnItem, SignalOn, NearOther, GivesTo}
 use Rattle.level_text.specs.Marks.{leaf_has_marks}
 use Rattle.level_text.specs.Written.{list_head, star_head, node_data, forest_data}
 
@@ -15,6 +15,7 @@ leaf_head Carries = codes "carrying"
 leaf_head OnItem = codes "item"
 leaf_head (SignalOn a) = codes "signal"
 leaf_head (NearOther n) = codes "near"
+leaf_head (GivesTo b) = codes "give"
 
 -- the word that names the kind
 abbrev pub head : Plain → List ℕ
@@ -43,6 +44,7 @@ leaf_own Carries = None
 leaf_own OnItem = None
 leaf_own (SignalOn a) = mark (97 + a)
 leaf_own (NearOther n) = count n
+leaf_own (GivesTo b) = mark (65 + b)
 
 -- the argument that stands in the node itself
 abbrev pub own : Plain → Option Data
@@ -68,7 +70,7 @@ below (Wait n) = no_items
 below (MoveTo p) = no_items
 below (Does leaf) = no_items
 
--- the place that stands in the node itself is a digit, and the signal a letter
+-- the place that stands in the node itself is a digit, and the signal or the agent a letter
 abbrev pub has_own_mark : Plain → Bool
 has_own_mark (Composite kind children) = true
 has_own_mark (CompositeStar kind children) = true

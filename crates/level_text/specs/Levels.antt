@@ -4,10 +4,10 @@ use Rattle.std.specs.Str.{is_utf8}
 use Rattle.serde_json.specs.Data.{Data}
 use Rattle.serde_json.specs.Read.{read}
 use Rattle.game_session.specs.Parts.{Parts}
-use Rattle.game_session.specs.Faults.{parts_fault, Fault, json, shape, map_size, map_char, letters, agent_count, bad_tree, no_tree, no_place}
+use Rattle.game_session.specs.Faults.{parts_fault, Fault, json, shape, map_size, map_char, letters, agent_count, bad_tree, no_tree, no_place, no_agent}
 use Rattle.level_text.specs.Parts.{parts_of}
 use Rattle.level_text.specs.declared.level_fault.LevelFault.{LevelFault}
-use Rattle.level_text.specs.declared.level_fault.LevelFault.TheVariants.{OutOfMemory, Json, Shape, MapSize, MapChar, Letters, AgentCount, BadTree, NoTree, NoPlace}
+use Rattle.level_text.specs.declared.level_fault.LevelFault.TheVariants.{OutOfMemory, Json, Shape, MapSize, MapChar, Letters, AgentCount, BadTree, NoTree, NoPlace, NoAgent}
 
 -- ---- what is spelled
 
@@ -50,6 +50,7 @@ fault_view AgentCount = Some agent_count
 fault_view (BadTree name fault) = Some (bad_tree (string_bytes name) fault)
 fault_view (NoTree agent) = Some (no_tree agent)
 fault_view (NoPlace name) = Some (no_place (string_bytes name))
+fault_view (NoAgent name) = Some (no_agent (string_bytes name))
 
 abbrev pub Names : {V : Type 0} → Option Fault → Result V Fault → Type 0
 Names None right = Unit {0}

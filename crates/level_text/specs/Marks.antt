@@ -1,6 +1,6 @@
--- Trees whose places are digits and whose signals are letters, as those of nodes are.
+-- Trees whose places are digits and whose signals and agents are letters, as those of nodes are.
 use Rattle.std.specs.Prelude.{nat_lt, Bool, true, ◌&&◌}
-use Rattle.bt_nodes.specs.Plain.{Plain, Composite, CompositeStar, Parallel, Invert, Tries, Ticks, Wait, MoveTo, Does, Leaf, TakeItem, DropItem, AtPlace, Carries, OnItem, SignalOn, NearOther, Forest, none, tree}
+use Rattle.bt_nodes.specs.Plain.{Plain, Composite, CompositeStar, Parallel, Invert, Tries, Ticks, Wait, MoveTo, Does, Leaf, TakeItem, DropItem, AtPlace, Carries, OnItem, SignalOn, NearOther, GivesTo, Forest, none, tree}
 
 abbrev pub leaf_has_marks : Leaf → Bool
 leaf_has_marks TakeItem = true
@@ -10,6 +10,7 @@ leaf_has_marks Carries = true
 leaf_has_marks OnItem = true
 leaf_has_marks (SignalOn a) = nat_lt a 26
 leaf_has_marks (NearOther n) = true
+leaf_has_marks (GivesTo b) = nat_lt b 26
 
 abbrev mutual
   pub has_marks : Plain → Bool

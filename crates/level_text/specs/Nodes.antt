@@ -4,7 +4,7 @@ use Rattle.std.specs.Str.{bytes_eq}
 use Rattle.serde_json.specs.Data.{Data, null, boolean, number, string, array, object, Items, no_items, item}
 use Rattle.serde_json.specs.Find.{as_u64, as_number, as_str}
 use Rattle.grid_world.specs.Map.{is_between}
-use Rattle.bt_nodes.specs.Plain.{Plain, Composite, CompositeStar, Parallel, Invert, Tries, Ticks, Wait, MoveTo, Does, Sequence, Fallback, TakeItem, DropItem, AtPlace, Carries, OnItem, SignalOn, NearOther, Forest, none, tree}
+use Rattle.bt_nodes.specs.Plain.{Plain, Composite, CompositeStar, Parallel, Invert, Tries, Ticks, Wait, MoveTo, Does, Sequence, Fallback, TakeItem, DropItem, AtPlace, Carries, OnItem, SignalOn, NearOther, GivesTo, Forest, none, tree}
 
 -- ---- arguments
 
@@ -36,6 +36,10 @@ place_in d = option_and_then (mark_of 48 57) (as_str d)
 abbrev pub signal_in : Data → Option ℕ
 signal_in d = option_and_then (mark_of 97 122) (as_str d)
 
+-- a text of one letter `A` to `Z`
+abbrev pub agent_in : Data → Option ℕ
+agent_in d = option_and_then (mark_of 65 90) (as_str d)
+
 abbrev pub if_empty : Items → Plain → Option Plain
 if_empty no_items p = Some p
 if_empty (item d ds) p = None
@@ -54,7 +58,8 @@ leaf_of head arguments =
     else (if bytes_eq head (codes "item") then if_empty arguments (Does OnItem)
     else (if bytes_eq head (codes "signal") then option_map (λ a. Does (SignalOn a)) (option_and_then signal_in (only arguments))
     else (if bytes_eq head (codes "near") then option_map (λ n. Does (NearOther n)) (option_and_then count_in (only arguments))
-    else None))))))))
+    else (if bytes_eq head (codes "give") then option_map (λ b. Does (GivesTo b)) (option_and_then agent_in (only arguments))
+    else None)))))))))
 
 -- a number, and what stands behind it
 abbrev pub numbered : {B : Type 0} → Items → Option B → Option (ℕ × B)

@@ -2,7 +2,7 @@
 use Rattle.std.specs.Prelude.{ℕ, ◌+◌, List, [], ◌∷◌, codes}
 use Rattle.serde_json.specs.Data.{Data, number, unsigned, string, array, object, Items, no_items, item, Members, no_members, member}
 use Rattle.serde_json.specs.Written.{compact_text}
-use Rattle.bt_nodes.specs.Plain.{Plain, Composite, CompositeStar, Parallel, Invert, Tries, Ticks, Wait, MoveTo, Does, Kind, Sequence, Fallback, Leaf, TakeItem, DropItem, AtPlace, Carries, OnItem, SignalOn, NearOther, Forest, none, tree}
+use Rattle.bt_nodes.specs.Plain.{Plain, Composite, CompositeStar, Parallel, Invert, Tries, Ticks, Wait, MoveTo, Does, Kind, Sequence, Fallback, Leaf, TakeItem, DropItem, AtPlace, Carries, OnItem, SignalOn, NearOther, GivesTo, Forest, none, tree}
 use Rattle.game_session.specs.Parts.{Parts, NamedPlain}
 
 -- ---- nodes
@@ -25,6 +25,7 @@ leaf_data Carries = form (codes "carrying") no_items
 leaf_data OnItem = form (codes "item") no_items
 leaf_data (SignalOn a) = form (codes "signal") (marked (97 + a))
 leaf_data (NearOther n) = form (codes "near") (counted n no_items)
+leaf_data (GivesTo b) = form (codes "give") (marked (65 + b))
 
 abbrev pub list_head : Kind → List ℕ
 list_head Sequence = codes "seq"

@@ -3,10 +3,10 @@ ghost use Rattle.std.specs.Prelude.{◌≡◌, ◌∷◌, Some, None, MatchOptio
 ghost use Rattle.serde_json.specs.View.{view, items_view};
 ghost use Rattle.serde_json.specs.declared.value.Value.{Value};
 ghost use Rattle.bt_nodes.specs.Plain.{plain};
-ghost use Rattle.level_text.specs.Nodes.{leaf_of as spelled_leaf, only, count_in, place_in, signal_in, mark_of, first, if_empty as spelled_if_empty};
+ghost use Rattle.level_text.specs.Nodes.{leaf_of as spelled_leaf, only, count_in, place_in, signal_in, agent_in, mark_of, first, if_empty as spelled_if_empty};
 
 use bt_nodes::Node;
-use grid_world::{Place, Signal};
+use grid_world::{Letter, Place, Signal};
 use serde_json::Value;
 use std::alloc::Global;
 
@@ -24,6 +24,7 @@ pub(crate) fn leaf_of(head: &str, arguments: &[Value]) -> Option<Node<Global>>
         "item" => if_empty(arguments, Node::Item),
         "signal" => Some(Node::Signal(signal_of(arguments)?)),
         "near" => Some(Node::Near(count_of(arguments)?)),
+        "give" => Some(Node::Give(letter_of(arguments)?)),
         _ => None,
     }
 }
@@ -72,6 +73,12 @@ fn signal_of(arguments: &[Value]) -> Option<Signal>
     ensures { result ≡ option_and_then signal_in (only (items_view arguments.now)) }
 {
     Signal::new(mark_in(only_of(arguments)?.as_str()?, b'a', b'z')?)
+}
+
+fn letter_of(arguments: &[Value]) -> Option<Letter>
+    ensures { result ≡ option_and_then agent_in (only (items_view arguments.now)) }
+{
+    Letter::new(mark_in(only_of(arguments)?.as_str()?, b'A', b'Z')?)
 }
 
 /// The number, from 0, of a text's one character between two.

@@ -25,6 +25,8 @@ pub enum LevelFault {
     NoTree { agent: u32 },
     /// A tree, used by an agent or not, names a place that is not on the map: the first by the bytes of the names.
     NoPlace { name: String },
+    /// A tree, used by an agent or not, names an agent that is not on the map: the first by the bytes of the names.
+    NoAgent { name: String },
 }
 
 impl From<AllocError> for LevelFault {

@@ -1,6 +1,7 @@
 //! Levels and scripts as text: reading, writing, and what they stand for.
 #![tactic(auto)]
 
+mod crewed;
 mod draft;
 mod inner;
 mod leaves;

@@ -34,7 +34,8 @@ pub(crate) fn is_placed(node: &Node<Global>, world: &World) -> bool
         | Node::Carrying
         | Node::Item
         | Node::Signal(_)
-        | Node::Near(_) => true,
+        | Node::Near(_)
+        | Node::Give(_) => true,
     }
 }
 

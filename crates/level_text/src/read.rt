@@ -5,13 +5,14 @@ ghost use Rattle.grid_world.specs.Map.{grid_of};
 ghost use Rattle.std.specs.Str.{chars, bytes_eq};
 ghost use Rattle.level_text.specs.Drafts.{parts_view, node_view};
 ghost use Rattle.game_session.specs.Names.{is_in_order, names_of};
-ghost use Rattle.game_session.specs.Faults.{row_fault, limit_fault, agent_fault, place_fault, no_place};
+ghost use Rattle.game_session.specs.Faults.{row_fault, limit_fault, agent_fault, place_fault, crew_fault, no_place, no_agent};
 ghost use Rattle.level_text.specs.TreeFaults.{own_fault};
 ghost use Rattle.game_session.specs.Kept.{tree_view, trees_view, texts_view, index_of as spelled_index};
 ghost use Rattle.game_session.specs.Levels.{value_of};
 ghost use Rattle.level_text.specs.Levels.{of_parts, spelled, level_of as spelled_level, IsFaultOf, IsFirstOf};
 ghost use Rattle.game_session.specs.declared.named_tree.NamedTree.{NamedTree};
 
+use crate::crewed::is_crewed;
 use crate::draft::{Draft, NamedNode};
 use crate::level_fault::LevelFault;
 use crate::parts::parts_of;
@@ -106,6 +107,20 @@ fn first_unplaced(trees: &[NamedTree], world: &World) -> Option<usize>
     None
 }
 
+/// The first tree that names an agent that is not on the map.
+fn first_uncrewed(trees: &[NamedTree], world: &World) -> Option<usize>
+    ensures none { IfNone result (crew_fault world.now (trees_view trees.now) ≡ None) }
+    ensures some { IfSome result (λ i. (i < length trees.now) × ((t : NamedTree)
+        → crew_fault world.now (trees_view trees.now) ≡ Some (no_agent (string_bytes (slice_index_or trees.now i t).name)))) }
+{
+    'trees: for (i, named) in trees.iter().enumerate() {
+        if !is_crewed(named.tree.root(), world) {
+            return Some(i);
+        }
+    }
+    None
+}
+
 fn is_counted(names: &[String], world: &World) -> bool
     ensures { result ≡ (length (texts_view names.now) == length world.now.agents) }
 {
@@ -135,6 +150,11 @@ fn level_from(alloc: Global, draft: Draft) -> Result<Level, LevelFault>
     };
     if let Some(i) = first_unplaced(&trees, &world) {
         return Err(LevelFault::NoPlace {
+            name: trees.remove(i).name,
+        });
+    }
+    if let Some(i) = first_uncrewed(&trees, &world) {
+        return Err(LevelFault::NoAgent {
             name: trees.remove(i).name,
         });
     }

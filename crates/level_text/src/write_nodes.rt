@@ -76,10 +76,11 @@ fn head_of(node: &Node<Global>) -> &'static str
         Node::Item => "item",
         Node::Signal(_) => "signal",
         Node::Near(_) => "near",
+        Node::Give(_) => "give",
     }
 }
 
-/// The number, place or signal that stands in the node itself.
+/// The number, place, signal or agent that stands in the node itself.
 fn own_of(alloc: Global, node: &Node<Global>) -> Result<Option<Value>, AllocError>
     ensures value { IfOk result (λ o. option_map view o ≡ own (plain node.now)) }
     ensures marks { OnOk result (IsTrue (has_own_mark (plain node.now))) }
@@ -90,6 +91,7 @@ fn own_of(alloc: Global, node: &Node<Global>) -> Result<Option<Value>, AllocErro
         }
         Node::Move(place) | Node::At(place) => Ok(Some(mark(alloc, b'0', place.number())?)),
         Node::Signal(signal) => Ok(Some(mark(alloc, b'a', signal.number())?)),
+        Node::Give(letter) => Ok(Some(mark(alloc, b'A', letter.number())?)),
         Node::Seq(_)
         | Node::Fallback(_)
         | Node::SeqStar(_)

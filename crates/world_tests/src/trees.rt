@@ -1,6 +1,6 @@
 use bt_nodes::{Node, Tree, TreeFault};
 use bumpalo::Bump;
-use grid_world::{Place, Signal};
+use grid_world::{Letter, Place, Signal};
 use std::alloc::{Allocator, Global};
 use std::fmt::Debug;
 
@@ -81,7 +81,7 @@ fn alone(alloc: Global, node: Node<Global>) -> Option<Vec<Node<Global>>> {
 }
 
 fn leaf_of_every_kind(alloc: Global) -> Option<Vec<Node<Global>>> {
-    let (place, signal) = (Place::new(4)?, Signal::new(25)?);
+    let (place, signal, letter) = (Place::new(4)?, Signal::new(25)?, Letter::new(25)?);
     vec![in alloc;
         Node::Wait(7),
         Node::Move(place),
@@ -92,6 +92,7 @@ fn leaf_of_every_kind(alloc: Global) -> Option<Vec<Node<Global>>> {
         Node::Item,
         Node::Signal(signal),
         Node::Near(16),
+        Node::Give(letter),
     ]
     .ok()
 }
@@ -111,7 +112,7 @@ fn of_every_kind(alloc: Global) -> Option<Node<Global>> {
 const OF_EVERY_KIND: &str =
     "Seq([Fallback([Not(Par(1, [Ticks(3, FallbackStar([Tries(2, SeqStar([Wait(7), \
     Move(Place { digit: 4 }), Take, Drop, At(Place { digit: 4 }), Carrying, Item, \
-    Signal(Signal { letter: 25 }), Near(16)]))]))]))]), Take])";
+    Signal(Signal { letter: 25 }), Near(16), Give(Letter { number: 25 })]))]))]))]), Take])";
 
 fn copied_of_every_kind(alloc: Global) -> Option<(u64, u64)> {
     let tree = Tree::new(of_every_kind(alloc)?).ok()?;
@@ -120,7 +121,7 @@ fn copied_of_every_kind(alloc: Global) -> Option<(u64, u64)> {
 
 #[test]
 fn a_copy_has_every_kind_of_node(rt: HostRuntime) {
-    assert!(rt; copied_of_every_kind(rt.alloc()) == Some((18, 9)));
+    assert!(rt; copied_of_every_kind(rt.alloc()) == Some((19, 9)));
 }
 
 fn measures(node: &Node<Global>) -> (u64, u64) {

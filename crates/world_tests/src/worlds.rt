@@ -225,3 +225,28 @@ fn worlds_differ_in_cells_items_and_agents(rt: HostRuntime) {
         assert!(rt; is_same(rt.alloc(), "A*.a", other) == Some(same), "{other}");
     }
 }
+
+// The loads of two agents that stand side by side, of which the first has taken an item, after these intents.
+fn loads_after(alloc: Global, intents: &[Intent]) -> Option<[bool; 2]> {
+    let off = Signals::off();
+    let world = world_of(alloc, &["A*B"])?;
+    let world = resolve(alloc, &world, off, &[EAST, Intent::Stay]).ok()?;
+    let world = resolve(alloc, &world, off, &[Intent::Take, Intent::Stay]).ok()?;
+    let world = resolve(alloc, &world, off, intents).ok()?;
+    match world.agents() {
+        [a, b] => Some([a.carrying, b.carrying]),
+        _ => None,
+    }
+}
+
+#[test]
+fn gives_to_who_stands_beside(rt: HostRuntime) {
+    let alloc = rt.alloc();
+    assert!(rt; loads_after(alloc, &[Intent::Stay, Intent::Stay]) == Some([true, false]));
+    assert!(rt; loads_after(alloc, &[Intent::Give(1), Intent::Stay]) == Some([false, true]));
+    assert!(rt; loads_after(alloc, &[Intent::Give(1), Intent::Give(0)]) == Some([true, false]));
+    assert!(rt; loads_after(alloc, &[Intent::Stay, Intent::Give(0)]) == Some([true, false]));
+    assert!(rt; loads_after(alloc, &[Intent::Give(9), Intent::Stay]) == Some([true, false]));
+    assert!(rt; loads_after(alloc, &[Intent::Give(0), Intent::Stay]) == Some([true, false]));
+    assert!(rt; loads_after(alloc, &[WEST, Intent::Give(0)]) == Some([true, false]));
+}

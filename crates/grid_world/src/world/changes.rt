@@ -1,10 +1,10 @@
 // How the intents of a frame change a world.
 ghost use Rattle.std.specs.Prelude.{[], ◌≡◌, ◌≢◌, ◌↔◌, ◌<◌, length, option_map, Err, IfOk, OnOk};
-ghost use Rattle.grid_world.specs.Grid.{agent_of, point_of};
-ghost use Rattle.grid_world.specs.Intents.{apply, apply_all, moved};
+ghost use Rattle.grid_world.specs.Grid.{agent_of, point_of, steps_between};
+ghost use Rattle.grid_world.specs.Intents.{apply, apply_all, loaded, moved};
 ghost use Rattle.grid_world.specs.Walks.{next};
 ghost use Rattle.grid_world.specs.World.{point};
-ghost use Rattle.grid_world.specs.declared.cell.Intent.TheVariants.{Take, Drop};
+ghost use Rattle.grid_world.specs.declared.cell.Intent.TheVariants.{Take, Drop, Give};
 ghost use Rattle.grid_world.specs.declared.fault.ResolveFault.TheVariants.{Count};
 
 use super::{World, agent_on};
@@ -16,7 +16,8 @@ use std::alloc::{AllocError, Global};
 /// The world after a frame's intents, one for each agent by number, each applied to the world as changed so far.
 ///
 /// A move leads to an open cell on which no agent stands at that point; an agent takes an item of its
-/// cell with empty hands, and drops its item where none lies. What can't be done changes nothing.
+/// cell with empty hands, drops its item where none lies, and gives it to an agent with empty hands that stands one
+/// step away at that point. What can't be done changes nothing.
 /// Each move looks at all agents, so time grows with their number times the number of moves; where an item is
 /// taken or dropped, it copies a byte for each cell once: the ground is shared with `world`, and the items as
 /// long as they are the same.
@@ -53,6 +54,13 @@ fn neighbour(dir: Dir, x: u32, y: u32) -> Option<(u32, u32)>
     }
 }
 
+// How many columns and rows lie between two agents.
+fn steps_between(a: Agent, b: Agent) -> u64
+    ensures { result ≡ steps_between a b }
+{
+    u64::from(a.x.abs_diff(b.x)) + u64::from(a.y.abs_diff(b.y))
+}
+
 impl World {
     fn apply(&mut self, signals: Signals, number: usize, intent: Intent) -> Result<(), AllocError>
         requires { number < length self.old.agents }
@@ -66,6 +74,10 @@ impl World {
             }
             Intent::Take => self.take_item(number),
             Intent::Drop => self.drop_item(number),
+            Intent::Give(other) => {
+                self.give_item(number, other);
+                Ok(())
+            }
         }
     }
 
@@ -119,5 +131,29 @@ impl World {
             }
         }
         Ok(())
+    }
+
+    fn give_item(&mut self, number: usize, other: u32)
+        requires { number < length self.old.agents }
+        ensures { self.new ≡ apply self.old [] number (Give other) }
+    {
+        let giver = self.crew[number];
+        let to = other as usize;
+        if to >= self.crew.len() {
+            return;
+        }
+        let taker = self.crew[to];
+        if giver.carrying && !taker.carrying && steps_between(giver, taker) == 1 {
+            self.load(number, false);
+            self.load(to, true);
+        }
+    }
+
+    fn load(&mut self, number: usize, carrying: bool)
+        requires { number < length self.old.agents }
+        ensures { self.new ≡ loaded self.old number carrying }
+    {
+        let agent = self.crew[number];
+        self.crew[number] = Agent { carrying, ..agent };
     }
 }

@@ -1,8 +1,8 @@
 use Rattle.std.proofs.Common.{◌∙◌, ap, sym, option_map, Some, Global}
 use Rattle.serde_json.specs.View.{items_view}
-use Rattle.bt_nodes.specs.Plain.{Wait, MoveTo, Does, AtPlace, SignalOn, NearOther, plain}
+use Rattle.bt_nodes.specs.Plain.{Wait, MoveTo, Does, AtPlace, SignalOn, NearOther, GivesTo, plain}
 use Rattle.level_text.specs.Nodes.{leaf_of, if_empty}
-use Rattle.level_text.proofs.LeavesRead.{plain-Wait, plain-Move, plain-Take, plain-Drop, plain-At, plain-Carrying, plain-Item, plain-Signal, plain-Near}
+use Rattle.level_text.proofs.LeavesRead.{plain-Wait, plain-Move, plain-Take, plain-Drop, plain-At, plain-Carrying, plain-Item, plain-Signal, plain-Near, plain-Give}
 use Rattle.level_text.proofs.leaves.leaf_of.Goals as goal
 
 pub returns-in_err-count_of-in-wait : goal.returns-in_err-count_of-in-wait
@@ -61,3 +61,12 @@ returns-in-carrying c = c.if_empty-in-carrying.ensures ∙ ap (if_empty (items_v
 
 pub returns-in-item : goal.returns-in-item
 returns-in-item c = c.if_empty-in-item.ensures ∙ ap (if_empty (items_view c.args.arguments.now)) plain-Item ∙ sym (ap (λ head. leaf_of head (items_view c.args.arguments.now)) c.in-item.is)
+
+pub returns-in_err-letter_of-in-give : goal.returns-in_err-letter_of-in-give
+returns-in_err-letter_of-in-give c =
+    ap (option_map (plain {A = Global})) c.from_residual-in_err-letter_of-in-give.ensures ∙ ap (option_map (λ b. Does (GivesTo b))) c.in_err-letter_of-in-give.ensures
+    ∙ sym (ap (λ head. leaf_of head (items_view c.args.arguments.now)) c.in-give.is)
+
+pub returns-in_ok-letter_of-in-give : goal.returns-in_ok-letter_of-in-give
+returns-in_ok-letter_of-in-give c =
+    ap Some (plain-Give c.in_ok-letter_of-in-give.field-0) ∙ ap (option_map (λ b. Does (GivesTo b))) c.in_ok-letter_of-in-give.ensures ∙ sym (ap (λ head. leaf_of head (items_view c.args.arguments.now)) c.in-give.is)

@@ -1,6 +1,6 @@
 use Rattle.std.proofs.Common.{ap, sym, ◌∙◌, ◌+◌, Some}
 use Rattle.level_text.specs.Begun.{mark}
-use Rattle.level_text.proofs.NodesOwn.{own_count, own_place, own_signal}
+use Rattle.level_text.proofs.NodesOwn.{own_count, own_place, own_signal, own_agent}
 use Rattle.level_text.proofs.write_nodes.own_of.Goals as goal
 
 pub returns-in-Par-clause-value : goal.returns-in-Par-clause-value
@@ -13,3 +13,7 @@ returns-in_ok-mark-in-Move-clause-value c =
 pub returns-in_ok-mark-in-Signal-clause-value : goal.returns-in_ok-mark-in-Signal-clause-value
 returns-in_ok-mark-in-Signal-clause-value c =
     c.in_ok-mark-in-Signal.ensures ∙ ap (λ a. mark (97 + a)) c.number.ensures.value ∙ sym (own_signal c.args.node.now c.in-Signal.signal c.in-Signal.is)
+
+pub returns-in_ok-mark-in-Give-clause-value : goal.returns-in_ok-mark-in-Give-clause-value
+returns-in_ok-mark-in-Give-clause-value c =
+    c.in_ok-mark-in-Give.ensures ∙ ap (λ b. mark (65 + b)) c.number-in-Give.ensures.value ∙ sym (own_agent c.args.node.now c.in-Give.letter c.in-Give.is)

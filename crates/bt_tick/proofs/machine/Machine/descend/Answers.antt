@@ -1,8 +1,8 @@
 use Rattle.std.proofs.Common.{◌+◌, ◌*◌, ◌<◌, ap, sym, ◌∙◌, subst, arith, refl, true, false}
 use Rattle.std.proofs.lemmas.List.{length-map}
-use Rattle.grid_world.specs.declared.cell.Intent.TheVariants.{Take, Drop}
+use Rattle.grid_world.specs.declared.cell.Intent.TheVariants.{Take, Drop, Give}
 use Rattle.bt_nodes.specs.declared.node.Status.TheVariants.{Failure}
-use Rattle.bt_nodes.specs.Plain.{Sequence, Fallback, CompositeStar, Wait, none, tree, plain, plains}
+use Rattle.bt_nodes.specs.Plain.{Sequence, Fallback, CompositeStar, Wait, Does, GivesTo, none, tree, plain, plains}
 use Rattle.bt_nodes.specs.Sizes.{size}
 use Rattle.bt_nodes.proofs.Views.{plain-Seq, plain-Fallback, plain-SeqStar, plain-FallbackStar, plain-Not, plain-Tries, plain-Ticks}
 use Rattle.game_rules.specs.Tick.{gives}
@@ -17,7 +17,7 @@ use Rattle.bt_tick.proofs.Nests.{room}
 use Rattle.bt_tick.proofs.Numbers.{number_within, zero_wrote}
 use Rattle.bt_tick.proofs.Opening.{if_ok, first_rests, only_stands, placed_by}
 use Rattle.bt_tick.proofs.SmallNumbers.{number_small}
-use Rattle.bt_tick.proofs.Beginning.{plain-Wait, plain-Take, plain-Drop, line_begins, not_begins, tries_begins, tries_over, ticks_begins, ticks_over, takes, takes_none, ticks_as, drops, drops_none, answered_nested, answered_falls, number_below, wanted_keeps}
+use Rattle.bt_tick.proofs.Beginning.{plain-Wait, plain-Take, plain-Drop, plain-Give, line_begins, not_begins, tries_begins, tries_over, ticks_begins, ticks_over, takes, takes_none, ticks_as, drops, drops_none, hands_over, answered_nested, answered_falls, number_below, wanted_keeps}
 use Rattle.bt_tick.proofs.machine.Machine.descend.Goals as goal
 
 pub overflow_cast-frame : goal.overflow_cast-frame
@@ -256,4 +256,23 @@ returns-in_ok-want-in-Drop g c =
       placed = placed_by c.args.self.now new _ c.args.self.now.stack c.in_ok-want-in-Drop.ensures.tree c.in_ok-want-in-Drop.ensures.stack (answered_nested (whole_of c.args.self.now) _ c.args.number (plain c.args.node.now) (opens c.args.self.now.stack) (omega (arith, ap size (ap plain c.in-Drop.is ∙ plain-Drop _))) c.requires.nested) tt;
       falls = subst (λ fs. 1 + weight_all (opens fs) < 2 * size (plain c.args.node.now) + weight_all (opens c.args.self.now.stack)) (sym c.in_ok-want-in-Drop.ensures.stack) (answered_falls (plain c.args.node.now) (weight_all (opens c.args.self.now.stack)));
       tree = c.in_ok-want-in-Drop.ensures.tree;
+    }
+
+pub returns-then-not-can_give : goal.returns-then-not-can_give
+returns-then-not-can_give g c =
+    record {
+      keeps = λ s. ap (unwind (view_of c.args.view.now) (opens c.args.self.now.stack)) (hands_over (view_of c.args.view.now) (plain c.args.node.now) c.args.number (with_parts c.args.self.now.memory c.args.self.now.wants.items s) c.number-agent.result false (ap plain c.in-Give.is ∙ plain-Give _ c.in-Give.letter ∙ ap (λ b. Does (GivesTo b)) (sym c.number-agent.ensures.value)) c.if-not-can_give.ensures);
+      placed = placed_by c.args.self.now _ _ c.args.self.now.stack refl refl (answered_nested (whole_of c.args.self.now) _ c.args.number (plain c.args.node.now) (opens c.args.self.now.stack) (omega (arith, ap size (ap plain c.in-Give.is ∙ plain-Give _ c.in-Give.letter ∙ ap (λ b. Does (GivesTo b)) (sym c.number-agent.ensures.value)))) c.requires.nested) tt;
+      falls = answered_falls (plain c.args.node.now) (weight_all (opens c.args.self.now.stack));
+      tree = refl;
+    }
+
+pub returns-in_ok-want-in-Give : goal.returns-in_ok-want-in-Give
+returns-in_ok-want-in-Give g c =
+    let new = c.want-in-Give.new.self in
+    record {
+      keeps = λ s. wanted_keeps c.args.self.now new (Give c.number-agent.result) c.in_ok-want-in-Give.ensures.stack c.in_ok-want-in-Give.ensures.memory c.in_ok-want-in-Give.ensures.wants (view_of c.args.view.now) s ∙ ap (unwind (view_of c.args.view.now) (opens c.args.self.now.stack)) (hands_over (view_of c.args.view.now) (plain c.args.node.now) c.args.number (with_parts c.args.self.now.memory c.args.self.now.wants.items s) c.number-agent.result true (ap plain c.in-Give.is ∙ plain-Give _ c.in-Give.letter ∙ ap (λ b. Does (GivesTo b)) (sym c.number-agent.ensures.value)) c.if-not-can_give.ensures);
+      placed = placed_by c.args.self.now new _ c.args.self.now.stack c.in_ok-want-in-Give.ensures.tree c.in_ok-want-in-Give.ensures.stack (answered_nested (whole_of c.args.self.now) _ c.args.number (plain c.args.node.now) (opens c.args.self.now.stack) (omega (arith, ap size (ap plain c.in-Give.is ∙ plain-Give _ c.in-Give.letter ∙ ap (λ b. Does (GivesTo b)) (sym c.number-agent.ensures.value)))) c.requires.nested) tt;
+      falls = subst (λ fs. 1 + weight_all (opens fs) < 2 * size (plain c.args.node.now) + weight_all (opens c.args.self.now.stack)) (sym c.in_ok-want-in-Give.ensures.stack) (answered_falls (plain c.args.node.now) (weight_all (opens c.args.self.now.stack)));
+      tree = c.in_ok-want-in-Give.ensures.tree;
     }

@@ -3,12 +3,13 @@ use Rattle.std.proofs.lemmas.List.{length-map}
 use Rattle.std.proofs.Math.ListN.{get_or-map}
 use Rattle.std.specs.List.{list_all}
 use Rattle.game_session.specs.Places.{places, has_place}
+use Rattle.game_session.specs.Agents.{agents, has_agent}
 use Rattle.game_session.specs.Faults.{world_of}
 use Rattle.game_session.specs.Kept.{tree_view, trees_view}
 use Rattle.game_session.specs.Levels.{value_of}
 use Rattle.game_session.specs.declared.level.Level.{Level}
 use Rattle.game_session.specs.declared.named_tree.NamedTree.{NamedTree}
-use Rattle.game_session.proofs.AgentTrees.{pick_is_within, picked_tree, picked_is_placed}
+use Rattle.game_session.proofs.AgentTrees.{pick_is_within, picked_tree, picked_is_placed, picked_is_crewed}
 use Rattle.game_session.proofs.level.Level.tree_of.Goals as goal
 
 -- what was read at an index, as a plain tree
@@ -36,3 +37,10 @@ returns-clause-placed c =
     let t : NamedTree = c.index-2.result.now in
     ap (λ n. list_all (has_place (world_of (value_of v))) (places n.tree)) (sym (tree_here v.trees.items c.index.result.now _ t c.index.ensures c.index-2.ensures))
     ∙ picked_is_placed (value_of v) v.picks.items v.faultless v.picked c.args.agent c.requires c.index.result.now (tree_view t)
+
+pub returns-clause-crewed : goal.returns-clause-crewed
+returns-clause-crewed c =
+    let v : Level = c.args.self.now in
+    let t : NamedTree = c.index-2.result.now in
+    ap (λ n. list_all (has_agent (world_of (value_of v))) (agents n.tree)) (sym (tree_here v.trees.items c.index.result.now _ t c.index.ensures c.index-2.ensures))
+    ∙ picked_is_crewed (value_of v) v.picks.items v.faultless v.picked c.args.agent c.requires c.index.result.now (tree_view t)

@@ -1,0 +1,9 @@
+use Rattle.std.proofs.Common.{◌≡◌, drop}
+use Rattle.std.specs.List.{list_all}
+use Rattle.bt_nodes.specs.Plain.{plains}
+use Rattle.game_session.specs.Agents.{agents_in, has_agent}
+use Rattle.level_text.proofs.crewed.+crewed.Given as goal
+
+abbrev pub invariant-are_crewed-nodes : goal.invariant-are_crewed-nodes
+invariant-are_crewed-nodes l =
+    list_all (has_agent l.world) (agents_in (plains (drop l.node-index l.nodes))) ≡ list_all (has_agent l.world) (agents_in (plains l.nodes))
