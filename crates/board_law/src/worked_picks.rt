@@ -2,21 +2,21 @@
 ghost use Rattle.std.specs.Prelude.{◌≡◌, [], ◌∷◌, ◌++◌, Some, None};
 ghost use Rattle.job_core.specs.declared.names.JobName.TheVariants.{Logic, Think, Path, Draw};
 ghost use Rattle.job_core.specs.declared.names.Event.TheVariants.{Start, Finish};
-ghost use Rattle.job_core.specs.Worked.{setup_of, two_slots, two_agents, no_agents, second_begun, spread_once, asked_once, both_drawn};
+ghost use Rattle.job_core.specs.Worked.{two_slots, two_agents, no_agents, second_begun, spread_once, asked_once, one_drawn};
 ghost use Rattle.board_law.specs.Board.{core_of};
 ghost use Rattle.board_law.specs.Pick.{Ready, New, given};
 
 /// Paths come before draws and thinks, and a job whose fiber is ready before a new one of its kind.
 pub fn paths_and_ready_fibers_come_first()
     ensures before_a_draw { given (core_of two_slots second_begun) ≡ Some (New (Path 2 0 0)) }
-    ensures thinks_in_order { given (core_of (two_agents 4) spread_once) ≡ Some (New (Think 1 0)) }
-    ensures before_a_think { given (core_of (two_agents 4) asked_once) ≡ Some (New (Path 1 0 0)) }
-    ensures ready_first { given (core_of (two_agents 4) (asked_once ++ Start 0 (Path 1 0 0) ∷ Finish 0 (Path 1 0 0) ∷ [])) ≡ Some (Ready 1) }
+    ensures thinks_in_order { given (core_of (two_agents 3) spread_once) ≡ Some (New (Think 1 0)) }
+    ensures before_a_think { given (core_of (two_agents 3) asked_once) ≡ Some (New (Path 1 0 0)) }
+    ensures ready_first { given (core_of (two_agents 3) (asked_once ++ Start 0 (Path 1 0 0) ∷ Finish 0 (Path 1 0 0) ∷ [])) ≡ Some (Ready 2) }
 {}
 
-/// The next Logic comes before draws, which are given where there is no fiber for it.
+/// The next Logic comes before draws, also where draws alone have a fiber that it could not take.
 pub fn draws_come_last()
-    ensures draw { given (core_of (setup_of 2 0 3 3 3 2) both_drawn) ≡ Some (New (Draw 1 2)) }
-    ensures nothing { given (core_of (no_agents 3) both_drawn) ≡ None }
-    ensures logic { given (core_of (no_agents 4) both_drawn) ≡ Some (New (Logic 2)) }
+    ensures logic { given (core_of (no_agents 2) one_drawn) ≡ Some (New (Logic 2)) }
+    ensures draw { given (core_of (no_agents 2) (one_drawn ++ Start 1 (Logic 2) ∷ [])) ≡ Some (New (Draw 1 1)) }
+    ensures nothing { given (core_of (no_agents 1) (one_drawn ++ Start 1 (Logic 2) ∷ [])) ≡ None }
 {}

@@ -171,7 +171,7 @@ fn plays_and_shows(
 
 // The same on a board of its own.
 fn is_played_in(alloc: Global, session: &Session, arena: &mut Option<Bump>) -> Option<bool> {
-    let settings = Settings::new(2, 1, 3, 1).ok()?;
+    let settings = Settings::new(2, 1, 1, 2, 1).ok()?;
     let mut board = new_board(alloc, session, settings)?;
     plays_and_shows(alloc, session, settings, &mut board, arena)
 }

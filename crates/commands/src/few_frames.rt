@@ -5,9 +5,9 @@ use job_machine::Settings;
 
 /// How a level from standard input is played.
 pub fn few_frames() -> Settings
-    ensures { result ≡ settings_of 3 1 16 3 }
+    ensures { result ≡ settings_of 3 1 8 8 3 }
 {
-    match Settings::new(3, 1, 16, 3) {
+    match Settings::new(3, 1, 8, 8, 3) {
         Ok(settings) => settings,
         Err(_) => unreachable!(),
     }

@@ -12,7 +12,7 @@ use Rattle.game_jobs.specs.Instance.{tree_of, view, asked_in}
 use Rattle.game_jobs.specs.Stuck.{IsStuckRun}
 
 pub stuck_complete : (s : Setup) (events : List Event) → IsStuckRun s events → IsComplete s events
-stuck_complete s events h = stuck_is_complete s events h.a_worker h.three_fibers h.a_slot h.run h.stuck
+stuck_complete s events h = stuck_is_complete s events h.a_worker h.a_small h.two_large h.a_slot h.run h.stuck
 
 pub few_asked : (g : Game) (f a : ℕ) → asked_in g f a ≤ size (tree_of g a)
 few_asked g zero a = omega arith

@@ -20,6 +20,6 @@ pub fn a_stuck_board_enables_nothing()
 
 /// A board that hands nothing out is stuck only where it is stopped or done: `enabled` and `apply` drive a game to its end.
 pub fn what_is_driven_ends_done()
-    ensures { (b : Playing) → IsWithinLimits b.run.numbers.frames b.run.numbers.workers b.run.numbers.fibers b.run.numbers.slots → IsLegalList (setup_in b.run) b.run.events
+    ensures { (b : Playing) → IsWithinLimits b.run.numbers.frames b.run.numbers.workers b.run.numbers.small b.run.numbers.large b.run.numbers.slots → IsLegalList (setup_in b.run) b.run.events
         → (state_in b.run).stopped ≡ false → IsOwn b → IsStuck b → IsComplete (setup_in b.run) b.run.events }
 {}

@@ -1,15 +1,17 @@
 -- What comes before a job's start, and that started jobs keep to their fibers.
-use Rattle.std.proofs.Common.{◌≡◌, ◌≤◌, ◌<◌, ℕ, zero, suc, ◌+◌, Bool, true, false, ◌&&◌, nat_lt, if◌then◌else◌, List, [], ◌∷◌, ◌++◌, refl, sym, ap, ◌∙◌, subst, ⊎_elim, arith}
+use Rattle.std.proofs.Common.{◌≡◌, ◌≤◌, ◌<◌, ℕ, zero, suc, ◌+◌, ◌-◌, Bool, true, false, ◌&&◌, nat_lt, if◌then◌else◌, List, [], ◌∷◌, ◌++◌, refl, sym, ap, ◌∙◌, subst, ⊎_elim, arith}
 use Rattle.std.proofs.lemmas.Bool.{true≢false, cases_order}
 use Rattle.job_core.specs.declared.names.JobName.{JobName}
 use Rattle.job_core.specs.declared.names.JobName.TheVariants.{Logic, Think, Path, Draw}
+use Rattle.job_core.specs.declared.names.Size.{Size}
+use Rattle.job_core.specs.declared.names.Size.TheVariants.{Small, Large}
 use Rattle.job_core.specs.declared.names.Event.{Event}
 use Rattle.job_core.specs.declared.names.Event.TheVariants.{Start, Resume, Ask, Spread, Hold, Finish, Emit, Stop}
-use Rattle.job_core.specs.Core.{Setup, IsJob, same, Phase, Absent, Queued, Runs, Waits, Finished, State, held, wants, May, IsLegal, step_of, put, queue, thinks_of, after, opening, over_jobs, after_all, state, IsLegalFrom, IsLegalList}
+use Rattle.job_core.specs.Core.{Setup, IsJob, same, Phase, Absent, Queued, Runs, Waits, Finished, State, held, size_of, held_in, pool, free, May, IsLegal, step_of, put, queue, thinks_of, after, opening, over_jobs, after_all, state, IsLegalFrom, IsLegalList}
 use Rattle.job_core.proofs.Sums.{jobs_zero}
 use Rattle.job_core.proofs.Shape.{Shape, LogicFits, ThinkFits, PathFits, DrawFits, keeps, opens, there, logic_next}
-use Rattle.job_core.proofs.Moves.{job_of, IsMove, mover, count_moves, put_here}
-use Rattle.job_core.proofs.Keeping.{live, live_starts, live_ends, state_more}
+use Rattle.job_core.proofs.Moves.{job_of, IsMove, put_here}
+use Rattle.job_core.proofs.Keeping.{own, held_none, held_own, held_moves, live, live_starts, live_ends, state_more}
 
 -- ---- phases beside those of the jobs that made them
 
@@ -73,43 +75,51 @@ module _ (s : Setup) (st : State) (inv : Shape s st) where
 
   -- ---- fibers
 
-  wants_some : (j : JobName) → 1 ≤ wants j
-  wants_some (Logic f) = omega arith
-  wants_some (Think f a) = omega arith
-  wants_some (Path f a i) = omega arith
-  wants_some (Draw f b) = omega arith
+  -- a job that starts takes a fiber of its size, and none of the other
+  starts_within : (z y : Size) (n : ℕ) → 0 < pool s y - live s st y → live s st z ≤ pool s z → n ≡ live s st z + own z y → n ≤ pool s z
+  starts_within Small Small n m l e = omega arith
+  starts_within Large Large n m l e = omega arith
+  starts_within Small Large n m l e = omega arith
+  starts_within Large Small n m l e = omega arith
 
-  goes_on : (e : Event) (m : May s st e) → IsMove e → held (st.phase (job_of e)) ≡ 1 → held ((after s st e).phase (job_of e)) ≡ 1 → live s (after s st e) ≡ live s st
+  goes_on : (z : Size) (e : Event) (m : May s st e) → IsMove e → held (st.phase (job_of e)) ≡ 1 → held ((after s st e).phase (job_of e)) ≡ 1 → live s (after s st e) z ≡ live s st z
+  goes_on z e m n a b =
+      let c = held_moves s st inv z e m n in
+      let d = held_own z (size_of (job_of e)) (st.phase (job_of e)) a in
+      let f = held_own z (size_of (job_of e)) ((after s st e).phase (job_of e)) b in
+      omega arith
+
+  room_for : (j : JobName) → 0 < free s st (size_of j) → 0 < pool s (size_of j) - live s st (size_of j)
   unfolding live
-  goes_on e m n a b = let c = count_moves s st inv (λ j p. held p) (λ j. refl) e m (mover s st inv e m n) in omega arith
+  room_for j m = m
 
-  kept_step : (e : Event) → May s st e → live s st ≤ s.fibers → live s (after s st e) ≤ s.fibers
+  kept_step : (z : Size) (e : Event) → May s st e → live s st z ≤ pool s z → live s (after s st e) z ≤ pool s z
   unfolding live
-  kept_step (Start w j) m l = let a = live_starts s st inv w j m in let b = wants_some j in let c = m.3 in omega arith
-  kept_step (Finish w j) m l = let a = live_ends s st inv w j m in omega arith
-  kept_step (Resume w j) m l = let r = m.2 in let e = goes_on (Resume w j) m tt (ap held r.1) (ap held (put_here st.phase j (Runs w (step_of (st.phase j))))) in omega arith
-  kept_step (Ask w (Think g a)) m l = let e = goes_on (Ask w (Think g a)) m tt (ap held m.1) (ap held (put_here (put st.phase (Path g a (step_of (st.phase (Think g a)))) Queued) (Think g a) (Waits (suc (step_of (st.phase (Think g a))))))) in omega arith
-  kept_step (Spread w (Logic g)) m l = let e = goes_on (Spread w (Logic g)) m tt (ap held m.0) (ap held (put_here (queue st.phase (thinks_of s g)) (Logic g) (Waits 1))) in omega arith
-  kept_step (Hold w (Logic g)) m l = let e = goes_on (Hold w (Logic g)) m tt (ap held m.0) (ap held (put_here st.phase (Logic g) (Waits 0))) in omega arith
-  kept_step (Emit f) m l = l
-  kept_step Stop m l = l
-  kept_step (Spread w (Think g a)) m l = absurd m
-  kept_step (Spread w (Path g a i)) m l = absurd m
-  kept_step (Spread w (Draw g b)) m l = absurd m
-  kept_step (Hold w (Think g a)) m l = absurd m
-  kept_step (Hold w (Path g a i)) m l = absurd m
-  kept_step (Hold w (Draw g b)) m l = absurd m
-  kept_step (Ask w (Logic g)) m l = absurd m
-  kept_step (Ask w (Path g a i)) m l = absurd m
-  kept_step (Ask w (Draw g b)) m l = absurd m
+  kept_step z (Start w j) m l = starts_within z (size_of j) _ (room_for j m.3) l (live_starts s st inv z w j m)
+  kept_step z (Finish w j) m l = let a = live_ends s st inv z w j m in omega arith
+  kept_step z (Resume w j) m l = let r = m.2 in let e = goes_on z (Resume w j) m tt (ap held r.1) (ap held (put_here st.phase j (Runs w (step_of (st.phase j))))) in omega arith
+  kept_step z (Ask w (Think g a)) m l = let e = goes_on z (Ask w (Think g a)) m tt (ap held m.1) (ap held (put_here (put st.phase (Path g a (step_of (st.phase (Think g a)))) Queued) (Think g a) (Waits (suc (step_of (st.phase (Think g a))))))) in omega arith
+  kept_step z (Spread w (Logic g)) m l = let e = goes_on z (Spread w (Logic g)) m tt (ap held m.0) (ap held (put_here (queue st.phase (thinks_of s g)) (Logic g) (Waits 1))) in omega arith
+  kept_step z (Hold w (Logic g)) m l = let e = goes_on z (Hold w (Logic g)) m tt (ap held m.0) (ap held (put_here st.phase (Logic g) (Waits 0))) in omega arith
+  kept_step z (Emit f) m l = l
+  kept_step z Stop m l = l
+  kept_step z (Spread w (Think g a)) m l = absurd m
+  kept_step z (Spread w (Path g a i)) m l = absurd m
+  kept_step z (Spread w (Draw g b)) m l = absurd m
+  kept_step z (Hold w (Think g a)) m l = absurd m
+  kept_step z (Hold w (Path g a i)) m l = absurd m
+  kept_step z (Hold w (Draw g b)) m l = absurd m
+  kept_step z (Ask w (Logic g)) m l = absurd m
+  kept_step z (Ask w (Path g a i)) m l = absurd m
+  kept_step z (Ask w (Draw g b)) m l = absurd m
 
-kept_list : (s : Setup) (es : List Event) (st : State) → Shape s st → live s st ≤ s.fibers → IsLegalFrom s st es → live s (after_all s st es) ≤ s.fibers
-kept_list s [] st inv l h = l
-kept_list s (e ∷ es) st inv l h = kept_list s es (after s st e) (keeps s st e inv h.0.1) (kept_step s st inv e h.0.1 l) h.1
+kept_list : (s : Setup) (z : Size) (es : List Event) (st : State) → Shape s st → live s st z ≤ pool s z → IsLegalFrom s st es → live s (after_all s st es) z ≤ pool s z
+kept_list s z [] st inv l h = l
+kept_list s z (e ∷ es) st inv l h = kept_list s z es (after s st e) (keeps s st e inv h.0.1) (kept_step s st inv z e h.0.1 l) h.1
 
-pub fibers_kept : (s : Setup) (es : List Event) → IsLegalList s es → over_jobs s (λ j. held ((state s es).phase j)) ≤ s.fibers
+pub fibers_kept : (s : Setup) (es : List Event) (z : Size) → IsLegalList s es → over_jobs s (λ j. held_in z (size_of j) ((state s es).phase j)) ≤ pool s z
 unfolding live
-fibers_kept s es l = kept_list s es (opening s) (opens s) (let z = jobs_zero s (λ j. held ((opening s).phase j)) (λ j v. none j) in omega arith) l
+fibers_kept s es z l = kept_list s z es (opening s) (opens s) (let e = jobs_zero s (λ j. held_in z (size_of j) ((opening s).phase j)) (λ j v. held_none z (size_of j) ((opening s).phase j) (none j)) in omega arith) l
   where
     go : (b : Bool) → held (if b then Queued else Absent) ≡ 0
     go true = refl

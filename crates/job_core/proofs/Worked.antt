@@ -1,11 +1,12 @@
 -- Worked settings and runs, by computing: how long they are, which are complete, and where a list stops being legal.
-use Rattle.std.proofs.Common.{◌≡◌, ◌≤◌, List, [], ◌∷◌, ◌++◌, length, refl, arith}
+use Rattle.std.proofs.Common.{◌≡◌, ◌<◌, List, [], ◌∷◌, ◌++◌, length, refl, arith}
 use Rattle.job_core.specs.declared.names.JobName.TheVariants.{Logic, Think, Path, Draw}
+use Rattle.job_core.specs.declared.names.Size.TheVariants.{Small, Large}
 use Rattle.job_core.specs.declared.names.Event.{Event}
 use Rattle.job_core.specs.declared.names.Event.TheVariants.{Start, Resume, Ask, Spread, Finish}
 use Rattle.job_core.specs.Core.{IsLegal, IsLegalList, IsComplete, free, opening, state}
 use Rattle.job_core.specs.Amounts.{most, least, holds}
-use Rattle.job_core.specs.Worked.{setup_of, lone, one_slot, two_slots, two_agents, no_agents, two_workers, one_frame, held_once, second_begun, second_ended, spread_once, asked_once, one_drawn, both_drawn, shared}
+use Rattle.job_core.specs.Worked.{setup_of, lone, one_slot, two_slots, two_agents, no_agents, two_workers, one_frame, held_once, second_begun, second_ended, spread_once, asked_once, one_drawn, shared}
 use Rattle.job_core.proofs.Shape.{opens}
 use Rattle.job_core.proofs.Once.{shape_at}
 use Rattle.job_core.proofs.Decide.{checks-true, may-true}
@@ -26,11 +27,15 @@ pub held_length : (holds held_once ≡ 1) × (length held_once ≡ most one_slot
 unfolding setup_of one_slot held_once
 held_length = (refl, refl)
 
--- ---- a Draw and a Path on the last fiber
+-- ---- a Draw and a Path on the only small fiber, with no large one free
 
-pub begun_free : free two_slots (state two_slots second_begun) ≡ 1
+pub begun_small : free two_slots (state two_slots second_begun) Small ≡ 1
 unfolding setup_of two_slots second_begun
-begun_free = refl
+begun_small = refl
+
+pub begun_large : free two_slots (state two_slots second_begun) Large ≡ 0
+unfolding setup_of two_slots second_begun
+begun_large = refl
 
 begun_legal : IsLegalList two_slots second_begun
 unfolding setup_of two_slots second_begun
@@ -52,65 +57,69 @@ pub second_length : length (second_begun ++ second_ended) ≡ least two_slots
 unfolding setup_of two_slots second_begun second_ended
 second_length = refl
 
--- ---- a Think leaves a fiber
+-- ---- a Think on the last large fiber, and not on a small one
 
-pub spread_free : free (two_agents 3) (state (two_agents 3) spread_once) ≡ 2
+pub spread_large : free (two_agents 2) (state (two_agents 2) spread_once) Large ≡ 1
 unfolding setup_of two_agents spread_once
-spread_free = refl
+spread_large = refl
 
-spread_legal : IsLegalList (two_agents 3) spread_once
+spread_legal : IsLegalList (two_agents 2) spread_once
 unfolding setup_of two_agents spread_once
-spread_legal = checks-true (two_agents 3) spread_once (opening (two_agents 3)) (opens (two_agents 3)) refl
+spread_legal = checks-true (two_agents 2) spread_once (opening (two_agents 2)) (opens (two_agents 2)) refl
 
-pub think_starts : IsLegal (two_agents 3) (state (two_agents 3) spread_once) (Start 0 (Think 1 0))
+pub think_starts : IsLegal (two_agents 2) (state (two_agents 2) spread_once) (Start 0 (Think 1 0))
 unfolding setup_of two_agents spread_once
-think_starts = (refl, may-true (two_agents 3) (state (two_agents 3) spread_once) (shape_at (two_agents 3) spread_once spread_legal) (Start 0 (Think 1 0)) refl)
+think_starts = (refl, may-true (two_agents 2) (state (two_agents 2) spread_once) (shape_at (two_agents 2) spread_once spread_legal) (Start 0 (Think 1 0)) refl)
 
-pub asked_free : free (two_agents 3) (state (two_agents 3) asked_once) ≡ 1
+pub asked_large : free (two_agents 2) (state (two_agents 2) asked_once) Large ≡ 0
 unfolding setup_of two_agents asked_once
-asked_free = refl
+asked_large = refl
 
-pub think_waits : IsLegal (two_agents 3) (state (two_agents 3) asked_once) (Start 0 (Think 1 1)) → ⊥
+pub asked_small : free (two_agents 2) (state (two_agents 2) asked_once) Small ≡ 1
 unfolding setup_of two_agents asked_once
-think_waits h = let l : 2 ≤ 1 = h.1.3 in omega (arith, l)
+asked_small = refl
 
-asked_legal : IsLegalList (two_agents 4) asked_once
+pub think_waits : IsLegal (two_agents 2) (state (two_agents 2) asked_once) (Start 0 (Think 1 1)) → ⊥
 unfolding setup_of two_agents asked_once
-asked_legal = checks-true (two_agents 4) asked_once (opening (two_agents 4)) (opens (two_agents 4)) refl
+think_waits h = let l : 0 < 0 = h.1.3 in omega (arith, l)
 
-pub think_starts_then : IsLegal (two_agents 4) (state (two_agents 4) asked_once) (Start 0 (Think 1 1))
+asked_legal : IsLegalList (two_agents 3) asked_once
 unfolding setup_of two_agents asked_once
-think_starts_then = (refl, may-true (two_agents 4) (state (two_agents 4) asked_once) (shape_at (two_agents 4) asked_once asked_legal) (Start 0 (Think 1 1)) refl)
+asked_legal = checks-true (two_agents 3) asked_once (opening (two_agents 3)) (opens (two_agents 3)) refl
 
--- ---- and a Logic
+pub think_starts_then : IsLegal (two_agents 3) (state (two_agents 3) asked_once) (Start 0 (Think 1 1))
+unfolding setup_of two_agents asked_once
+think_starts_then = (refl, may-true (two_agents 3) (state (two_agents 3) asked_once) (shape_at (two_agents 3) asked_once asked_legal) (Start 0 (Think 1 1)) refl)
 
-pub drawn_free : free (no_agents 3) (state (no_agents 3) one_drawn) ≡ 2
+-- ---- a Draw not on a large fiber
+
+pub drawn_small : free (no_agents 1) (state (no_agents 1) one_drawn) Small ≡ 0
 unfolding setup_of no_agents one_drawn
-drawn_free = refl
+drawn_small = refl
 
-drawn_legal : IsLegalList (no_agents 3) one_drawn
+pub drawn_large : free (no_agents 1) (state (no_agents 1) one_drawn) Large ≡ 2
 unfolding setup_of no_agents one_drawn
-drawn_legal = checks-true (no_agents 3) one_drawn (opening (no_agents 3)) (opens (no_agents 3)) refl
+drawn_large = refl
 
-pub logic_starts : IsLegal (no_agents 3) (state (no_agents 3) one_drawn) (Start 2 (Logic 2))
+pub draw_waits : IsLegal (no_agents 1) (state (no_agents 1) one_drawn) (Start 1 (Draw 1 1)) → ⊥
 unfolding setup_of no_agents one_drawn
-logic_starts = (refl, may-true (no_agents 3) (state (no_agents 3) one_drawn) (shape_at (no_agents 3) one_drawn drawn_legal) (Start 2 (Logic 2)) refl)
+draw_waits h = let l : 0 < 0 = h.1.3 in omega (arith, l)
 
-pub both_free : free (no_agents 3) (state (no_agents 3) both_drawn) ≡ 1
-unfolding setup_of no_agents both_drawn
-both_free = refl
+drawn_legal : IsLegalList (no_agents 1) one_drawn
+unfolding setup_of no_agents one_drawn
+drawn_legal = checks-true (no_agents 1) one_drawn (opening (no_agents 1)) (opens (no_agents 1)) refl
 
-pub logic_waits : IsLegal (no_agents 3) (state (no_agents 3) both_drawn) (Start 2 (Logic 2)) → ⊥
-unfolding setup_of no_agents both_drawn
-logic_waits h = let l : 2 ≤ 1 = h.1.3 in omega (arith, l)
+pub logic_starts : IsLegal (no_agents 1) (state (no_agents 1) one_drawn) (Start 2 (Logic 2))
+unfolding setup_of no_agents one_drawn
+logic_starts = (refl, may-true (no_agents 1) (state (no_agents 1) one_drawn) (shape_at (no_agents 1) one_drawn drawn_legal) (Start 2 (Logic 2)) refl)
 
-both_legal : IsLegalList (no_agents 4) both_drawn
-unfolding setup_of no_agents both_drawn
-both_legal = checks-true (no_agents 4) both_drawn (opening (no_agents 4)) (opens (no_agents 4)) refl
+drawn_legal_then : IsLegalList (no_agents 2) one_drawn
+unfolding setup_of no_agents one_drawn
+drawn_legal_then = checks-true (no_agents 2) one_drawn (opening (no_agents 2)) (opens (no_agents 2)) refl
 
-pub logic_starts_then : IsLegal (no_agents 4) (state (no_agents 4) both_drawn) (Start 2 (Logic 2))
-unfolding setup_of no_agents both_drawn
-logic_starts_then = (refl, may-true (no_agents 4) (state (no_agents 4) both_drawn) (shape_at (no_agents 4) both_drawn both_legal) (Start 2 (Logic 2)) refl)
+pub draw_starts_then : IsLegal (no_agents 2) (state (no_agents 2) one_drawn) (Start 1 (Draw 1 1))
+unfolding setup_of no_agents one_drawn
+draw_starts_then = (refl, may-true (no_agents 2) (state (no_agents 2) one_drawn) (shape_at (no_agents 2) one_drawn drawn_legal_then) (Start 1 (Draw 1 1)) refl)
 
 -- ---- two workers
 
@@ -125,17 +134,17 @@ shared_length = refl
 -- ---- amounts
 
 -- 26 agents that ask once each, over two frames in one slot
-crowd_length : most (setup_of 2 26 1 1 16 1) ≡ 328
+crowd_length : most (setup_of 2 26 1 1 1 2 1) ≡ 328
 unfolding setup_of
 crowd_length = refl
 
 -- no agents, two frames of three bands
-empty_map_length : most (setup_of 2 0 3 1 16 3) ≡ 22
+empty_map_length : most (setup_of 2 0 3 1 8 8 3) ≡ 22
 unfolding setup_of
 empty_map_length = refl
 
 -- one agent that asks twice in one frame
-two_questions_length : most (record { frames = 1; agents = 1; bands = 1; questions = λ f a. 2; workers = 1; fibers = 16; slots = 3 }) ≡ 17
+two_questions_length : most (record { frames = 1; agents = 1; bands = 1; questions = λ f a. 2; workers = 1; small = 8; large = 8; slots = 3 }) ≡ 17
 two_questions_length = refl
 
 -- ---- where a list stops being legal

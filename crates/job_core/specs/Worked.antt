@@ -6,27 +6,27 @@ use Rattle.job_core.specs.declared.names.Event.TheVariants.{Start, Resume, Ask, 
 use Rattle.job_core.specs.Core.{Setup}
 
 -- each agent asks once in each frame
-unfoldable pub setup_of : (frames agents bands workers fibers slots : ℕ) → Setup
-setup_of frames agents bands workers fibers slots =
-    record { frames = frames; agents = agents; bands = bands; questions = λ f a. 1; workers = workers; fibers = fibers; slots = slots }
+unfoldable pub setup_of : (frames agents bands workers small large slots : ℕ) → Setup
+setup_of frames agents bands workers small large slots =
+    record { frames = frames; agents = agents; bands = bands; questions = λ f a. 1; workers = workers; small = small; large = large; slots = slots }
 
 unfoldable pub lone : Setup
-lone = setup_of 1 1 1 1 3 1
+lone = setup_of 1 1 1 1 1 2 1
 
 unfoldable pub one_slot : Setup
-one_slot = setup_of 2 1 1 1 3 1
+one_slot = setup_of 2 1 1 1 1 2 1
 
 unfoldable pub two_slots : Setup
-two_slots = setup_of 2 1 1 1 3 2
+two_slots = setup_of 2 1 1 1 1 2 2
 
-unfoldable pub two_agents : (fibers : ℕ) → Setup
-two_agents fibers = setup_of 1 2 1 1 fibers 1
+unfoldable pub two_agents : (large : ℕ) → Setup
+two_agents large = setup_of 1 2 1 1 1 large 1
 
-unfoldable pub no_agents : (fibers : ℕ) → Setup
-no_agents fibers = setup_of 2 0 2 3 fibers 2
+unfoldable pub no_agents : (small : ℕ) → Setup
+no_agents small = setup_of 2 0 2 3 small 2 2
 
 unfoldable pub two_workers : Setup
-two_workers = setup_of 1 2 2 2 4 1
+two_workers = setup_of 1 2 2 2 2 3 1
 
 -- ---- runs
 
@@ -69,10 +69,6 @@ asked_once = Start 0 (Logic 1) ∷ Spread 0 (Logic 1) ∷ Start 0 (Think 1 0) �
 -- a Logic with no thinks is over, and one of its draws has begun
 unfoldable pub one_drawn : List Event
 one_drawn = Start 0 (Logic 1) ∷ Spread 0 (Logic 1) ∷ Resume 0 (Logic 1) ∷ Finish 0 (Logic 1) ∷ Start 0 (Draw 1 0) ∷ []
-
--- and the other too
-unfoldable pub both_drawn : List Event
-both_drawn = Start 0 (Logic 1) ∷ Spread 0 (Logic 1) ∷ Resume 0 (Logic 1) ∷ Finish 0 (Logic 1) ∷ Start 0 (Draw 1 0) ∷ Start 1 (Draw 1 1) ∷ []
 
 -- one frame of two agents and two bands by two workers: jobs start in any order, two at once, and go on with another worker
 unfoldable pub shared : List Event

@@ -4,7 +4,8 @@ ghost use Rattle.job_core.specs.declared.names.Event.{Event};
 ghost use Rattle.job_core.specs.declared.names.Event.TheVariants.{Start, Stop};
 ghost use Rattle.job_core.specs.declared.names.JobName.{JobName};
 ghost use Rattle.job_core.specs.declared.names.JobName.TheVariants.{Logic, Think, Path, Draw};
-ghost use Rattle.job_core.specs.Core.{Setup, Runs, Waits, Finished, IsLegal, IsLegalList, IsRun, held, over_jobs, state};
+ghost use Rattle.job_core.specs.declared.names.Size.{Size};
+ghost use Rattle.job_core.specs.Core.{Setup, Runs, Waits, Finished, IsLegal, IsLegalList, IsRun, size_of, held_in, pool, over_jobs, state};
 
 /// A Logic starts once the one before it is over, a Think once its Logic has spread, a Path once its Think has asked its
 /// question, and a Draw once its Logic is over.
@@ -21,9 +22,9 @@ pub fn workers_run_one_job_each()
     ensures below { (s : Setup) (events : List Event) (job : JobName) (worker step : ℕ) → IsLegalList s events → (state s events).phase job ≡ Runs worker step → worker < s.workers }
 {}
 
-/// No more jobs are started and not finished than there are fibers.
+/// No more jobs of a size are started and not finished than there are fibers of it.
 pub fn jobs_keep_to_their_fibers()
-    ensures { (s : Setup) (events : List Event) → IsLegalList s events → over_jobs s (λ job. held ((state s events).phase job)) ≤ s.fibers }
+    ensures { (s : Setup) (events : List Event) (size : Size) → IsLegalList s events → over_jobs s (λ job. held_in size (size_of job) ((state s events).phase job)) ≤ pool s size }
 {}
 
 /// A run can be stopped at any time, and nothing happens afterwards.

@@ -9,7 +9,7 @@ is_from least most n = nat_le least n && nat_le n most
 
 abbrev pub settings_fault : Numbers → Option SettingsFault
 settings_fault n =
-    if is_from 1 16 n.workers then (if is_from 3 64 n.fibers then (if is_from 1 16 n.slots then (if nat_le n.frames 9999 then None else Some Frames)
+    if is_from 1 16 n.workers then (if is_from 1 16 n.small && is_from 2 63 n.large then (if is_from 1 16 n.slots then (if nat_le n.frames 9999 then None else Some Frames)
     else Some Slots)
     else Some Fibers)
     else Some Workers

@@ -4,17 +4,20 @@ use Rattle.std.specs.Prelude.{◌≤◌, ℕ}
 pub record Numbers : Type 0 where
   pub frames : ℕ
   pub workers : ℕ
-  pub fibers : ℕ
+  pub small : ℕ
+  pub large : ℕ
   pub slots : ℕ
 
-abbrev pub settings_of : (frames workers fibers slots : ℕ) → Numbers
-settings_of frames workers fibers slots = record { frames = frames; workers = workers; fibers = fibers; slots = slots }
+abbrev pub settings_of : (frames workers small large slots : ℕ) → Numbers
+settings_of frames workers small large slots = record { frames = frames; workers = workers; small = small; large = large; slots = slots }
 
-pub record IsWithinLimits (frames workers fibers slots : ℕ) : Type 0 where
+pub record IsWithinLimits (frames workers small large slots : ℕ) : Type 0 where
   pub most_frames : frames ≤ 9999
   pub a_worker : 1 ≤ workers
   pub most_workers : workers ≤ 16
-  pub three_fibers : 3 ≤ fibers
-  pub most_fibers : fibers ≤ 64
+  pub a_small : 1 ≤ small
+  pub most_small : small ≤ 16
+  pub two_large : 2 ≤ large
+  pub most_large : large ≤ 63
   pub a_slot : 1 ≤ slots
   pub most_slots : slots ≤ 16

@@ -10,6 +10,7 @@ abbrev pub holding : Core → ℕ → ℕ → Option Held → Core
 holding c worker fiber held =
     record c {
       seats = record {
+        small = c.seats.small;
         taken = c.seats.taken;
         jobs = write c.seats.jobs fiber held;
         workers = write c.seats.workers worker (runs_on fiber (runner held));

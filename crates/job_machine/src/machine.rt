@@ -1,7 +1,7 @@
 ghost use Rattle.std.specs.Prelude.{◌≡◌, ◌<◌, ◌≤◌, ◌+◌, ◌-◌, ◌^◌, ◌==◌, ◌++◌, IsSome, IsSomeAnd, OnOk, OnErr, IfOk, Some, None, true, false, length, map, not, slice_get};
-ghost use Rattle.job_core.specs.Core.{Setup, same, Thinks, Way, Draws, Shown};
+ghost use Rattle.job_core.specs.Core.{Setup, same, size_of, Thinks, Way, Draws, Shown};
 ghost use Rattle.board_law.specs.Lists.{all, has, tally, at, first_place};
-ghost use Rattle.board_law.specs.Board.{core_after, core_opening, core_end, fiber_of, is_taken, holds, first_row, first, next_logic, woken};
+ghost use Rattle.board_law.specs.Board.{core_after, core_opening, core_end, fiber_of, taken_of, is_taken, holds, first_row, first, next_logic, woken};
 ghost use Rattle.board_law.specs.Passes.{RunsAt, on_fiber};
 ghost use Rattle.counters.specs.Keys.{counter_of};
 ghost use Rattle.job_machine.specs.Opening.{opened};
@@ -15,7 +15,7 @@ use super::tables::empty_table;
 use super::waking::{ready_at_once, wake};
 use counters::{CounterKey, Counters, Waits};
 use job_core::names::{Event, JobName};
-use job_queues::{Fiber, FiberPool, Queues};
+use job_queues::{Fiber, FiberPool, Queues, size_of};
 use std::alloc::Global;
 use std::marker::Model;
 
@@ -56,7 +56,7 @@ impl Model for Machine {
 
     ghost view = { λ m. record {
       queues = m.queues.queues;
-      seats = record { taken = m.pool; jobs = m.jobs.items; workers = m.workers.items };
+      seats = record { small = m.pool.small; taken = m.pool.taken; jobs = m.jobs.items; workers = m.workers.items };
       counters = m.counters;
       slots = m.slots.items;
       emitted = m.emitted;
@@ -85,15 +85,16 @@ impl Machine {
     /// Nothing runs and nothing waits; the first frame's Logic is queued, if there is a frame.
     pub fn new(alloc: Global, settings: Settings) -> Result<Machine, OutOfMemory>
         ensures { IfOk result (λ m. (s : Setup) → s.frames ≡ settings.frames → s.workers ≡ settings.workers
-            → s.fibers ≡ settings.fibers → s.slots ≡ settings.slots → m ≡ core_opening s) }
+            → s.small ≡ settings.small → s.large ≡ settings.large → s.slots ≡ settings.slots → m ≡ core_opening s) }
     {
-        let queues = opening_queues(alloc, settings.frames(), settings.fibers())?;
-        let jobs = empty_table(alloc, settings.fibers())?;
+        let (small, large) = (settings.small(), settings.large());
+        let queues = opening_queues(alloc, settings.frames(), small + large)?;
+        let jobs = empty_table(alloc, small + large)?;
         let workers = empty_table(alloc, settings.workers())?;
         let slots = empty_table(alloc, settings.slots())?;
         Ok(Machine {
             queues,
-            pool: FiberPool::new(settings.fibers()),
+            pool: FiberPool::new(small, large),
             jobs,
             workers,
             counters: Counters::new(alloc),
@@ -136,11 +137,11 @@ impl Machine {
         };
     }
 
-    /// A worker starts a job that is queued, on the lowest free fiber.
+    /// A worker starts a job that is queued, on the lowest free fiber of the job's size.
     #[inline(always)]
     pub fn start(&mut self, worker: u32, job: JobName)
         requires queued { has (same job) (all self.old.queues.fresh) ≡ true }
-        requires free { 0 < tally not self.old.seats.taken }
+        requires free { 0 < tally not (taken_of self.old.seats (size_of job)) }
         requires worker { worker < length self.old.seats.workers }
         requires table { self.old.seats.taken ≡ map is_taken self.old.seats.jobs }
         ensures { (s : Setup) → self.new ≡ core_after s self.old (Event.Start worker job) }
@@ -148,7 +149,7 @@ impl Machine {
         let Ok(()) = self.queues.take_out(job) else {
             unreachable!()
         };
-        let Ok(fiber) = self.pool.take() else {
+        let Ok(fiber) = self.pool.take(size_of(job)) else {
             unreachable!()
         };
         self.hold_on(

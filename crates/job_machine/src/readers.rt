@@ -12,7 +12,7 @@ use super::machine::Machine;
 use super::tables::{entry, place_of};
 use counters::CounterKey;
 use job_core::names::JobName;
-use job_queues::{Fiber, Pick, fibers_wanted};
+use job_queues::{Fiber, Pick, Size, size_of};
 
 // What a board asks its machine before it does an event. None of these takes memory.
 impl Machine {
@@ -21,7 +21,8 @@ impl Machine {
     pub fn peek(&self) -> Option<Pick>
         ensures { option_map picked result ≡ given self.now }
     {
-        self.queues.peek(self.pool.free())
+        self.queues
+            .peek(self.pool.free(Size::Small), self.pool.free(Size::Large))
     }
 
     /// The job that a worker runs, if it runs one.
@@ -64,11 +65,11 @@ impl Machine {
         self.queues.is_ready(fiber)
     }
 
-    /// Whether fibers enough are free for a job to start.
+    /// Whether a fiber of a job's size is free.
     pub fn has_fiber(&self, job: JobName) -> bool
         ensures { result ≡ has_fiber self.now.seats job }
     {
-        fibers_wanted(job) <= self.pool.free()
+        self.pool.free(size_of(job)) > 0
     }
 
     /// How many frames are shown.

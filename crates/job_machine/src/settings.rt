@@ -9,7 +9,7 @@ use std::marker::Model;
 pub enum SettingsFault {
     /// Not from 1 to 16 workers.
     Workers,
-    /// Not from 3 to 64 fibers.
+    /// Not from 1 to 16 small fibers, or not from 2 to 63 large ones.
     Fibers,
     /// Not from 1 to 16 slots.
     Slots,
@@ -17,12 +17,13 @@ pub enum SettingsFault {
     Frames,
 }
 
-/// How many frames are run, by how many workers, on how many fibers, and how many frames may be under way at once.
+/// How many frames are run, by how many workers, on how many fibers of each size, and how many frames may be under way at once.
 #[derive(Clone, Copy, Debug, PartialEq, Eq)]
 pub struct Settings {
     frames: u32,
     workers: u32,
-    fibers: u32,
+    small: u32,
+    large: u32,
     slots: u32,
 }
 
@@ -31,11 +32,11 @@ impl Model for Settings {
 
     ghost Value = { Numbers };
 
-    ghost view = { λ s. record { frames = s.frames; workers = s.workers; fibers = s.fibers; slots = s.slots } };
+    ghost view = { λ s. record { frames = s.frames; workers = s.workers; small = s.small; large = s.large; slots = s.slots } };
 
-    ghost invariant = { λ s. IsWithinLimits s.frames s.workers s.fibers s.slots };
+    ghost invariant = { λ s. IsWithinLimits s.frames s.workers s.small s.large s.slots };
 
-    ghost inverse = { λ n. record { frames = n.frames; workers = n.workers; fibers = n.fibers; slots = n.slots } };
+    ghost inverse = { λ n. record { frames = n.frames; workers = n.workers; small = n.small; large = n.large; slots = n.slots } };
 }
 
 impl Settings {
@@ -43,17 +44,18 @@ impl Settings {
     pub fn new(
         frames: u32,
         workers: u32,
-        fibers: u32,
+        small: u32,
+        large: u32,
         slots: u32,
     ) -> Result<Settings, SettingsFault>
-        ensures value { IfOk result (λ s. s ≡ settings_of frames workers fibers slots) }
-        ensures ok { OnOk result (settings_fault (settings_of frames workers fibers slots) ≡ None) }
-        ensures fault { IfErr result (λ e. Some e ≡ settings_fault (settings_of frames workers fibers slots)) }
+        ensures value { IfOk result (λ s. s ≡ settings_of frames workers small large slots) }
+        ensures ok { OnOk result (settings_fault (settings_of frames workers small large slots) ≡ None) }
+        ensures fault { IfErr result (λ e. Some e ≡ settings_fault (settings_of frames workers small large slots)) }
     {
         if !(1..=16).contains(&workers) {
             return Err(SettingsFault::Workers);
         }
-        if !(3..=64).contains(&fibers) {
+        if !((1..=16).contains(&small) && (2..=63).contains(&large)) {
             return Err(SettingsFault::Fibers);
         }
         if !(1..=16).contains(&slots) {
@@ -65,7 +67,8 @@ impl Settings {
         Ok(Settings {
             frames,
             workers,
-            fibers,
+            small,
+            large,
             slots,
         })
     }
@@ -87,13 +90,22 @@ impl Settings {
         self.workers
     }
 
-    /// How many fibers the pool has, from 3 to 64.
-    pub fn fibers(&self) -> u32
-        ensures value { result ≡ self.now.fibers }
-        ensures least { 3 ≤ result }
-        ensures most { result ≤ 64 }
+    /// How many small fibers there are, from 1 to 16: for the jobs that never wait.
+    pub fn small(&self) -> u32
+        ensures value { result ≡ self.now.small }
+        ensures least { 1 ≤ result }
+        ensures most { result ≤ 16 }
     {
-        self.fibers
+        self.small
+    }
+
+    /// How many large fibers there are, from 2 to 63: for the jobs that may wait.
+    pub fn large(&self) -> u32
+        ensures value { result ≡ self.now.large }
+        ensures least { 2 ≤ result }
+        ensures most { result ≤ 63 }
+    {
+        self.large
     }
 
     /// How many frames may be under way at once, from 1 to 16.
@@ -107,7 +119,7 @@ impl Settings {
 
     /// The numbers are within their limits: for proofs, which read no private field. It does nothing.
     pub fn limits_hold(&self)
-        ensures { IsWithinLimits self.now.frames self.now.workers self.now.fibers self.now.slots }
+        ensures { IsWithinLimits self.now.frames self.now.workers self.now.small self.now.large self.now.slots }
     {
         let _ = &self.frames;
     }

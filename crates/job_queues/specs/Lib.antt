@@ -2,4 +2,5 @@ pub mod Names
 pub mod Waiting
 pub mod Places
 pub mod Lanes
+pub mod Pool
 pub mod Picks

@@ -8,8 +8,9 @@ ghost use Rattle.job_queues.specs.Places.{IsFirstPlace};
 ghost use Rattle.job_queues.specs.Lanes.{may_start, IsPickedFrom};
 
 use super::fiber::Fiber;
+use super::free::Free;
 use super::pick::Pick;
-use super::priority::{fibers_wanted, is_same};
+use super::priority::is_same;
 use job_core::names::JobName;
 use std::alloc::{AllocError, Global};
 use std::collections::VecDeque;
@@ -21,13 +22,13 @@ pub(crate) struct Lane {
     pub(crate) fresh: VecDeque<JobName>,
 }
 
-fn position_to_start(jobs: &VecDeque<JobName>, free: u32) -> Option<usize>
+fn position_to_start(jobs: &VecDeque<JobName>, free: Free) -> Option<usize>
     ensures { result ≡ position (may_start free) jobs.now.items }
 {
-    jobs.iter().position(|job| fibers_wanted(*job) <= free)
+    jobs.iter().position(|job| free.may_start(*job))
 }
 
-fn first_to_start(jobs: &VecDeque<JobName>, free: u32) -> Option<usize>
+fn first_to_start(jobs: &VecDeque<JobName>, free: Free) -> Option<usize>
     ensures { IsFirstPlace (may_start free) jobs.now.items result }
 {
     position_to_start(jobs, free)
@@ -70,7 +71,7 @@ impl Lane {
     }
 
     #[inline(always)]
-    pub(crate) fn peek(&self, free: u32) -> Option<Pick>
+    pub(crate) fn peek(&self, free: Free) -> Option<Pick>
         ensures { option_map picked result ≡ lane (may_start free) self.now.ready.items self.now.fresh.items None }
     {
         if let Some(fiber) = self.ready.front() {
@@ -80,14 +81,14 @@ impl Lane {
         let Some(job) = self.fresh.front() else {
             return None;
         };
-        if fibers_wanted(*job) <= free {
+        if free.may_start(*job) {
             return Some(Pick::New(*job));
         }
         let at = first_to_start(&self.fresh, free)?;
         Some(Pick::New(self.fresh[at]))
     }
 
-    pub(crate) fn pick(&mut self, free: u32) -> Option<Pick>
+    pub(crate) fn pick(&mut self, free: Free) -> Option<Pick>
         ensures value { option_map picked result ≡ lane (may_start free) self.old.ready.items self.old.fresh.items None }
         ensures after { IsPickedFrom result self.old.ready.items self.new.ready.items self.old.fresh.items self.new.fresh.items }
         ensures room { deque_capacity self.new.ready ≡ deque_capacity self.old.ready }

@@ -2,6 +2,7 @@
 #![tactic(auto)]
 
 mod fiber;
+mod free;
 mod lane;
 mod pick;
 mod pool;
@@ -9,8 +10,9 @@ mod priority;
 mod queues;
 
 pub use fiber::Fiber;
-pub use job_core::names::JobName;
+pub use free::size_of;
+pub use job_core::names::{JobName, Size};
 pub use pick::Pick;
 pub use pool::{FiberPool, NoFiber, NotTaken};
-pub use priority::{Priority, fibers_wanted, is_same, job_priority};
+pub use priority::{Priority, is_same, job_priority};
 pub use queues::{QueueFault, Queues};

@@ -1,10 +1,14 @@
-ghost use Rattle.std.specs.Prelude.{◌≡◌, ◌<◌, ◌≤◌, ◌≢◌, not, true, false, length, replicate, slice_get, Some, position, IfOk, IfSome, OnOk, OnErr};
-ghost use Rattle.board_law.specs.Lists.{tally, write, first_place};
+ghost use Rattle.std.specs.Prelude.{◌≡◌, ◌+◌, ◌<◌, ◌≤◌, ◌≢◌, not, true, false, length, slice_get, Some, position, IfOk, IfSome, OnOk, OnErr};
+ghost use Rattle.board_law.specs.Lists.{tally};
+ghost use Rattle.board_law.specs.Board.{part, lowest_in};
+ghost use Rattle.job_queues.specs.Pool.{all_free, with_fiber};
+ghost use Rattle.job_core.specs.declared.names.Size.TheVariants.{Small, Large};
 
 use super::fiber::Fiber;
+use job_core::names::Size;
 use std::marker::Model;
 
-/// No fiber is free.
+/// No fiber of the size is free.
 #[derive(Clone, Copy, Debug, PartialEq, Eq)]
 pub struct NoFiber;
 
@@ -12,23 +16,28 @@ pub struct NoFiber;
 #[derive(Clone, Copy, Debug, PartialEq, Eq)]
 pub struct NotTaken;
 
-/// Which fibers are taken, and how many are not. It lies in a fixed table and takes no memory.
+/// Which fibers are taken, and how many of each size are not. The small ones come first. It lies in a fixed table and takes no
+/// memory.
 #[derive(Drop)]
 pub struct FiberPool {
     taken: [bool; 128],
     count: usize,
-    free: u32,
+    small: usize,
+    small_free: u32,
+    large_free: u32,
 }
 
 impl Model for FiberPool {
-    ghost use Rattle.std.specs.Prelude.{◌≡◌, ◌≤◌, Bool, List, not, take};
+    ghost use Rattle.std.specs.Prelude.{◌≡◌, ◌≤◌, Bool, List, not, take, drop};
     ghost use Rattle.board_law.specs.Lists.{tally};
+    ghost use Rattle.job_queues.specs.Pool.{Pool};
 
-    ghost Value = { List Bool };
+    ghost Value = { Pool };
 
-    ghost view = { λ p. take p.count p.taken };
+    ghost view = { λ p. record { small = p.small; taken = take p.count p.taken } };
 
-    ghost invariant = { λ p. (p.count ≤ 128) × (p.free ≡ tally not (take p.count p.taken)) };
+    ghost invariant = { λ p. (p.count ≤ 128) × (p.small ≤ p.count)
+        × (p.small_free ≡ tally not (take p.small (take p.count p.taken))) × (p.large_free ≡ tally not (drop p.small (take p.count p.taken))) };
 }
 
 fn position_of_free(taken: &[bool]) -> Option<usize>
@@ -39,46 +48,82 @@ fn position_of_free(taken: &[bool]) -> Option<usize>
 }
 
 impl FiberPool {
-    /// All fibers are free.
-    pub fn new(fibers: u32) -> FiberPool
-        requires { fibers ≤ 128 }
-        ensures { result ≡ replicate fibers false }
+    /// So many small and so many large fibers, all of which are free.
+    pub fn new(small: u32, large: u32) -> FiberPool
+        requires { small + large ≤ 128 }
+        ensures { result ≡ all_free small large }
     {
         FiberPool {
             taken: [false; 128],
-            count: fibers as usize,
-            free: fibers,
+            count: (small + large) as usize,
+            small: small as usize,
+            small_free: small,
+            large_free: large,
         }
     }
 
-    /// How many fibers are free.
-    pub fn free(&self) -> u32
-        ensures { result ≡ tally not self.now }
+    /// How many fibers of a size are free.
+    pub fn free(&self, size: Size) -> u32
+        ensures { result ≡ tally not (part size self.now.small self.now.taken) }
     {
-        self.free
+        match size {
+            Size::Small => self.small_free,
+            Size::Large => self.large_free,
+        }
     }
 
-    /// The lowest free fiber. It takes no memory.
-    pub fn take(&mut self) -> Result<Fiber, NoFiber>
-        ensures lowest { IfOk result (λ fiber. fiber ≡ first_place not self.old) }
-        ensures there { IfOk result (λ fiber. fiber < length self.old) }
-        ensures taken { IfOk result (λ fiber. self.new ≡ write self.old fiber true) }
-        ensures none_free { OnErr result (tally not self.old ≡ 0) }
+    /// The lowest free fiber of a size. It takes no memory.
+    pub fn take(&mut self, size: Size) -> Result<Fiber, NoFiber>
+        ensures lowest { IfOk result (λ fiber. fiber ≡ lowest_in size self.old.small self.old.taken) }
+        ensures there { IfOk result (λ fiber. fiber < length self.old.taken) }
+        ensures taken { IfOk result (λ fiber. self.new ≡ with_fiber fiber true self.old) }
+        ensures none_free { OnErr result (tally not (part size self.old.small self.old.taken) ≡ 0) }
         ensures unchanged { OnErr result (self.new ≡ self.old) }
     {
-        let Some(at) = position_of_free(&self.taken[..self.count]) else {
+        match size {
+            Size::Small => self.take_small(),
+            Size::Large => self.take_large(),
+        }
+    }
+
+    fn take_small(&mut self) -> Result<Fiber, NoFiber>
+        ensures lowest { IfOk result (λ fiber. fiber ≡ lowest_in Small self.old.small self.old.taken) }
+        ensures there { IfOk result (λ fiber. fiber < length self.old.taken) }
+        ensures taken { IfOk result (λ fiber. self.new ≡ with_fiber fiber true self.old) }
+        ensures none_free { OnErr result (tally not (part Small self.old.small self.old.taken) ≡ 0) }
+        ensures unchanged { OnErr result (self.new ≡ self.old) }
+    {
+        let (small, _) = self.taken[..self.count].split_at(self.small);
+        let Some(at) = position_of_free(small) else {
             return Err(NoFiber);
         };
         self.taken[at] = true;
-        self.free -= 1;
+        self.small_free -= 1;
+        Ok(Fiber(at as u32))
+    }
+
+    fn take_large(&mut self) -> Result<Fiber, NoFiber>
+        ensures lowest { IfOk result (λ fiber. fiber ≡ lowest_in Large self.old.small self.old.taken) }
+        ensures there { IfOk result (λ fiber. fiber < length self.old.taken) }
+        ensures taken { IfOk result (λ fiber. self.new ≡ with_fiber fiber true self.old) }
+        ensures none_free { OnErr result (tally not (part Large self.old.small self.old.taken) ≡ 0) }
+        ensures unchanged { OnErr result (self.new ≡ self.old) }
+    {
+        let (_, large) = self.taken[..self.count].split_at(self.small);
+        let Some(behind) = position_of_free(large) else {
+            return Err(NoFiber);
+        };
+        let at = self.small + behind;
+        self.taken[at] = true;
+        self.large_free -= 1;
         Ok(Fiber(at as u32))
     }
 
     /// Gives a taken fiber back. It takes no memory.
     pub fn give(&mut self, fiber: Fiber) -> Result<(), NotTaken>
-        ensures was_taken { OnOk result (slice_get self.old fiber ≡ Some true) }
-        ensures freed { OnOk result (self.new ≡ write self.old fiber false) }
-        ensures not_taken { OnErr result (slice_get self.old fiber ≢ Some true) }
+        ensures was_taken { OnOk result (slice_get self.old.taken fiber ≡ Some true) }
+        ensures freed { OnOk result (self.new ≡ with_fiber fiber false self.old) }
+        ensures not_taken { OnErr result (slice_get self.old.taken fiber ≢ Some true) }
         ensures unchanged { OnErr result (self.new ≡ self.old) }
     {
         let at = fiber.0 as usize;
@@ -89,7 +134,11 @@ impl FiberPool {
             return Err(NotTaken);
         }
         self.taken[at] = false;
-        self.free += 1;
+        if at < self.small {
+            self.small_free += 1;
+        } else {
+            self.large_free += 1;
+        }
         Ok(())
     }
 }

@@ -1,5 +1,5 @@
 ghost use Rattle.std.specs.Prelude.{◌≡◌};
-ghost use Rattle.job_core.specs.Core.{same, wants};
+ghost use Rattle.job_core.specs.Core.{same};
 ghost use Rattle.board_law.specs.Board.{priority_of};
 ghost use Rattle.job_queues.specs.Names.{level};
 
@@ -21,17 +21,6 @@ pub fn job_priority(job: JobName) -> Priority
         JobName::Logic { .. } | JobName::Path { .. } => Priority::High,
         JobName::Think { .. } => Priority::Normal,
         JobName::Draw { .. } => Priority::Low,
-    }
-}
-
-/// How many fibers have to be free for the job to start. One that may wait leaves a fiber to the jobs that it
-/// waits for.
-pub fn fibers_wanted(job: JobName) -> u32
-    ensures { result ≡ wants job }
-{
-    match job {
-        JobName::Logic { .. } | JobName::Think { .. } => 2,
-        JobName::Path { .. } | JobName::Draw { .. } => 1,
     }
 }
 

@@ -4,11 +4,12 @@ ghost use Rattle.board_law.specs.Lists.{all, has};
 ghost use Rattle.board_law.specs.Board.{put_all};
 ghost use Rattle.board_law.specs.Pick.{pick};
 ghost use Rattle.job_queues.specs.Names.{level, picked};
-ghost use Rattle.job_queues.specs.Lanes.{may_start};
+ghost use Rattle.job_queues.specs.Lanes.{may_start, free_fibers};
 ghost use Rattle.job_queues.specs.Waiting.{empty, with_fresh, put_new, put_ready, without_job, without_fiber};
 ghost use Rattle.job_queues.specs.Picks.{after_pick};
 
 use super::fiber::Fiber;
+use super::free::Free;
 use super::lane::Lane;
 use super::pick::Pick;
 use super::priority::{Priority, job_priority};
@@ -83,9 +84,13 @@ impl Queues {
 
     /// What `pick` would answer, with nothing taken out. It takes no memory.
     #[inline(always)]
-    pub fn peek(&self, free: u32) -> Option<Pick>
-        ensures { option_map picked result ≡ pick (may_start free) self.now.queues }
+    pub fn peek(&self, small_free: u32, large_free: u32) -> Option<Pick>
+        ensures { option_map picked result ≡ pick (may_start (free_fibers small_free large_free)) self.now.queues }
     {
+        let free = Free {
+            small: small_free,
+            large: large_free,
+        };
         if let Some(pick) = self.high.peek(free) {
             return Some(pick);
         }
@@ -124,11 +129,15 @@ impl Queues {
     }
 
     /// Takes out, of the highest priority that has one, the first ready fiber, or else the first new job that may
-    /// start where so many fibers are free. The time is that of a look at the jobs before it.
-    pub fn pick(&mut self, free: u32) -> Option<Pick>
-        ensures value { option_map picked result ≡ pick (may_start free) self.old.queues }
+    /// start where so many small and so many large fibers are free. The time is that of a look at the jobs before it.
+    pub fn pick(&mut self, small_free: u32, large_free: u32) -> Option<Pick>
+        ensures value { option_map picked result ≡ pick (may_start (free_fibers small_free large_free)) self.old.queues }
         ensures after { self.new ≡ after_pick result self.old }
     {
+        let free = Free {
+            small: small_free,
+            large: large_free,
+        };
         if let Some(pick) = self.high.pick(free) {
             return Some(pick);
         }

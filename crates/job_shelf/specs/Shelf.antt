@@ -59,7 +59,7 @@ stored_as next slots asking thoughts drawn = record {
 
 -- the sizes of a shelf's lists, as those of a run's setup
 abbrev pub sizes : Shelved → Setup
-sizes k = record { frames = 0; agents = length k.game.trees; bands = bands_in k.game; questions = λ f a. 0; workers = 0; fibers = 0; slots = length k.stored.slots }
+sizes k = record { frames = 0; agents = length k.game.trees; bands = bands_in k.game; questions = λ f a. 0; workers = 0; small = 0; large = 0; slots = length k.stored.slots }
 
 pub record IsShelf (g : Game) (next : Option FrameOf) (slots : List (Option FrameOf)) (asking : List AskedOf) (thoughts : PartsOf) (drawn : List DrawnOf) : Type 0 where
   pub next_is : IsOfGame g next

@@ -1,5 +1,5 @@
 use job_core::names::JobName;
-use job_queues::{Fiber, FiberPool, NoFiber, NotTaken, Pick, Priority, QueueFault, Queues};
+use job_queues::{Fiber, FiberPool, NoFiber, NotTaken, Pick, Priority, QueueFault, Queues, Size};
 use std::alloc::Global;
 
 const LOGIC: JobName = JobName::Logic { frame: 1 };
@@ -13,10 +13,10 @@ fn picks_of_draw_and_think(alloc: Global) -> Option<[bool; 4]> {
     let mut queues = Queues::new(alloc, 3).ok()?;
     queues.put_all(&[DRAW, THINK]).ok()?;
     Some([
-        queues.peek(2) == Some(Pick::New(THINK)),
-        queues.pick(2) == Some(Pick::New(THINK)),
-        queues.pick(1) == Some(Pick::New(DRAW)),
-        queues.pick(1).is_none(),
+        queues.peek(1, 1) == Some(Pick::New(THINK)),
+        queues.pick(1, 1) == Some(Pick::New(THINK)),
+        queues.pick(1, 0) == Some(Pick::New(DRAW)),
+        queues.pick(1, 0).is_none(),
     ])
 }
 
@@ -25,23 +25,23 @@ fn the_higher_priority_goes_first(rt: HostRuntime) {
     assert!(rt; picks_of_draw_and_think(rt.alloc()) == Some([true; 4]));
 }
 
-// Whether nothing is picked with one free fiber where a Think is new, and a fiber once it is ready.
-fn picks_with_one_free_fiber(alloc: Global) -> Option<[bool; 2]> {
+// Whether nothing is picked with a small fiber free where a Think is new, and a fiber once it is ready.
+fn picks_with_a_small_fiber_free(alloc: Global) -> Option<[bool; 2]> {
     let Ok(mut queues) = Queues::new(alloc, 3) else {
         return None;
     };
     let Ok(()) = queues.put_new(THINK) else {
         return None;
     };
-    let before = queues.pick(1);
+    let before = queues.pick(1, 0);
     queues.put_ready(Priority::Normal, Fiber(0));
-    let after = queues.pick(1);
+    let after = queues.pick(1, 0);
     Some([before.is_none(), after == Some(Pick::Ready(Fiber(0)))])
 }
 
 #[test]
-fn one_free_fiber_starts_no_think_but_a_ready_one_goes_on(rt: HostRuntime) {
-    assert!(rt; picks_with_one_free_fiber(rt.alloc()) == Some([true; 2]));
+fn a_small_fiber_starts_no_think_but_a_ready_one_goes_on(rt: HostRuntime) {
+    assert!(rt; picks_with_a_small_fiber_free(rt.alloc()) == Some([true; 2]));
 }
 
 // Whether a new job and a ready fiber are refused by empty queues, and taken out of queues of both, which are empty then.
@@ -60,7 +60,7 @@ fn takings(alloc: Global) -> Option<[bool; 5]> {
         fiber == Err(QueueFault::NotThere),
         queues.take_out(LOGIC) == Ok(()),
         queues.take_ready(Fiber(0)) == Ok(()),
-        queues.peek(3).is_none(),
+        queues.peek(3, 3).is_none(),
     ])
 }
 
@@ -70,15 +70,17 @@ fn entries_are_taken_out_by_name(rt: HostRuntime) {
 }
 
 #[test]
-fn fibers_are_taken_from_the_lowest(rt: HostRuntime) {
-    let mut pool = FiberPool::new(3);
-    assert!(rt; pool.free() == 3);
-    for number in 0..3 {
-        assert!(rt; pool.take() == Ok(Fiber(number)));
-    }
-    assert!(rt; pool.take() == Err(NoFiber));
+fn fibers_of_a_size_are_taken_from_the_lowest(rt: HostRuntime) {
+    let mut pool = FiberPool::new(1, 2);
+    assert!(rt; pool.free(Size::Small) == 1);
+    assert!(rt; pool.free(Size::Large) == 2);
+    assert!(rt; pool.take(Size::Small) == Ok(Fiber(0)));
+    assert!(rt; pool.take(Size::Small) == Err(NoFiber));
+    assert!(rt; pool.take(Size::Large) == Ok(Fiber(1)));
+    assert!(rt; pool.take(Size::Large) == Ok(Fiber(2)));
+    assert!(rt; pool.take(Size::Large) == Err(NoFiber));
     assert!(rt; pool.give(Fiber(1)) == Ok(()));
-    assert!(rt; pool.take() == Ok(Fiber(1)));
-    assert!(rt; pool.give(Fiber(2)) == Ok(()));
-    assert!(rt; pool.give(Fiber(2)) == Err(NotTaken));
+    assert!(rt; pool.take(Size::Large) == Ok(Fiber(1)));
+    assert!(rt; pool.give(Fiber(0)) == Ok(()));
+    assert!(rt; pool.give(Fiber(0)) == Err(NotTaken));
 }

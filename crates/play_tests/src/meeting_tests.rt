@@ -89,7 +89,7 @@ fn written<G: Gate, R: Threads + Wait + Clock + Sync>(
     workers: u32,
     gate: &G,
 ) -> Result<Option<usize>, Fail> {
-    let settings = Settings::new(frames, workers, 16, 3)?;
+    let settings = Settings::new(frames, workers, 8, 8, 3)?;
     let mut out: Vec<u8> = Vec::new(alloc);
     match run_bytes(rt, alloc, level, b"", settings, &mut out, gate) {
         Ok(_) => Ok(Some(out.len())),

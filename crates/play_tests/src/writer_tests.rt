@@ -41,7 +41,7 @@ fn failed_after<R: Threads + Wait + Clock + Sync>(
     workers: u32,
     out: &mut Narrow,
 ) -> Result<u32, Fail> {
-    let settings = Settings::new(3, workers, 16, 3)?;
+    let settings = Settings::new(3, workers, 8, 8, 3)?;
     match run_bytes(rt, alloc, WALK, b"", settings, out, &EveryJob) {
         Err(
             PlayFault::Run(

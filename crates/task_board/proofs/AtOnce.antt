@@ -95,7 +95,7 @@ module _ (g : Game) (jobs : Logged) (shelf : Shelved) (k : IsBoard (seen_as g jo
           jobs_are = j ∙ (ap (λ v. with_events v (asked_at_once w f a i)) k.jobs_are ∙ ap (λ v. jobs_of (seen_as g v)) (sym j));
           shelf_is = s ∙ (ap {A = Shelved} {B = Shelved} (λ v. record v { stored = with_answered v.stored f a i }) k.shelf_is ∙ (sym stored_later ∙ ap (λ v. shelf_of (seen_as g v)) (sym j)));
           lawful = subst (λ v. IsLegalList (setup_in (seen_as g v)) v.events) (sym j) (legal_on (setup_in (seen_as g jobs)) (opening (setup_in (seen_as g jobs))) jobs.events (asked_at_once w f a i) k.lawful l);
-          within = subst (λ v. IsWithinLimits v.numbers.frames v.numbers.workers v.numbers.fibers v.numbers.slots) (sym j) k.within;
+          within = subst (λ v. IsWithinLimits v.numbers.frames v.numbers.workers v.numbers.small v.numbers.large v.numbers.slots) (sym j) k.within;
         }
 
   pub happens_at_once : (w : ℕ) (q : QuestionOf) → IsLegalFrom (setup_in (seen_as g jobs)) (state_in (seen_as g jobs)) (asked_at_once w q.frame q.agent q.question) → (later : Logged)

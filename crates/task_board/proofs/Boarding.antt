@@ -68,7 +68,7 @@ module _ (g : Game) (jobs : Logged) (shelf : Shelved) (k : IsBoard (seen_as g jo
               ∙ (ap {A = Shelved} (λ v. record v { stored = store (sizes v) (state_in (seen_as g jobs)) v.stored e }) k.shelf_is
               ∙ (stored_next (seen_as g jobs) k.lawful k.within.a_slot e ∙ ap (λ v. shelf_of (seen_as g v)) (sym j)));
           lawful = subst (λ v. IsLegalList (setup_in (seen_as g v)) v.events) (sym j) (legal_more (setup_in (seen_as g jobs)) jobs.events e k.lawful l);
-          within = subst (λ v. IsWithinLimits v.numbers.frames v.numbers.workers v.numbers.fibers v.numbers.slots) (sym j) k.within;
+          within = subst (λ v. IsWithinLimits v.numbers.frames v.numbers.workers v.numbers.small v.numbers.large v.numbers.slots) (sym j) k.within;
         }
 
     pub happens : Happens (seen_as g jobs) (seen_as g later) e

@@ -75,8 +75,8 @@ event_code = code_by (ℕ × (ℕ × JobName)) (coded× coded_ℕ (coded× coded
 
 abbrev pub numbers_code : Coded Numbers
 numbers_code =
-    code_by (ℕ × (ℕ × (ℕ × ℕ))) (coded× coded_ℕ (coded× coded_ℕ (coded× coded_ℕ coded_ℕ))) (λ n. (n.frames, (n.workers, (n.fibers, n.slots))))
-    (λ p. record { frames = p.0; workers = p.1.0; fibers = p.1.1.0; slots = p.1.1.1 }) (λ _. refl)
+    code_by (ℕ × (ℕ × (ℕ × (ℕ × ℕ)))) (coded× coded_ℕ (coded× coded_ℕ (coded× coded_ℕ (coded× coded_ℕ coded_ℕ)))) (λ n. (n.frames, (n.workers, (n.small, (n.large, n.slots)))))
+    (λ p. record { frames = p.0; workers = p.1.0; small = p.1.1.0; large = p.1.1.1.0; slots = p.1.1.1.1 }) (λ _. refl)
 
 abbrev pub played_code : Coded Played
 played_code =

@@ -148,4 +148,4 @@ pub record IsBoard (b : Played) (jobs : Logged) (shelf : Shelved) : Type 0 where
   pub jobs_are : jobs ≡ jobs_of b
   pub shelf_is : shelf ≡ record { game = b.game; stored = stored_after (setup_in b) b.events }
   pub lawful : IsLegalList (setup_in b) b.events
-  pub within : IsWithinLimits b.numbers.frames b.numbers.workers b.numbers.fibers b.numbers.slots
+  pub within : IsWithinLimits b.numbers.frames b.numbers.workers b.numbers.small b.numbers.large b.numbers.slots

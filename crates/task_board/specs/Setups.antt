@@ -7,4 +7,4 @@ use Rattle.job_machine.specs.Numbers.{Numbers}
 
 -- the jobs of a game's frames under these numbers
 abbrev pub setup_for : Game → Numbers → Setup
-setup_for g n = setup g n.frames (band_count g.world.height) n.workers n.fibers n.slots
+setup_for g n = setup g n.frames (band_count g.world.height) n.workers n.small n.large n.slots

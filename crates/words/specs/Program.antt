@@ -40,15 +40,17 @@ word_rule name = record (new_rule name) { required = true }
 abbrev pub with_run : App → App
 with_run a = with_rule (with_rule a (number_rule (codes "frames") 0 9999)) (number_rule (codes "workers") 1 16)
 
--- `[--fibers F] [--slots P]`
+-- `[--small S] [--large G] [--slots P]`
 abbrev pub with_room : App → App
-with_room a = with_rule (with_rule a (default_rule (codes "fibers") 3 64 (codes "16"))) (default_rule (codes "slots") 1 16 (codes "3"))
+with_room a =
+    with_rule (with_rule (with_rule a (default_rule (codes "small") 1 16 (codes "8"))) (default_rule (codes "large") 2 63 (codes "8")))
+    (default_rule (codes "slots") 1 16 (codes "3"))
 
 -- `[--script FILE] [--log FILE]`
 abbrev pub with_files : App → App
 with_files a = with_rule (with_rule a (path_rule (codes "script"))) (path_rule (codes "log"))
 
--- `play LEVEL --frames N --workers K [--fibers F] [--slots P] [--script FILE] [--log FILE]`
+-- `play LEVEL --frames N --workers K [--small S] [--large G] [--slots P] [--script FILE] [--log FILE]`
 abbrev pub play : App
 play = with_files (with_room (with_run (with_rule (new_app (codes "play")) (word_rule (codes "level")))))
 
@@ -83,7 +85,7 @@ IsOptional rows name s = first_of name rows ≡ option_map (λ t. string_bytes t
 -- each number is its entry's; clap's reading has an entry with the default where the words have none
 abbrev pub AreNumbers : List Row → Numbers → Type 0
 AreNumbers rows settings = IsNumber (first_of (codes "frames") rows) settings.frames × IsNumber (first_of (codes "workers") rows) settings.workers
-    × IsNumber (first_of (codes "fibers") rows) settings.fibers × IsNumber (first_of (codes "slots") rows) settings.slots
+    × IsNumber (first_of (codes "small") rows) settings.small × IsNumber (first_of (codes "large") rows) settings.large × IsNumber (first_of (codes "slots") rows) settings.slots
 
 -- clap finds no fault in the words, and its reading is this subcommand with these entries
 abbrev pub Enters : List Text → Text → List Row → Type 0

@@ -42,9 +42,10 @@ fn settings_entry(alloc: Global, matches: &ArgMatches<'_>) -> Result<Settings, W
 {
     let frames = number_entry(alloc, matches, "frames")?;
     let workers = number_entry(alloc, matches, "workers")?;
-    let fibers = number_entry(alloc, matches, "fibers")?;
+    let small = number_entry(alloc, matches, "small")?;
+    let large = number_entry(alloc, matches, "large")?;
     let slots = number_entry(alloc, matches, "slots")?;
-    match Settings::new(frames, workers, fibers, slots) {
+    match Settings::new(frames, workers, small, large, slots) {
         Ok(settings) => Ok(settings),
         Err(_) => Err(missing(alloc, "settings")),
     }

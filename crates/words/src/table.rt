@@ -53,7 +53,7 @@ pub static SUBCOMMANDS: [Subcommand; 3] = [
     Subcommand {
         name: "play",
         about: "Plays a level and prints its frames on standard output.",
-        usage: "btworld play LEVEL --frames N --workers K [--fibers F] [--slots P] [--script FILE] [--log FILE]",
+        usage: "btworld play LEVEL --frames N --workers K [--small S] [--large G] [--slots P] [--script FILE] [--log FILE]",
         arguments: &[
             LEVEL,
             Argument {
@@ -70,12 +70,21 @@ pub static SUBCOMMANDS: [Subcommand; 3] = [
                 form: Form::Number { least: 1, most: 16 },
             },
             Argument {
-                name: "fibers",
-                help: "How many jobs may be under way at once, 3 to 64",
+                name: "small",
+                help: "How many jobs that never wait may be under way at once, 1 to 16",
                 form: Form::Default {
-                    least: 3,
-                    most: 64,
-                    value: "16",
+                    least: 1,
+                    most: 16,
+                    value: "8",
+                },
+            },
+            Argument {
+                name: "large",
+                help: "How many jobs that may wait may be under way at once, 2 to 63",
+                form: Form::Default {
+                    least: 2,
+                    most: 63,
+                    value: "8",
                 },
             },
             Argument {

@@ -1,15 +1,15 @@
 use Rattle.std.proofs.Common.{refl}
-use Rattle.job_core.specs.Worked.{setup_of, both_drawn, no_agents}
+use Rattle.job_core.specs.Worked.{setup_of, one_drawn, no_agents}
 use Rattle.board_law.proofs.worked_picks.draws_come_last.Goals as goal
 
+pub returns-clause-logic : goal.returns-clause-logic
+unfolding setup_of no_agents one_drawn
+returns-clause-logic c = refl
+
 pub returns-clause-draw : goal.returns-clause-draw
-unfolding setup_of both_drawn
+unfolding setup_of no_agents one_drawn
 returns-clause-draw c = refl
 
 pub returns-clause-nothing : goal.returns-clause-nothing
-unfolding setup_of no_agents both_drawn
+unfolding setup_of no_agents one_drawn
 returns-clause-nothing c = refl
-
-pub returns-clause-logic : goal.returns-clause-logic
-unfolding setup_of no_agents both_drawn
-returns-clause-logic c = refl

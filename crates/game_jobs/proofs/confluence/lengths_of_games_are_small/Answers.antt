@@ -5,5 +5,5 @@ use Rattle.game_jobs.proofs.Ends.{few_asked}
 use Rattle.game_jobs.proofs.confluence.lengths_of_games_are_small.Goals as goal
 
 pub returns : goal.returns
-returns c = λ g n b w k p frames agents bands trees.
-    most_below (setup g n b w k p) frames agents bands (λ f a. let x = few_asked g f a in let y = trees a in omega arith)
+returns c = λ g n b w k l' p frames agents bands trees.
+    most_below (setup g n b w k l' p) frames agents bands (λ f a. let x = few_asked g f a in let y = trees a in omega arith)
