@@ -7,12 +7,12 @@ use case_files::{
 };
 use commands::command;
 use std::alloc::Global;
-use std::rt::{Clock, Files};
+use std::rt::Files;
 use std::sync::Wait;
 use std::thread::Threads;
 
 /// Whether the words that come after a run write the frames that the case has to write.
-fn repeats<H: Files + Threads + Wait + Clock + Sync>(rt: &H, alloc: Global, case: &Case) -> bool {
+fn repeats<H: Files + Threads + Wait + Sync>(rt: &H, alloc: Global, case: &Case) -> bool {
     let Some(words) = &case.then else {
         return true;
     };
@@ -23,7 +23,7 @@ fn repeats<H: Files + Threads + Wait + Clock + Sync>(rt: &H, alloc: Global, case
     status == 0 && out.bytes.as_slice() == case.out.bytes.as_slice()
 }
 
-fn play_run<H: Files + Alloc<A = Global> + Threads + Wait + Clock + Sync>(
+fn play_run<H: Files + Alloc<A = Global> + Threads + Wait + Sync>(
     rt: &H,
     alloc: Global,
     case: &Case,
@@ -68,7 +68,7 @@ fn within(span: Option<Span>, at: usize) -> Option<usize> {
 }
 
 /// Plays each run of a case: each act, cut to each length, with each room.
-pub fn play_case<H: Files + Alloc<A = Global> + Print + Threads + Wait + Clock + Sync>(
+pub fn play_case<H: Files + Alloc<A = Global> + Print + Threads + Wait + Sync>(
     rt: &H,
     alloc: Global,
     case: &Case,

@@ -9,8 +9,8 @@ use Rattle.game_rules.specs.Text.{texts}
 use Rattle.job_machine.specs.Numbers.{Numbers}
 use Rattle.play_run.specs.Games.{spelled_game}
 use Rattle.play_run.specs.Plays as plays
-use Rattle.run_fault.specs.Printed.{WrotePart}
-use Rattle.run_report.specs.declared.report.RunReport.{RunReport}
+use Rattle.run_shared.specs.Printed.{WrotePart}
+use Rattle.play_run.specs.declared.report.RunReport.{RunReport}
 use Rattle.play_run.specs.declared.fault.PlayFault.{PlayFault}
 use Rattle.play_run.specs.declared.fault.PlayFault.TheVariants.{Level, Script, Run}
 use Rattle.commands.specs.Faults.{IsPlayFault}

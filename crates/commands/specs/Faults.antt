@@ -8,8 +8,8 @@ use Rattle.level_text.specs.declared.script_file.ScriptFault.{ScriptFault}
 use Rattle.level_text.specs.declared.script_file.ScriptFault.TheVariants as scripts
 use Rattle.log_text.specs.declared.fault.LogFault.{LogFault}
 use Rattle.log_text.specs.declared.fault.LogFault.TheVariants as logs
-use Rattle.run_fault.specs.declared.fault.Cause.{Cause}
-use Rattle.run_fault.specs.declared.fault.Cause.TheVariants as causes
+use Rattle.run_shared.specs.declared.fault.Cause.{Cause}
+use Rattle.run_shared.specs.declared.fault.Cause.TheVariants as causes
 use Rattle.play_run.specs.declared.fault.PlayFault.{PlayFault}
 use Rattle.play_run.specs.declared.fault.PlayFault.TheVariants.{Level, Script, Run}
 use Rattle.commands.specs.declared.faults.Fault.{Fault}

@@ -11,7 +11,6 @@ use job_machine::Settings;
 use play_run::{EveryJob, PlayFault, run_bytes};
 use std::alloc::Global;
 use std::io::Write;
-use std::rt::Clock;
 use std::sync::Wait;
 use std::thread::Threads;
 
@@ -19,7 +18,7 @@ use std::thread::Threads;
 ///
 /// The level is read before the script, and a fault of either is answered before anything is written. After any
 /// other fault the writer has got a first part of the frames' text.
-pub fn play_bytes<H: Threads + Wait + Clock + Sync, W: Write>(
+pub fn play_bytes<H: Threads + Wait + Sync, W: Write>(
     rt: &H,
     alloc: Global,
     level: &[u8],

@@ -16,12 +16,12 @@ use job_machine::Settings;
 use log_text::write_log;
 use std::alloc::Global;
 use std::io::{Read, Write};
-use std::rt::{Clock, Files};
+use std::rt::Files;
 use std::sync::Wait;
 use std::thread::Threads;
 
 /// Plays three frames of the level that the input's bytes spell, with an empty script.
-pub fn play_input<H: Threads + Wait + Clock + Sync, R: Read, W: Write>(
+pub fn play_input<H: Threads + Wait + Sync, R: Read, W: Write>(
     rt: &H,
     alloc: Global,
     input: &mut R,
@@ -48,7 +48,7 @@ pub fn play_input<H: Threads + Wait + Clock + Sync, R: Read, W: Write>(
 
 /// Plays the level and the script that the words name; both files are read before either is parsed. The log is written once
 /// all frames are.
-pub fn play_files<H: Files + Threads + Wait + Clock + Sync, W: Write>(
+pub fn play_files<H: Files + Threads + Wait + Sync, W: Write>(
     rt: &H,
     alloc: Global,
     level: String,

@@ -16,13 +16,13 @@ use crate::replaying::replay_files;
 use byte_streams::write_whole;
 use std::alloc::Global;
 use std::io::{Read, Write};
-use std::rt::{Clock, Files};
+use std::rt::Files;
 use std::sync::Wait;
 use std::thread::Threads;
 use words::{Words, WordsFault, read_words};
 
 /// Does what words ask for that name a level's file.
-fn act<H: Files + Threads + Wait + Clock + Sync, W: Write>(
+fn act<H: Files + Threads + Wait + Sync, W: Write>(
     rt: &H,
     alloc: Global,
     words: Words,
@@ -75,7 +75,7 @@ fn status_of<E: Write>(done: Result<(), Fault>, err: &mut E) -> u8
 ///
 /// No words: the level comes from `input`, and three of its frames are written to `out`. Of words that name files the
 /// clauses say that there are a level, a script and a log of which this is so; that they are what the files hold is tested.
-pub fn command<H: Files + Threads + Wait + Clock + Sync, R: Read, W: Write, E: Write>(
+pub fn command<H: Files + Threads + Wait + Sync, R: Read, W: Write, E: Write>(
     rt: &H,
     alloc: Global,
     words: &[String],

@@ -1,1 +1,6 @@
 mod Spelled
+mod Counted
+mod Steps
+mod Once
+mod Reported
+pub mod Leaving

@@ -4,7 +4,7 @@ use Rattle.std.specs.Prelude.{IsSomeAnd}
 use Rattle.game_rules.specs.Game.{Game}
 use Rattle.job_machine.specs.Numbers.{Numbers}
 use Rattle.play_run.specs.Plays.{IsPlayed}
-use Rattle.run_report.specs.declared.report.RunReport.{RunReport}
+use Rattle.play_run.specs.declared.report.RunReport.{RunReport}
 use Rattle.game_rules.specs.declared.change.Change.{Change}
 use Rattle.game_session.specs.Parts.{Parts}
 use Rattle.level_text.specs.Levels.{spelled}

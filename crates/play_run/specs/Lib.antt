@@ -1,2 +1,4 @@
 pub mod Games
 pub mod Plays
+pub mod Reports
+pub mod Once

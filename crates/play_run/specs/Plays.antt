@@ -8,12 +8,12 @@ use Rattle.level_text.specs.Scripts.{script_of}
 use Rattle.level_text.specs.declared.script_file.ScriptFault.TheVariants.{OutOfMemory}
 use Rattle.job_core.specs.Core.{IsComplete}
 use Rattle.job_machine.specs.Numbers.{Numbers}
-use Rattle.shared_board.specs.Counts.{names_worker}
+use Rattle.run_shared.specs.Counts.{names_worker}
 use Rattle.task_board.specs.Setups.{setup_for}
-use Rattle.run_fault.specs.Printed.{WrotePart}
-use Rattle.run_report.specs.Reports.{AreStepsOf}
-use Rattle.run_report.specs.declared.report.RunReport.{RunReport}
-use Rattle.run_threads.specs.Once.{RunsEachJobOnce}
+use Rattle.run_shared.specs.Printed.{WrotePart}
+use Rattle.play_run.specs.Reports.{AreStepsOf}
+use Rattle.play_run.specs.declared.report.RunReport.{RunReport}
+use Rattle.play_run.specs.Once.{RunsEachJobOnce}
 use Rattle.play_run.specs.Games.{spelled_game}
 use Rattle.play_run.specs.declared.fault.PlayFault.{PlayFault}
 use Rattle.play_run.specs.declared.fault.PlayFault.TheVariants.{Level, Script, Run}

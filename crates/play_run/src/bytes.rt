@@ -3,21 +3,20 @@ ghost use Rattle.play_run.specs.Games.{spelled_game};
 ghost use Rattle.play_run.specs.Plays.{IsPlayed, IsPlayFault};
 
 use crate::fault::PlayFault;
+use crate::report::RunReport;
+use crate::run::run;
 use game_session::Session;
 use level_text::{read_level, read_script};
-use run_report::RunReport;
-use run_threads::run;
 use run_worker::Gate;
 use std::alloc::Global;
 use std::io::Write;
-use std::rt::Clock;
 use std::sync::Wait;
 use std::thread::Threads;
 use task_board::Settings;
 
 /// Plays the game that the level's and the script's bytes spell. The level is read before the script, and a fault of either
 /// is answered before anything is written.
-pub fn run_bytes<W: Write, G: Gate, R: Threads + Wait + Clock + Sync>(
+pub fn run_bytes<W: Write, G: Gate, R: Threads + Wait + Sync>(
     rt: &R,
     alloc: Global,
     level: &[u8],

@@ -3,10 +3,16 @@
 
 mod bytes;
 mod fault;
+mod opening;
+mod report;
+mod run;
+mod workers;
 
+pub use band_mail::{BandMail, Putter, Taker};
 pub use bytes::run_bytes;
 pub use fault::PlayFault;
-pub use run_fault::{Cause, RunFault};
-pub use run_report::RunReport;
-pub use run_threads::run;
+pub use report::RunReport;
+pub use run::run;
+pub use run_shared::{Cause, RunFault};
 pub use run_worker::{EveryJob, Gate};
+pub use task_board::{Event, JobName, Settings};

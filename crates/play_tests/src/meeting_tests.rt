@@ -3,7 +3,6 @@ use crate::gates::{Four, Until};
 use crate::levels::{FOUR_BANDS, FOUR_NEIGHBOURS, NEIGHBOURS, RACE, WALK};
 use play_run::{Cause, Gate, PlayFault, RunFault, run_bytes};
 use std::alloc::Global;
-use std::rt::Clock;
 use std::sync::Wait;
 use std::sync::atomic::AtomicU64;
 use std::test::Fail;
@@ -81,7 +80,7 @@ impl Meeting {
 }
 
 // How many bytes a run of a level writes, where it comes to its end, and none where its gate closes at once.
-fn written<G: Gate, R: Threads + Wait + Clock + Sync>(
+fn written<G: Gate, R: Threads + Wait + Sync>(
     rt: &R,
     alloc: Global,
     level: &[u8],

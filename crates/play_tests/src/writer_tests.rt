@@ -4,7 +4,6 @@ use play_run::{Cause, EveryJob, PlayFault, RunFault, run_bytes};
 use std::alloc::Global;
 use std::io;
 use std::io::Write;
-use std::rt::Clock;
 use std::sync::Wait;
 use std::test::Fail;
 use std::thread::Threads;
@@ -35,7 +34,7 @@ impl Write for Narrow {
 }
 
 // After how many frames a run of a walk fails to write.
-fn failed_after<R: Threads + Wait + Clock + Sync>(
+fn failed_after<R: Threads + Wait + Sync>(
     rt: &R,
     alloc: Global,
     workers: u32,

@@ -1,6 +1,8 @@
-//! The printer of a run: it writes the frames in order.
+//! The printer of a run: it takes the bands out of the mail, keeps them by frame and number, and writes the frames in order.
 #![tactic(auto)]
 
+mod band_table;
+mod frame_bands;
 mod printer;
 
-pub use printer::print;
+pub use printer::{Printer, print};

@@ -1,49 +1,203 @@
-ghost use Rattle.std.specs.Prelude.{◌≡◌, ◌<◌, OnOk, IfErr, Some};
+ghost use Rattle.std.specs.Prelude.{◌≡◌, ◌+◌, ◌<◌, IfOk, OnOk, IfErr, IfSome, MatchResult, Some, length, vec_len};
 ghost use Rattle.std.specs.Io.KnownBytes.{Appends};
-ghost use Rattle.game_rules.specs.Text.{texts};
-ghost use Rattle.run_fault.specs.Printed.{WrotePart};
+ghost use Rattle.game_rules.specs.Game.{Game};
+ghost use Rattle.game_rules.specs.Text.{frame_text, texts};
+ghost use Rattle.frame_params.specs.Contents.{bands_in};
+ghost use Rattle.run_shared.specs.Printed.{WrotePart};
+ghost use Rattle.run_printer.specs.Tables.{AreFirstBands};
 
+use crate::band_table::BandTable;
+use band_mail::Taker;
 use byte_streams::write_whole;
+use draw_list::{Band, band_count, frame_text};
 use game_session::Session;
-use run_fault::{Cause, RunFault};
-use run_hall::Hall;
-use run_ledger::RunLedger;
-use run_showing::{Inbox, next_text};
-use std::alloc::Global;
+use run_shared::{Cause, RunBand, RunFault, RunLedger, Shared};
+use std::alloc::{AllocError, Global};
 use std::io::Write;
-use std::rt::Clock;
 use std::sync::Wait;
 use std::sync::ledger::{Ledger, Share};
-use task_board::Settings;
-use waiting::Rest;
+use task_board::{BoardFault, Settings, Shown};
+use thread_parking::Rest;
+
+// How many bands each frame has.
+fn bands_of(session: &Session) -> u32
+    ensures { result ≡ bands_in session.now }
+{
+    band_count(session.world().height())
+}
+
+/// The printer's side of the bands: the Taker of the mail, and what it took and did not print yet.
+#[derive(Drop)]
+pub struct Printer<'t, L: RunLedger> {
+    pub taker: Taker<RunBand<'t, L>>,
+    table: BandTable<'t, L>,
+    // The bands of the frame that is printed next, from the top, as far as they came.
+    next: Vec<Band>,
+}
+
+impl<'t, L: RunLedger> Printer<'t, L> {
+    /// A printer that has taken nothing, for so many frames at a time.
+    pub fn new(
+        alloc: Global,
+        taker: Taker<RunBand<'t, L>>,
+        session: &Session,
+        frames: u32,
+    ) -> Result<Printer<'t, L>, AllocError>
+        ensures { IfOk result (λ printer. printer.taker ≡ taker.entry) }
+    {
+        let bands = bands_of(session);
+        let table = BandTable::new(alloc, frames, bands)?;
+        let next = Vec::with_capacity(alloc, bands as usize)?;
+        Ok(Printer { taker, table, next })
+    }
+
+    // Moves all bands from the mail into the table. Whether there were any: then a worker may have waited for room.
+    fn take_bands<M: Ledger, R: Wait>(&mut self, rt: &R, shared: &Shared<'t, L, M>) -> bool
+        requires { self.old.taker.mail ≡ shared.now.mail }
+        ensures mail { self.new.taker.mail ≡ shared.now.mail }
+        ensures next { self.new.next ≡ self.old.next }
+    {
+        let mut any = false;
+        for _ in rt.forever() {
+            match shared.mail.take(rt, &mut self.taker) {
+                Some((_, band)) => self.table.keep(band),
+                None => break,
+            }
+            any = true;
+        }
+        if any {
+            shared.waiting.call_for_room();
+        }
+        any
+    }
+
+    // Waits until all bands of a frame are there.
+    fn gather<M: Ledger, R: Wait>(
+        &mut self,
+        rt: &R,
+        shared: &Shared<'t, L, M>,
+        frame: u32,
+        bands: u32,
+        rest: &mut Rest,
+    ) -> Result<(), Cause>
+        requires { self.old.taker.mail ≡ shared.now.mail }
+        ensures mail { self.new.taker.mail ≡ shared.now.mail }
+        ensures all { OnOk result (vec_len self.new.next ≡ bands) }
+        ensures first { OnOk result ((g : Game) → L.game ≡ Some g → AreFirstBands g frame self.new.next.items) }
+    {
+        self.next.clear();
+        for _ in rt.forever() {
+            let Ok(()) = self.table.take_next(frame, bands, &mut self.next) else {
+                return Err(Cause::OutOfMemory);
+            };
+            if self.next.len() == bands as usize {
+                return Ok(());
+            }
+            if self.take_bands(rt, shared) {
+                continue;
+            }
+            // Who stopped the board has a cause of its own, which goes before this one.
+            if shared.waiting.printer.is_over() {
+                return Err(Cause::Stranger);
+            }
+            shared.waiting.printer.wait(rt, rest);
+        }
+        unreachable!()
+    }
+
+    // The text of the next frame, once all of it is drawn.
+    fn next_text<M: Ledger, R: Wait>(
+        &mut self,
+        rt: &R,
+        alloc: Global,
+        session: &Session,
+        shared: &Shared<'t, L, M>,
+        frame: u32,
+        rest: &mut Rest,
+        emits: &mut Share<M>,
+    ) -> Result<Vec<u8>, Cause>
+        requires run { L.game ≡ Some session.now }
+        requires mail { self.old.taker.mail ≡ shared.now.mail }
+        requires emits { (emits.old.parts ≡ M.parts) × (0 < M.parts) }
+        requires frame { frame ≡ emits.old.amount + 1 }
+        ensures mail { self.new.taker.mail ≡ shared.now.mail }
+        ensures parts { emits.new.parts ≡ emits.old.parts }
+        ensures counted { OnOk result (emits.new.amount ≡ emits.old.amount + 1) }
+        ensures text { IfOk result (λ text. text.items ≡ frame_text session.now frame) }
+    {
+        self.gather(rt, shared, frame, bands_of(session), rest)?;
+        let turn = show(rt, shared, emits, rest)?.into_turn();
+        let text = frame_text(alloc, frame, &self.next, turn.world(), turn.statuses());
+        shared.leave_printed(rt, &mut self.next);
+        match text {
+            Ok(text) => Ok(text),
+            Err(_) => Err(Cause::OutOfMemory),
+        }
+    }
+}
+
+// Shows the next frame, whose bands are all there, once its last Draw is finished. A worker is called where there is a job to
+// take then: a Logic may have waited for the frame's slot.
+fn show<'t, L: RunLedger, M: Ledger, R: Wait>(
+    rt: &R,
+    shared: &Shared<'t, L, M>,
+    emits: &mut Share<M>,
+    rest: &mut Rest,
+) -> Result<Shown<'t>, Cause>
+    requires emits { (emits.old.parts ≡ M.parts) × (0 < M.parts) }
+    ensures parts { emits.new.parts ≡ emits.old.parts }
+    ensures counted { OnOk result (emits.new.amount ≡ emits.old.amount + 1) }
+    ensures next { IfOk result (λ shown. shown.frame ≡ emits.old.amount + 1) }
+    ensures game { IfOk result (λ shown. L.game ≡ Some shown.game) }
+{
+    for _ in rt.forever() {
+        let mut board = shared.lock(rt);
+        let shown = board.emit(emits);
+        let is_more = shown.is_ok() && board.may_take();
+        drop(board);
+        match shown {
+            Ok(shown) => {
+                if is_more {
+                    shared.waiting.call_worker();
+                }
+                return Ok(shown);
+            }
+            Err(BoardFault::Illegal) => shared.waiting.printer.wait(rt, rest),
+            Err(BoardFault::OutOfMemory) => return Err(Cause::OutOfMemory),
+            // Who stopped a board has a cause of its own, which goes before this one.
+            Err(_) => return Err(Cause::Stranger),
+        }
+    }
+    unreachable!()
+}
 
 /// Shows and writes all frames in order, and flushes. At a fault it stops the board.
-pub fn print<'t, W: Write, L: RunLedger, M: Ledger, R: Wait + Clock>(
+pub fn print<'t, W: Write, L: RunLedger, M: Ledger, R: Wait>(
     rt: &R,
     alloc: Global,
     session: &Session,
     settings: Settings,
     out: &mut W,
-    hall: &Hall<'t, L, M>,
+    shared: &Shared<'t, L, M>,
     emits: &mut Share<M>,
-    inbox: &mut Inbox<'t, L>,
+    printer: &mut Printer<'t, L>,
 ) -> Result<(), RunFault>
-    requires run { (L.game ≡ Some session.now) × (L.numbers ≡ Some settings) }
+    requires run { L.game ≡ Some session.now }
     requires emits { (emits.old.parts ≡ M.parts) × (0 < M.parts) × (emits.old.amount ≡ 0) }
-    requires inbox { inbox.old.taker.mail ≡ hall.now.mail }
+    requires mail { printer.old.taker.mail ≡ shared.now.mail }
     ensures parts { emits.new.parts ≡ emits.old.parts }
-    ensures inbox { inbox.new.taker.mail ≡ hall.now.mail }
+    ensures mail { printer.new.taker.mail ≡ shared.now.mail }
     ensures emits { OnOk result (emits.new.amount ≡ settings.frames) }
     ensures ok { OnOk result (Appends (W.contents out.old) (W.contents out.new) (texts session.now settings.frames)) }
     ensures err { IfErr result (λ e. WrotePart (W.contents out.old) (W.contents out.new) session.now settings.frames e.frames) }
 {
     let last = settings.frames();
     let mut rest = Rest::new();
-    'shows: for done in 0..last {
-        let text = match next_text(rt, alloc, session, settings, hall, &mut rest, emits, inbox) {
+    for done in 0..last {
+        let text = match printer.next_text(rt, alloc, session, shared, done + 1, &mut rest, emits) {
             Ok(text) => text,
             Err(cause) => {
-                hall.stop(rt);
+                shared.stop(rt);
                 return Err(RunFault {
                     cause,
                     frames: done,
@@ -53,7 +207,7 @@ pub fn print<'t, W: Write, L: RunLedger, M: Ledger, R: Wait + Clock>(
         match write_whole(out, &text) {
             Ok(()) => {}
             Err(_) => {
-                hall.stop(rt);
+                shared.stop(rt);
                 return Err(RunFault {
                     cause: Cause::Write,
                     frames: done,
@@ -62,11 +216,11 @@ pub fn print<'t, W: Write, L: RunLedger, M: Ledger, R: Wait + Clock>(
         }
     }
     // There is no other task, so they end.
-    hall.waiting.call_workers();
+    shared.waiting.workers.call_all();
     match out.flush() {
         Ok(()) => Ok(()),
         Err(_) => {
-            hall.stop(rt);
+            shared.stop(rt);
             Err(RunFault {
                 cause: Cause::Write,
                 frames: last,

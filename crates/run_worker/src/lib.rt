@@ -1,8 +1,12 @@
-//! A worker of a run: it takes tasks, works on them in its own arena, puts the bands that it draws into the mail, and hands in the rest.
+//! A worker of a run: it takes tasks, works on them in its own arena, puts the bands that it draws into the mail, and tells
+//! the board what its work came to.
 #![tactic(auto)]
 
+mod delivered;
+mod gate;
+mod given;
 mod scratch;
-mod working;
+mod worker;
 
-pub use run_exchange::{EveryJob, Gate};
-pub use working::work;
+pub use gate::{EveryJob, Gate};
+pub use worker::work;

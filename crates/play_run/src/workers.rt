@@ -1,0 +1,154 @@
+ghost use Rattle.std.specs.Prelude.{◌≡◌, ◌+◌, ◌<◌, ◌≤◌, ℕ, true, get_or, vec_len, vec_capacity, Some, IfSome};
+ghost use Rattle.band_mail.specs.Mails.{IsPutterOf, ArePuttersOf};
+
+use band_mail::{BandMail, Putter};
+use game_session::Session;
+use run_shared::{Cause, RunBand, RunLedger, Shared, Worked};
+use run_worker::{Gate, work};
+use std::alloc::Global;
+use std::sync::Wait;
+use std::sync::ledger::{Ledger, Share};
+use std::thread::{Promise, PromisedHandle, Scope, Threads};
+
+/// The promise that a worker's thread hands back this worker's Putter of this mail.
+#[derive_where(Clone, Copy)]
+pub struct HandsBack<'m, 't, L: RunLedger> {
+    pub mail: &'m BandMail<RunBand<'t, L>>,
+    pub worker: u32,
+}
+
+impl<'m, 't, L: RunLedger> Promise<Worked<'t, L>> for HandsBack<'m, 't, L> {
+    ghost use Rattle.std.specs.Prelude.{◌≡◌};
+    ghost use Rattle.band_mail.specs.Mails.{IsPutterOf};
+
+    ghost kept_by = { λ p r. IsPutterOf p.mail.now r.putter × (r.putter.worker ≡ p.worker) };
+}
+
+/// The handle of a worker's thread, with the promise of what it hands back once it is joined.
+pub type WorkerHandle<'m, 't, L> = PromisedHandle<Worked<'t, L>, HandsBack<'m, 't, L>>;
+
+// Starts a worker's thread. None where it could not be started.
+#[tactic(auto, using(crate::proofs::Leaving::shared_lent, crate::proofs::Leaving::session_sync))]
+fn spawn<'s, 't, E, L, M, G, R>(
+    scope: &Scope<'s, E>,
+    rt: &'s R,
+    alloc: Global,
+    session: &'s Session,
+    shared: &'s Shared<'t, L, M>,
+    gate: &'s G,
+    worker: u32,
+    share: Share<L>,
+    putter: Putter<RunBand<'t, L>>,
+) -> Option<WorkerHandle<'s, 't, L>>
+where
+    L: RunLedger + Send + Sync + 's,
+    M: Ledger + Send + Sync + 's,
+    G: Gate,
+    R: Threads + Wait + Sync,
+    't: 's,
+    requires run { L.game ≡ Some session.now }
+    requires part { share.parts ≡ 1 }
+    requires putter { IsPutterOf shared.now.mail putter × (putter.worker ≡ worker) }
+    ensures handle { IfSome result (λ h. (h.promise.mail.now ≡ shared.now.mail) × (h.promise.worker ≡ worker)) }
+{
+    let job = move || -> Worked<L>
+        requires run { L.game ≡ Some session.now }
+        requires part { share.parts ≡ 1 }
+        requires putter { IsPutterOf shared.now.mail putter }
+        ensures { IsPutterOf shared.entry.now.mail result.putter × (result.putter.worker ≡ putter.entry.worker) }
+    { work(rt, alloc, session, shared, gate, worker, share, putter) };
+    let mail = &shared.mail;
+    scope.spawn_with(HandsBack { mail, worker }, job).ok()
+}
+
+/// Starts a thread for each Putter, the last worker's first. False, with the board stopped, where one could not be started.
+pub fn spawn_all<'s, 't, E, L, M, G, R>(
+    scope: &Scope<'s, E>,
+    rt: &'s R,
+    alloc: Global,
+    session: &'s Session,
+    shared: &'s Shared<'t, L, M>,
+    gate: &'s G,
+    all: &mut Share<L>,
+    putters: &mut Vec<Putter<RunBand<'t, L>>>,
+    handles: &mut Vec<WorkerHandle<'s, 't, L>>,
+) -> bool
+where
+    L: RunLedger + Send + Sync + 's,
+    M: Ledger + Send + Sync + 's,
+    G: Gate,
+    R: Threads + Wait + Sync,
+    't: 's,
+    requires run { L.game ≡ Some session.now }
+    requires parts { all.old.parts ≡ vec_len putters.old + 1 }
+    requires putters { ArePuttersOf shared.now.mail putters.old.items }
+    requires room { (vec_len handles.old ≡ 0) × (vec_len putters.old ≤ vec_capacity handles.old) }
+    ensures parts { result ≡ true → all.new.parts ≡ 1 }
+    ensures putters { result ≡ true → (vec_len putters.new ≡ 0) × (vec_capacity putters.new ≡ vec_capacity putters.old) }
+    ensures many { result ≡ true → vec_len handles.new ≡ vec_len putters.old }
+    ensures handles { (k : ℕ) (h : _) → k < vec_len handles.new → ((get_or handles.new.items k h).promise.mail.now ≡ shared.now.mail) × ((get_or handles.new.items k h).promise.worker + k + 1 ≡ vec_len putters.old) }
+{
+    while let Some(putter) = putters.pop() {
+        let worker = putters.len() as u32;
+        let share = all.split_off(1, 0);
+        match spawn(
+            scope, rt, alloc, session, shared, gate, worker, share, putter,
+        ) {
+            Some(handle) => handles.push_reserved(handle),
+            None => {
+                shared.stop(rt);
+                return false;
+            }
+        }
+    }
+    true
+}
+
+// The lower of two causes.
+fn lower(a: Option<Cause>, b: Option<Cause>) -> Option<Cause> {
+    match (a, b) {
+        (Some(x), Some(y)) => Some(x.min(y)),
+        (Some(x), None) => Some(x),
+        (None, y) => y,
+    }
+}
+
+/// Joins the threads where not all could be started. The lowest of the causes that they met.
+pub fn join_some<'t, L: RunLedger, R: Threads>(
+    rt: &R,
+    handles: &mut Vec<WorkerHandle<'_, 't, L>>,
+) -> Option<Cause> {
+    let mut cause = None;
+    while let Some(handle) = handles.pop() {
+        cause = lower(cause, handle.join(rt).fault);
+    }
+    cause
+}
+
+/// Joins the threads, the first worker's first, so that the Putters come back in the order of their workers, and puts their
+/// shares together. The lowest of the causes that they met.
+pub fn join_all<'t, L: RunLedger, R: Threads>(
+    rt: &R,
+    mail: &BandMail<RunBand<'t, L>>,
+    handles: &mut Vec<WorkerHandle<'_, 't, L>>,
+    putters: &mut Vec<Putter<RunBand<'t, L>>>,
+    all: &mut Share<L>,
+) -> Option<Cause>
+    requires handles { (k : ℕ) (h : _) → k < vec_len handles.old → ((get_or handles.old.items k h).promise.mail.now ≡ mail.now) × ((get_or handles.old.items k h).promise.worker + k + 1 ≡ vec_len handles.old) }
+    requires room { (vec_len putters.old ≡ 0) × (vec_len handles.old ≤ vec_capacity putters.old) }
+    ensures putters { (vec_len putters.new ≡ vec_len handles.old) × ArePuttersOf mail.now putters.new.items }
+    ensures parts { all.new.parts ≡ all.old.parts + vec_len handles.old }
+{
+    let mut cause = None;
+    while let Some(handle) = handles.pop() {
+        let Worked {
+            share,
+            putter,
+            fault,
+        } = handle.join(rt);
+        all.merge(share);
+        putters.push_reserved(putter);
+        cause = lower(cause, fault);
+    }
+    cause
+}

@@ -1,5 +1,0 @@
-use Rattle.std.proofs.Common.{◌∙◌}
-use Rattle.run_opening.proofs.opening.open_mail.Goals as goal
-
-pub returns-clause-putters : goal.returns-clause-putters
-returns-clause-putters g c = (c.in_ok-mail.ensures.putters.0 ∙ c.workers.ensures.value, c.in_ok-mail.ensures.putters.1)

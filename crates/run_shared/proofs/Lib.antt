@@ -1,0 +1,4 @@
+pub mod Texts
+pub mod Outcomes
+mod Counting
+pub mod Sends

@@ -1,0 +1,194 @@
+ghost use Rattle.std.specs.Prelude.{◌≡◌, ◌↔◌, ◌+◌, ◌<◌, ◌≤◌, ℕ, MatchResult, MatchOption, IfOk, IfErr, IfSome, OnOk, OnErr, IsTrue, IsSomeAnd, count_by, option_map, [], Some};
+ghost use Rattle.std.specs.Coded.{Coded-set, coded_option};
+ghost use Rattle.game_rules.specs.Game.{Game};
+ghost use Rattle.game_session.specs.GameCode.{game_code};
+ghost use Rattle.job_core.specs.Core.{IsComplete, IsLegal};
+ghost use Rattle.job_core.specs.declared.names.Event.TheVariants.{Emit};
+ghost use Rattle.job_machine.specs.Numbers.{Numbers};
+ghost use Rattle.frame_tasks.specs.BoardSteps.{IsToldIn};
+ghost use Rattle.task_board.specs.Boards.{setup_in, state_in, GivesJob, IsTaken, IsTakeRefused, IsShown, IsEmitRefused, IsStopped};
+ghost use Rattle.task_board.specs.HandedIn.{IsHandedIn, IsHandInRefused};
+ghost use Rattle.task_board.specs.Setups.{setup_for};
+ghost use Rattle.run_shared.specs.Counts.{names_worker, is_emit};
+
+use crate::ledger::RunLedger;
+use crate::run_task::RunTask;
+use frame_tasks::BoardStep;
+use std::marker::Model;
+use std::sync::ledger::{Book, Ledger, Share};
+use task_board::{BoardFault, Event, Shown, Spent, TaskBoard};
+
+/// The board of a run with two books: one of its events that name a worker, one of those that show a frame. Each call that
+/// makes an event happen makes one, and adds one to the share of the thread that calls it; a call that is refused changes
+/// nothing.
+#[derive(Drop)]
+pub struct SharedBoard<'t, L: RunLedger, M: Ledger> {
+    board: TaskBoard<'t>,
+    named: Book<L>,
+    emitted: Book<M>,
+    ghost game_is: { L.game ≡ Some board.game } by { Coded-set (coded_option game_code) L.game (Some board.game) },
+    ghost numbers_are: { L.numbers ≡ Some board.numbers },
+    ghost named_is: { named.total ≡ count_by names_worker board.events },
+    ghost emitted_is: { emitted.total ≡ count_by is_emit board.events },
+}
+
+impl<'t, L: RunLedger, M: Ledger> Model for SharedBoard<'t, L, M> {
+    ghost use Rattle.task_board.specs.Boards.{Played};
+    ghost use Rattle.task_board.specs.BoardCode.{played_code};
+
+    ghost Value = { Played };
+
+    ghost coded = { played_code };
+
+    ghost view = { λ b. b.board };
+}
+
+impl<'t, L: RunLedger, M: Ledger> SharedBoard<'t, L, M> {
+    /// A board on which nothing has happened, with empty books.
+    pub fn new(board: TaskBoard<'t>, named: Book<L>, emitted: Book<M>) -> SharedBoard<'t, L, M>
+        requires run { (L.game ≡ Some board.game) × (L.numbers ≡ Some board.numbers) }
+        requires log { board.events ≡ [] }
+        requires books { (named.total ≡ 0) × (emitted.total ≡ 0) }
+        ensures { result ≡ board.entry }
+    {
+        SharedBoard {
+            board,
+            named,
+            emitted,
+        }
+    }
+
+    /// Takes a task for an idle worker. None where it can neither start nor resume a job.
+    pub fn take(
+        &mut self,
+        worker: u32,
+        mine: &mut Share<L>,
+    ) -> Result<Option<RunTask<'t, L>>, BoardFault>
+        requires part { 0 < mine.old.parts }
+        ensures taken { IfOk result (λ t. IsTaken self.old self.new worker (option_map (λ r. r.task) t)) }
+        ensures refused { IfErr result (IsTakeRefused self.old worker) }
+        ensures unchanged { OnErr result (self.new ≡ self.old) }
+        ensures parts { mine.new.parts ≡ mine.old.parts }
+        ensures counted { MatchResult result (λ t. MatchOption t (mine.new.amount ≡ mine.old.amount) (λ _. mine.new.amount ≡ mine.old.amount + 1)) (λ _. mine.new.amount ≡ mine.old.amount) }
+    {
+        match self.board.take(worker) {
+            Ok(Some(task)) => {
+                self.named.add(mine, 1);
+                Ok(Some(RunTask::new(task)))
+            }
+            Ok(None) => Ok(None),
+            Err(fault) => Err(fault),
+        }
+    }
+
+    /// Hands in what the work of a worker's job came to. At a Logic's beginning its thinks are spread, or it holds where
+    /// that is illegal.
+    pub fn hand_in(
+        &mut self,
+        worker: u32,
+        step: BoardStep<'t>,
+        mine: &mut Share<L>,
+    ) -> Result<(), BoardFault>
+        requires own { IsSomeAnd L.game (λ g. IsToldIn g step) }
+        requires part { 0 < mine.old.parts }
+        ensures handed_in { OnOk result (IsHandedIn self.old self.new worker step.entry) }
+        ensures refused { IfErr result (IsHandInRefused self.old worker step.entry) }
+        ensures unchanged { OnErr result (self.new ≡ self.old) }
+        ensures parts { mine.new.parts ≡ mine.old.parts }
+        ensures counted { MatchResult result (λ _. mine.new.amount ≡ mine.old.amount + 1) (λ _. mine.new.amount ≡ mine.old.amount) }
+    {
+        let SharedBoard { board, named, .. } = self;
+        match board.hand_in(worker, step) {
+            Ok(()) => {
+                named.add(mine, 1);
+                Ok(())
+            }
+            Err(refused) => Err(refused.fault),
+        }
+    }
+
+    /// Takes out what the last events have left over, to be let go with the lock free.
+    pub fn take_spent(&mut self) -> Spent<'t>
+        ensures { self.new ≡ self.old }
+    {
+        self.board.take_spent()
+    }
+
+    /// Shows the next frame. Whoever holds the whole share of frames knows which one that is.
+    pub fn emit(&mut self, mine: &mut Share<M>) -> Result<Shown<'t>, BoardFault>
+        requires mine { (mine.old.parts ≡ M.parts) × (0 < M.parts) }
+        ensures shown { IfOk result (IsShown self.old self.new) }
+        ensures refused { IfErr result (IsEmitRefused self.old) }
+        ensures unchanged { OnErr result (self.new ≡ self.old) }
+        ensures parts { mine.new.parts ≡ mine.old.parts }
+        ensures counted { MatchResult result (λ _. mine.new.amount ≡ mine.old.amount + 1) (λ _. mine.new.amount ≡ mine.old.amount) }
+        ensures next { IfOk result (λ shown. shown.frame ≡ mine.old.amount + 1) }
+        ensures game { IfOk result (λ shown. L.game ≡ Some shown.game) }
+        ensures within { IfOk result (λ shown. IsSomeAnd L.numbers (λ n. shown.frame ≤ n.frames)) }
+    {
+        let SharedBoard { board, emitted, .. } = self;
+        emitted.audit(mine);
+        match board.emit() {
+            Ok(shown) => {
+                emitted.add(mine, 1);
+                Ok(shown)
+            }
+            Err(fault) => Err(fault),
+        }
+    }
+
+    /// Nothing happens any more; a second call changes nothing.
+    pub fn stop(&mut self)
+        ensures { IsStopped self.old self.new }
+    {
+        self.board.stop();
+    }
+
+    /// Whether all frames are shown, and the board isn't stopped.
+    pub fn is_done(&self) -> bool
+        ensures { IsTrue result ↔ IsComplete (setup_in self.now) self.now.events }
+    {
+        self.board.is_done()
+    }
+
+    /// Whether nothing happens any more.
+    pub fn is_stopped(&self) -> bool
+        ensures { result ≡ (state_in self.now).stopped }
+    {
+        self.board.is_stopped()
+    }
+
+    /// Whether an idle worker could be given a task.
+    pub fn may_take(&self) -> bool
+        ensures { IsTrue result ↔ GivesJob self.now }
+    {
+        self.board.may_take()
+    }
+
+    /// Whether the next frame can be shown.
+    pub fn may_show(&self) -> bool
+        ensures { IsTrue result ↔ (f : ℕ) × IsLegal (setup_in self.now) (state_in self.now) (Emit f) }
+    {
+        self.board.may_show()
+    }
+
+    /// The events, once all shares are joined; None where they are not a complete list.
+    pub fn into_events(self, all: &mut Share<L>, emits: &mut Share<M>) -> Option<Vec<Event>>
+        requires whole { (all.old.parts ≡ L.parts) × (emits.old.parts ≡ M.parts) }
+        ensures complete { IfSome result (λ events. (g : Game) (n : Numbers) → L.game ≡ Some g → L.numbers ≡ Some n → IsComplete (setup_for g n) events.items) }
+        ensures named { IfSome result (λ events. count_by names_worker events.items ≡ all.old.amount) }
+        ensures emitted { IfSome result (λ events. count_by is_emit events.items ≡ emits.old.amount) }
+    {
+        let SharedBoard {
+            board,
+            mut named,
+            mut emitted,
+        } = self;
+        named.audit(all);
+        emitted.audit(emits);
+        if board.is_done() {
+            return Some(board.into_events());
+        }
+        None
+    }
+}

@@ -1,0 +1,104 @@
+ghost use Rattle.std.specs.Prelude.{◌≡◌, length, vec_len};
+ghost use Rattle.band_mail.specs.Mails.{ArePuttersOf, IsAllDelivered, all_put};
+
+use crate::board::SharedBoard;
+use crate::ledger::RunLedger;
+use crate::run_band::RunBand;
+use crate::waiting::Waiting;
+use band_mail::{BandMail, Putter, Taker};
+use draw_list::Band;
+use std::mem;
+use std::sync::ledger::Ledger;
+use std::sync::{Mutex, MutexGuard, Wait};
+use std::thread::Threads;
+use thread_parking::lock_soon;
+
+/// What the threads of a run share.
+pub struct Shared<'t, L: RunLedger, M: Ledger> {
+    board: Mutex<SharedBoard<'t, L, M>>,
+    /// By which bands go to the printer.
+    pub mail: BandMail<RunBand<'t, L>>,
+    /// Who waits.
+    pub waiting: Waiting,
+    // Bands of a printed frame, for the workers to let go: they take the same memory again.
+    printed: Mutex<Vec<Band>>,
+}
+
+impl<'t, L: RunLedger, M: Ledger> Drop for Shared<'t, L, M> {
+    fn drop(self) {
+        let Self {
+            board: _,
+            mail: _,
+            waiting: _,
+            printed: _,
+        } = self;
+    }
+}
+
+impl<'t, L: RunLedger, M: Ledger> Shared<'t, L, M> {
+    /// A board and a mail for so many workers, of which nobody waits yet. `printed` has room for the bands of a frame.
+    pub fn new<R: Threads>(
+        rt: &R,
+        board: SharedBoard<'t, L, M>,
+        mail: BandMail<RunBand<'t, L>>,
+        printed: Vec<Band>,
+        workers: u32,
+    ) -> Shared<'t, L, M>
+        ensures { result.mail ≡ mail.entry }
+    {
+        Shared {
+            board: Mutex::new(board),
+            mail,
+            waiting: Waiting::new(rt, workers),
+            printed: Mutex::new(printed),
+        }
+    }
+
+    /// Takes the board's lock.
+    pub fn lock<R: Wait>(&self, rt: &R) -> MutexGuard<'_, SharedBoard<'t, L, M>> {
+        lock_soon(rt, &self.board)
+    }
+
+    /// Stops the board, so that all threads end.
+    pub fn stop<R: Wait>(&self, rt: &R) {
+        let mut board = self.lock(rt);
+        board.stop();
+        drop(board);
+        self.waiting.call_all();
+    }
+
+    /// Leaves the bands of a printed frame to the workers, for those that they left, which the next frame's replace.
+    pub fn leave_printed<R: Wait>(&self, rt: &R, bands: &mut Vec<Band>) {
+        let mut printed = self.printed.lock(rt);
+        mem::swap(&mut *printed, bands);
+    }
+
+    /// A band of a printed frame, if there is one and nobody else is about to take one.
+    pub fn take_printed(&self) -> Option<Band> {
+        match self.printed.try_lock() {
+            Some(mut printed) => printed.pop(),
+            None => None,
+        }
+    }
+
+    /// Closes the mail, once no other thread has a part of this. The board, and what the mail held.
+    pub fn close<R: Wait>(
+        self,
+        rt: &R,
+        putters: Vec<Putter<RunBand<'t, L>>>,
+        taker: Taker<RunBand<'t, L>>,
+    ) -> (SharedBoard<'t, L, M>, Vec<(u32, RunBand<'t, L>)>)
+        requires putters { (vec_len putters ≡ length self.mail) × ArePuttersOf self.mail putters.items }
+        requires taker { taker.mail ≡ self.mail }
+        ensures { IsAllDelivered (all_put putters.items) taker.taken result.1.items }
+    {
+        let Self {
+            board,
+            mail,
+            waiting: _,
+            printed: _,
+        } = self;
+        let left = mail.close(rt, putters, taker);
+        (board.into_inner(), left)
+    }
+}

@@ -1,2 +1,0 @@
-mod Once
-pub mod Reported

@@ -1,0 +1,308 @@
+ghost use Rattle.std.specs.Prelude.{◌≡◌, ◌+◌, ◌<◌, IfOk, MatchResult, Some, true, false};
+ghost use Rattle.std.specs.Coded.{Coded-set, coded_option};
+ghost use Rattle.game_session.specs.GameCode.{game_code};
+ghost use Rattle.band_mail.specs.Mails.{IsPutterOf, with_put};
+ghost use Rattle.frame_tasks.specs.BoardSteps.{IsToldIn};
+ghost use Rattle.frame_tasks.specs.Tasks.{game_of};
+ghost use Rattle.run_worker.specs.Own.{IsWorkIn};
+ghost use Rattle.run_worker.specs.declared.delivered.Delivered.TheVariants.{Told, Stopped};
+
+use crate::delivered::Delivered;
+use crate::gate::Gate;
+use crate::given::Given;
+use crate::scratch::Scratch;
+use band_mail::Putter;
+use frame_tasks::{BoardStep, Step, Task};
+use game_session::Session;
+use run_shared::{Cause, RunBand, RunLedger, RunTask, Shared, Worked};
+use std::alloc::Global;
+use std::hint;
+use std::sync::Wait;
+use std::sync::ledger::{Ledger, Share};
+use task_board::BoardFault;
+use thread_parking::Rest;
+
+// How often a full queue is tried again before its worker waits for room: some microseconds.
+const TRIES: u32 = 100;
+
+// What a refused call makes of a worker.
+fn cause_of(fault: BoardFault) -> Cause {
+    match fault {
+        BoardFault::OutOfMemory => Cause::OutOfMemory,
+        _ => Cause::Stranger,
+    }
+}
+
+/// What a run lends a worker, and the worker's number.
+#[derive(Drop)]
+struct Worker<'h, 't, L: RunLedger, M: Ledger, G: Gate, R: Wait> {
+    rt: &'h R,
+    alloc: Global,
+    session: &'h Session,
+    shared: &'h Shared<'t, L, M>,
+    gate: &'h G,
+    number: u32,
+    ghost run: { L.game ≡ Some session.now } by { Coded-set (coded_option game_code) L.game (Some session.now) },
+}
+
+impl<'h, 't, L: RunLedger, M: Ledger, G: Gate, R: Wait> Worker<'h, 't, L, M, G, R> {
+    // Looks for a task once, in one hold of the lock. Where there is one and another could be taken, calls a worker for that.
+    fn look(&self, share: &mut Share<L>) -> Result<Given<'t, L>, Cause>
+        requires part { 0 < share.old.parts }
+        ensures part { share.new.parts ≡ share.old.parts }
+    {
+        let mut board = self.shared.lock(self.rt);
+        match board.take(self.number, share) {
+            Ok(Some(task)) => {
+                let is_more = board.may_take();
+                drop(board);
+                if is_more {
+                    self.shared.waiting.call_worker();
+                }
+                Ok(Given::Task(task))
+            }
+            Ok(None) => Ok(if board.is_done() {
+                Given::Over
+            } else {
+                Given::Nothing
+            }),
+            Err(BoardFault::Stopped) => Ok(Given::Over),
+            Err(fault) => Err(cause_of(fault)),
+        }
+    }
+
+    // Waits until there is a task, or none any more. Whoever waits counts as idle before it looks, so that a call for what it
+    // doesn't see reaches it.
+    fn wait_for_task(&self, share: &mut Share<L>) -> Result<Given<'t, L>, Cause>
+        requires part { 0 < share.old.parts }
+        ensures part { share.new.parts ≡ share.old.parts }
+    {
+        let idle = &self.shared.waiting.workers;
+        let mut rest = Rest::new();
+        idle.enter();
+        for _ in self.rt.forever() {
+            match self.look(share) {
+                Ok(Given::Nothing) => idle.wait(self.rt, &mut rest),
+                given => {
+                    idle.leave();
+                    return given;
+                }
+            }
+        }
+        unreachable!()
+    }
+
+    // The next task. None where the board is done or stopped.
+    fn next_task(&self, share: &mut Share<L>) -> Result<Option<RunTask<'t, L>>, Cause>
+        requires part { 0 < share.old.parts }
+        ensures part { share.new.parts ≡ share.old.parts }
+    {
+        let given = match self.look(share) {
+            Ok(Given::Nothing) => self.wait_for_task(share),
+            given => given,
+        };
+        match given {
+            Ok(Given::Task(task)) => Ok(Some(task)),
+            Ok(_) => Ok(None),
+            Err(cause) => Err(cause),
+        }
+    }
+
+    // The work of a task, between the two questions to the gate.
+    fn work_of(&self, scratch: &mut Scratch, task: &Task<'t>) -> Result<Step<'t>, Cause>
+        requires { game_of task.now ≡ self.now.session.now }
+        ensures { IfOk result (IsWorkIn self.now.session.now) }
+    {
+        let job = task.name();
+        if !self.gate.pass(self.number, job, false) {
+            return Err(Cause::GateClosed);
+        }
+        let Ok(step) = scratch.work(self.alloc, task) else {
+            return Err(Cause::OutOfMemory);
+        };
+        if !self.gate.pass(self.number, job, true) {
+            return Err(Cause::GateClosed);
+        }
+        Ok(step)
+    }
+
+    fn is_stopped(&self) -> bool {
+        let board = self.shared.lock(self.rt);
+        board.is_stopped()
+    }
+
+    // Puts a band into the worker's queue of the mail once there is room. False, and the band is let go, where the board is
+    // stopped meanwhile.
+    fn put_when_there_is_room(
+        &self,
+        putter: &mut Putter<RunBand<'t, L>>,
+        band: RunBand<'t, L>,
+    ) -> bool
+        requires { IsPutterOf self.now.shared.now.mail putter.old }
+        ensures putter { IsPutterOf self.now.shared.now.mail putter.new }
+        ensures worker { putter.new.worker ≡ putter.old.worker }
+        ensures put { result ≡ true → putter.new ≡ with_put putter.old band.entry }
+        ensures kept { result ≡ false → putter.new ≡ putter.old }
+    {
+        let waiting = &self.shared.waiting;
+        let mut rest = Rest::new();
+        let mut band = band;
+        waiting.room.enter();
+        for _ in self.rt.forever() {
+            match self.shared.mail.put(self.rt, putter, band) {
+                Ok(()) => {
+                    waiting.room.leave();
+                    waiting.call_for_room();
+                    return true;
+                }
+                Err(back) => band = back,
+            }
+            if self.is_stopped() {
+                waiting.room.leave();
+                return false;
+            }
+            waiting.printer.call_one();
+            waiting.room.wait(self.rt, &mut rest);
+        }
+        unreachable!()
+    }
+
+    // Puts a band into the worker's queue of the mail, with the lock free, and waits for room where it is full.
+    fn put_band(&self, putter: &mut Putter<RunBand<'t, L>>, band: RunBand<'t, L>) -> bool
+        requires { IsPutterOf self.now.shared.now.mail putter.old }
+        ensures putter { IsPutterOf self.now.shared.now.mail putter.new }
+        ensures worker { putter.new.worker ≡ putter.old.worker }
+        ensures put { result ≡ true → putter.new ≡ with_put putter.old band.entry }
+        ensures kept { result ≡ false → putter.new ≡ putter.old }
+    {
+        let mut band = band;
+        for _ in 0..TRIES {
+            match self.shared.mail.put(self.rt, putter, band) {
+                Ok(()) => return true,
+                Err(back) => band = back,
+            }
+            hint::spin_loop();
+        }
+        self.put_when_there_is_room(putter, band)
+    }
+
+    // Tells the board what the work came to, in one hold of the lock. The printer is called where a frame can be shown then.
+    fn tell(&self, told: BoardStep<'t>, share: &mut Share<L>) -> Result<Delivered, Cause>
+        requires own { IsToldIn self.now.session.now told }
+        requires part { 0 < share.old.parts }
+        ensures part { share.new.parts ≡ share.old.parts }
+        ensures counted { IfOk result (λ d. d ≡ Told → share.new.amount ≡ share.old.amount + 1) }
+        ensures stopped { IfOk result (λ d. d ≡ Stopped → share.new.amount ≡ share.old.amount) }
+    {
+        // Nothing else makes a frame ready to be shown.
+        let is_drawn = matches!(told, BoardStep::Draw(_));
+        let mut board = self.shared.lock(self.rt);
+        let handed_in = board.hand_in(self.number, told, share);
+        let spent = board.take_spent();
+        let shows = is_drawn && board.may_show();
+        drop(board);
+        drop(spent);
+        if shows {
+            self.shared.waiting.printer.call_one();
+        }
+        match handed_in {
+            Ok(()) => Ok(Delivered::Told),
+            Err(BoardFault::Stopped) => Ok(Delivered::Stopped),
+            Err(fault) => Err(cause_of(fault)),
+        }
+    }
+
+    // Delivers what the work came to: the band first, so that all bands of a frame are in the mail before its last Draw is
+    // finished.
+    fn deliver(
+        &self,
+        step: Step<'t>,
+        putter: &mut Putter<RunBand<'t, L>>,
+        share: &mut Share<L>,
+    ) -> Result<Delivered, Cause>
+        requires own { IsWorkIn self.now.session.now step }
+        requires part { 0 < share.old.parts }
+        requires putter { IsPutterOf self.now.shared.now.mail putter.old }
+        ensures putter { IsPutterOf self.now.shared.now.mail putter.new }
+        ensures worker { putter.new.worker ≡ putter.old.worker }
+        ensures part { share.new.parts ≡ share.old.parts }
+        ensures counted { IfOk result (λ d. d ≡ Told → share.new.amount ≡ share.old.amount + 1) }
+        ensures stopped { IfOk result (λ d. d ≡ Stopped → share.new.amount ≡ share.old.amount) }
+    {
+        let (told, band) = step.deliver();
+        if let Some(band) = band {
+            // Its memory is there for the next one.
+            drop(self.shared.take_printed());
+            if !self.put_band(putter, RunBand::new(band)) {
+                return Ok(Delivered::Stopped);
+            }
+        }
+        self.tell(told, share)
+    }
+
+    // Works on tasks until the board is done or stopped.
+    fn work_on(
+        &self,
+        scratch: &mut Scratch,
+        putter: &mut Putter<RunBand<'t, L>>,
+        share: &mut Share<L>,
+    ) -> Result<(), Cause>
+        requires part { 0 < share.old.parts }
+        requires putter { IsPutterOf self.now.shared.now.mail putter.old }
+        ensures putter { IsPutterOf self.now.shared.now.mail putter.new }
+        ensures worker { putter.new.worker ≡ putter.old.worker }
+        ensures part { share.new.parts ≡ share.old.parts }
+    {
+        for _ in self.rt.forever() {
+            let Some(next) = self.next_task(share)? else {
+                return Ok(());
+            };
+            let step = self.work_of(scratch, &next.task)?;
+            // With the lock free.
+            drop(next);
+            match self.deliver(step, putter, share)? {
+                Delivered::Told => {}
+                Delivered::Stopped => return Ok(()),
+            }
+        }
+        unreachable!()
+    }
+}
+
+/// Works on tasks until the board is done or stopped, or something fails: then it stops the board, and says what.
+pub fn work<'t, L: RunLedger, M: Ledger, G: Gate, R: Wait>(
+    rt: &R,
+    alloc: Global,
+    session: &Session,
+    shared: &Shared<'t, L, M>,
+    gate: &G,
+    worker: u32,
+    share: Share<L>,
+    putter: Putter<RunBand<'t, L>>,
+) -> Worked<'t, L>
+    requires run { L.game ≡ Some session.now }
+    requires part { share.parts ≡ 1 }
+    requires putter { IsPutterOf shared.now.mail putter }
+    ensures mail { IsPutterOf shared.now.mail result.putter }
+    ensures worker { result.putter.worker ≡ putter.entry.worker }
+{
+    let worker = Worker {
+        rt,
+        alloc,
+        session,
+        shared,
+        gate,
+        number: worker,
+    };
+    let (mut share, mut putter) = (share, putter);
+    let mut scratch = Scratch::new(alloc);
+    let fault = worker.work_on(&mut scratch, &mut putter, &mut share).err();
+    if fault.is_some() {
+        shared.stop(rt);
+    }
+    Worked {
+        share,
+        putter,
+        fault,
+    }
+}

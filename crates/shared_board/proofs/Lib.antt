@@ -1,3 +1,0 @@
-mod Counting
-mod Stepping
-pub mod Sends
