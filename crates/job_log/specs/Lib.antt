@@ -1,4 +1,3 @@
 pub mod Logged
 pub mod Ends
 pub mod Looks
-pub mod AtOnce

@@ -1,10 +1,9 @@
 ghost use Rattle.std.specs.Prelude.{◌≡◌, ◌≤◌, ◌<◌, ◌+◌, ℕ, IfOk, IfSome, None, true, false, option_map};
 ghost use Rattle.job_core.specs.Core.{Waits, IsIdle, IsLegal, IsLegalList};
-ghost use Rattle.board_law.specs.Lists.{first_place, High};
-ghost use Rattle.board_law.specs.Board.{holds, priority_of};
+ghost use Rattle.board_law.specs.Lists.{first_place};
+ghost use Rattle.board_law.specs.Board.{holds};
 ghost use Rattle.board_law.specs.Pick.{given};
 ghost use Rattle.job_log.specs.Logged.{setup_of, kept};
-ghost use Rattle.job_log.specs.AtOnce.{GoesFirst};
 ghost use Rattle.job_log.specs.Looks.{Always, IsOn, IsRunning, IsGivenTo, IsToShow, IsPlace, as_pick};
 
 use super::fault::BoardFault;
@@ -12,18 +11,6 @@ use super::jobs::JobLog;
 use super::next::Next;
 use job_core::names::{Event, JobName};
 use job_machine::{Fiber, Held, Pick};
-use job_queues::{Priority, job_priority};
-
-// Whether a job is of the highest priority.
-fn is_high(job: JobName) -> bool
-    ensures yes { result ≡ true → priority_of job ≡ High }
-    ensures no { result ≡ false → priority_of job ≡ High → ⊥ }
-{
-    match job_priority(job) {
-        Priority::High => true,
-        Priority::Normal | Priority::Low => false,
-    }
-}
 
 // What may happen next. None of these takes memory.
 impl JobLog {
@@ -129,27 +116,6 @@ impl JobLog {
             return None;
         };
         Some((fiber, held))
-    }
-
-    /// Whether the path of a question that is asked now would be taken before all else: a fiber is free for it, no fiber is
-    /// ready, and no other job of high priority may start.
-    pub fn goes_first(&self, frame: u32, agent: u32, question: u32) -> bool
-        ensures yes { result ≡ true → (questions : ℕ → ℕ → ℕ) → GoesFirst (kept self.now questions) frame agent question }
-        ensures no { result ≡ false → (questions : ℕ → ℕ → ℕ) → GoesFirst (kept self.now questions) frame agent question → ⊥ }
-    {
-        let path = JobName::Path {
-            frame,
-            agent,
-            question,
-        };
-        if !self.machine.has_fiber(path) {
-            return false;
-        }
-        match self.machine.peek() {
-            None => true,
-            Some(Pick::Ready(_)) => false,
-            Some(Pick::New(job)) => !is_high(job),
-        }
     }
 
     /// The frame that is shown next.

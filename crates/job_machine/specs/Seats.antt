@@ -1,10 +1,10 @@
 -- A worker's fiber, with the job that it holds from now on.
-use Rattle.std.specs.Prelude.{◌≡◌, ◌<◌, ℕ, List, length, Option, Some, None}
+use Rattle.std.specs.Prelude.{◌≡◌, ◌<◌, ℕ, List, length, Option, None}
 use Rattle.job_core.specs.declared.names.JobName.{JobName}
 use Rattle.job_core.specs.declared.names.JobName.TheVariants.{Logic}
 use Rattle.job_core.specs.Core.{Counter, Draws, Shown}
 use Rattle.board_law.specs.Lists.{write, tally, first_place}
-use Rattle.board_law.specs.Board.{Core, Held, fiber_of, runner, runs_on, seat, wake, woken, lower, holds, first_row}
+use Rattle.board_law.specs.Board.{Core, Held, runner, runs_on, seat, wake, woken, lower, holds, first_row}
 
 abbrev pub holding : Core → ℕ → ℕ → Option Held → Core
 holding c worker fiber held =
@@ -16,10 +16,6 @@ holding c worker fiber held =
         workers = write c.seats.workers worker (runs_on fiber (runner held));
       };
     }
-
--- a worker runs this job on its fiber, at this step
-abbrev pub running : Core → (worker : ℕ) → JobName → (step : ℕ) → Core
-running c worker job step = holding c worker (fiber_of c.seats worker) (Some (record { job = job; step = step; worker = Some worker }))
 
 -- a worker leaves its fiber, which is free then
 abbrev pub left_by : Core → ℕ → ℕ → Core

@@ -5,7 +5,7 @@ ghost use Rattle.board_law.specs.Board.{core_after, core_opening, core_end, fibe
 ghost use Rattle.board_law.specs.Passes.{RunsAt, on_fiber};
 ghost use Rattle.counters.specs.Keys.{counter_of};
 ghost use Rattle.job_machine.specs.Opening.{opened};
-ghost use Rattle.job_machine.specs.Seats.{holding, running, left_by, less_one};
+ghost use Rattle.job_machine.specs.Seats.{holding, left_by, less_one};
 
 use super::counting::{raise, raise_awaited, raise_frame, without, without_frame};
 use super::fault::OutOfMemory;
@@ -298,26 +298,6 @@ impl Machine {
             }),
         );
         Ok(())
-    }
-
-    /// A worker's Think has the answer to a question that it didn't wait for, and stands behind it from now on.
-    #[inline(always)]
-    pub fn pass(&mut self, worker: u32, frame: u32, agent: u32, question: u32)
-        requires runs { RunsAt self.old.seats worker (JobName.Think frame agent) question }
-        requires few { question + 1 < 2 ^ 32 }
-        ensures { self.new ≡ running self.old worker (JobName.Think frame agent) (question + 1) }
-    {
-        let fiber = self.fiber_of(worker);
-        let step = question + 1;
-        self.hold_on(
-            worker,
-            fiber,
-            Some(Held {
-                job: JobName::Think { frame, agent },
-                step,
-                worker: Some(worker),
-            }),
-        );
     }
 
     // A worker's job is over: its fiber is free, and it is idle.
