@@ -226,12 +226,13 @@ fn worlds_differ_in_cells_items_and_agents(rt: HostRuntime) {
     }
 }
 
-// The loads of two agents that stand side by side, of which the first has taken an item, after these intents.
+// The loads of two agents after these intents: the first one has carried an item to the second one's side and given it.
 fn loads_after(alloc: Global, intents: &[Intent]) -> Option<[bool; 2]> {
     let off = Signals::off();
-    let world = world_of(alloc, &["A*B"])?;
-    let world = resolve(alloc, &world, off, &[EAST, Intent::Stay]).ok()?;
-    let world = resolve(alloc, &world, off, &[Intent::Take, Intent::Stay]).ok()?;
+    let mut world = world_of(alloc, &["A*0B"])?;
+    for intent in [EAST, Intent::Take, EAST, Intent::Give(1)] {
+        world = resolve(alloc, &world, off, &[intent, Intent::Stay]).ok()?;
+    }
     let world = resolve(alloc, &world, off, intents).ok()?;
     match world.agents() {
         [a, b] => Some([a.carrying, b.carrying]),
@@ -241,12 +242,17 @@ fn loads_after(alloc: Global, intents: &[Intent]) -> Option<[bool; 2]> {
 
 #[test]
 fn gives_to_who_stands_beside(rt: HostRuntime) {
-    let alloc = rt.alloc();
-    assert!(rt; loads_after(alloc, &[Intent::Stay, Intent::Stay]) == Some([true, false]));
-    assert!(rt; loads_after(alloc, &[Intent::Give(1), Intent::Stay]) == Some([false, true]));
-    assert!(rt; loads_after(alloc, &[Intent::Give(1), Intent::Give(0)]) == Some([true, false]));
-    assert!(rt; loads_after(alloc, &[Intent::Stay, Intent::Give(0)]) == Some([true, false]));
-    assert!(rt; loads_after(alloc, &[Intent::Give(9), Intent::Stay]) == Some([true, false]));
-    assert!(rt; loads_after(alloc, &[Intent::Give(0), Intent::Stay]) == Some([true, false]));
-    assert!(rt; loads_after(alloc, &[WEST, Intent::Give(0)]) == Some([true, false]));
+    let kept = Some([false, true]);
+    let given = Some([true, false]);
+    for (intents, loads) in [
+        ([Intent::Stay, Intent::Stay], kept),
+        ([Intent::Stay, Intent::Give(0)], given),
+        ([Intent::Give(1), Intent::Stay], kept),
+        ([Intent::Stay, Intent::Give(9)], kept),
+        ([Intent::Stay, Intent::Give(1)], kept),
+        ([WEST, Intent::Give(0)], kept),
+        ([Intent::Give(1), Intent::Give(0)], given),
+    ] {
+        assert!(rt; loads_after(rt.alloc(), &intents) == loads, "{intents:?}");
+    }
 }
