@@ -11,4 +11,6 @@ mod meeting_tests;
 #[cfg(test)]
 mod recording_tests;
 #[cfg(test)]
+mod sharing_tests;
+#[cfg(test)]
 mod writer_tests;

@@ -9,10 +9,8 @@ use std::test::Fail;
 use std::thread::Threads;
 use task_board::{JobName, Settings};
 
-// How often a held job looks for others that come, and for others that can't come.
-const MANY: u64 = 1_000_000_000;
-
-const FEW: u64 = 10_000_000;
+// How often a held job looks for others that come.
+const LOOKS: u64 = 1_000_000_000;
 
 // Two jobs of a level, of which the first is held until the second has come.
 struct Meeting {
@@ -108,7 +106,7 @@ fn written<G: Gate, R: Threads + Wait + Sync>(
 fn two_workers_work_two_jobs_at_once(rt: HostRuntime) -> Result<(), Fail> {
     for meeting in &MEETINGS {
         for workers in [2, 16] {
-            let gate = meeting.gate(MANY);
+            let gate = meeting.gate(LOOKS);
             let ended = written(
                 &rt,
                 rt.alloc(),
@@ -126,7 +124,7 @@ fn two_workers_work_two_jobs_at_once(rt: HostRuntime) -> Result<(), Fail> {
 #[test]
 fn one_worker_works_one_job_at_a_time(rt: HostRuntime) -> Result<(), Fail> {
     for meeting in &MEETINGS {
-        let gate = meeting.gate(FEW);
+        let gate = meeting.gate(LOOKS);
         let ended = written(&rt, rt.alloc(), meeting.level, meeting.frames, 1, &gate)?;
         assert_eq!(rt; ended, None);
     }
@@ -137,7 +135,7 @@ fn one_worker_works_one_job_at_a_time(rt: HostRuntime) -> Result<(), Fail> {
 fn four_workers_work_four_jobs_at_once(rt: HostRuntime) -> Result<(), Fail> {
     for (level, draws, bytes) in [(FOUR_NEIGHBOURS, false, 106), (FOUR_BANDS, true, 144)] {
         for workers in [4, 16] {
-            let gate = Four::new(draws, MANY);
+            let gate = Four::new(draws, LOOKS);
             let ended = written(&rt, rt.alloc(), level, 2, workers, &gate)?;
             assert_eq!(rt; ended, Some(bytes), "{workers}");
         }
@@ -148,7 +146,7 @@ fn four_workers_work_four_jobs_at_once(rt: HostRuntime) -> Result<(), Fail> {
 #[test]
 fn three_workers_work_three_jobs_at_once(rt: HostRuntime) -> Result<(), Fail> {
     for (level, draws) in [(FOUR_NEIGHBOURS, false), (FOUR_BANDS, true)] {
-        let gate = Four::new(draws, FEW);
+        let gate = Four::new(draws, LOOKS);
         let ended = written(&rt, rt.alloc(), level, 2, 3, &gate)?;
         assert_eq!(rt; ended, None);
     }
