@@ -216,7 +216,7 @@ pub fn print<'t, W: Write, L: RunLedger, M: Ledger, R: Wait>(
         }
     }
     // There is no other task, so they end.
-    shared.waiting.workers.call_all();
+    shared.waiting.call_workers();
     match out.flush() {
         Ok(()) => Ok(()),
         Err(_) => {

@@ -11,7 +11,7 @@ use std::mem;
 use std::sync::ledger::Ledger;
 use std::sync::{Mutex, MutexGuard, Wait};
 use std::thread::Threads;
-use thread_parking::lock_soon;
+use thread_parking::{Crowd, lock_soon};
 
 /// What the threads of a run share.
 pub struct Shared<'t, L: RunLedger, M: Ledger> {
@@ -56,7 +56,19 @@ impl<'t, L: RunLedger, M: Ledger> Shared<'t, L, M> {
 
     /// Takes the board's lock.
     pub fn lock<R: Wait>(&self, rt: &R) -> MutexGuard<'_, SharedBoard<'t, L, M>> {
-        lock_soon(rt, &self.board)
+        let (board, _) = lock_soon(rt, &self.board);
+        board
+    }
+
+    /// The same for a worker, which learns how crowded the lock is.
+    pub fn lock_in_turn<R: Wait>(
+        &self,
+        rt: &R,
+        crowd: &mut Crowd,
+    ) -> MutexGuard<'_, SharedBoard<'t, L, M>> {
+        let (board, was_held) = lock_soon(rt, &self.board);
+        crowd.learn(was_held);
+        board
     }
 
     /// Stops the board, so that all threads end.

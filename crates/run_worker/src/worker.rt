@@ -20,7 +20,7 @@ use std::hint;
 use std::sync::Wait;
 use std::sync::ledger::{Ledger, Share};
 use task_board::BoardFault;
-use thread_parking::Rest;
+use thread_parking::{Crowd, Rest};
 
 // How often a full queue is tried again before its worker waits for room: some microseconds.
 const TRIES: u32 = 100;
@@ -47,11 +47,11 @@ struct Worker<'h, 't, L: RunLedger, M: Ledger, G: Gate, R: Wait> {
 
 impl<'h, 't, L: RunLedger, M: Ledger, G: Gate, R: Wait> Worker<'h, 't, L, M, G, R> {
     // Looks for a task once, in one hold of the lock. Where there is one and another could be taken, calls a worker for that.
-    fn look(&self, share: &mut Share<L>) -> Result<Given<'t, L>, Cause>
+    fn look(&self, crowd: &mut Crowd, share: &mut Share<L>) -> Result<Given<'t, L>, Cause>
         requires part { 0 < share.old.parts }
         ensures part { share.new.parts ≡ share.old.parts }
     {
-        let mut board = self.shared.lock(self.rt);
+        let mut board = self.shared.lock_in_turn(self.rt, crowd);
         match board.take(self.number, share) {
             Ok(Some(task)) => {
                 let is_more = board.may_take();
@@ -73,7 +73,7 @@ impl<'h, 't, L: RunLedger, M: Ledger, G: Gate, R: Wait> Worker<'h, 't, L, M, G, 
 
     // Waits until there is a task, or none any more. Whoever waits counts as idle before it looks, so that a call for what it
     // doesn't see reaches it.
-    fn wait_for_task(&self, share: &mut Share<L>) -> Result<Given<'t, L>, Cause>
+    fn wait_for_task(&self, crowd: &mut Crowd, share: &mut Share<L>) -> Result<Given<'t, L>, Cause>
         requires part { 0 < share.old.parts }
         ensures part { share.new.parts ≡ share.old.parts }
     {
@@ -81,7 +81,7 @@ impl<'h, 't, L: RunLedger, M: Ledger, G: Gate, R: Wait> Worker<'h, 't, L, M, G, 
         let mut rest = Rest::new();
         idle.enter();
         for _ in self.rt.forever() {
-            match self.look(share) {
+            match self.look(crowd, share) {
                 Ok(Given::Nothing) => idle.wait(self.rt, &mut rest),
                 given => {
                     idle.leave();
@@ -93,12 +93,19 @@ impl<'h, 't, L: RunLedger, M: Ledger, G: Gate, R: Wait> Worker<'h, 't, L, M, G, 
     }
 
     // The next task. None where the board is done or stopped.
-    fn next_task(&self, share: &mut Share<L>) -> Result<Option<RunTask<'t, L>>, Cause>
+    fn next_task(
+        &self,
+        crowd: &mut Crowd,
+        share: &mut Share<L>,
+    ) -> Result<Option<RunTask<'t, L>>, Cause>
         requires part { 0 < share.old.parts }
         ensures part { share.new.parts ≡ share.old.parts }
     {
-        let given = match self.look(share) {
-            Ok(Given::Nothing) => self.wait_for_task(share),
+        if crowd.is_too_much() {
+            self.shared.waiting.rest(self.rt);
+        }
+        let given = match self.look(crowd, share) {
+            Ok(Given::Nothing) => self.wait_for_task(crowd, share),
             given => given,
         };
         match given {
@@ -187,7 +194,12 @@ impl<'h, 't, L: RunLedger, M: Ledger, G: Gate, R: Wait> Worker<'h, 't, L, M, G, 
     }
 
     // Tells the board what the work came to, in one hold of the lock. The printer is called where a frame can be shown then.
-    fn tell(&self, told: BoardStep<'t>, share: &mut Share<L>) -> Result<Delivered, Cause>
+    fn tell(
+        &self,
+        told: BoardStep<'t>,
+        crowd: &mut Crowd,
+        share: &mut Share<L>,
+    ) -> Result<Delivered, Cause>
         requires own { IsToldIn self.now.session.now told }
         requires part { 0 < share.old.parts }
         ensures part { share.new.parts ≡ share.old.parts }
@@ -196,7 +208,7 @@ impl<'h, 't, L: RunLedger, M: Ledger, G: Gate, R: Wait> Worker<'h, 't, L, M, G, 
     {
         // Nothing else makes a frame ready to be shown.
         let is_drawn = matches!(told, BoardStep::Draw(_));
-        let mut board = self.shared.lock(self.rt);
+        let mut board = self.shared.lock_in_turn(self.rt, crowd);
         let handed_in = board.hand_in(self.number, told, share);
         let spent = board.take_spent();
         let shows = is_drawn && board.may_show();
@@ -218,6 +230,7 @@ impl<'h, 't, L: RunLedger, M: Ledger, G: Gate, R: Wait> Worker<'h, 't, L, M, G, 
         &self,
         step: Step<'t>,
         putter: &mut Putter<RunBand<'t, L>>,
+        crowd: &mut Crowd,
         share: &mut Share<L>,
     ) -> Result<Delivered, Cause>
         requires own { IsWorkIn self.now.session.now step }
@@ -237,7 +250,7 @@ impl<'h, 't, L: RunLedger, M: Ledger, G: Gate, R: Wait> Worker<'h, 't, L, M, G, 
                 return Ok(Delivered::Stopped);
             }
         }
-        self.tell(told, share)
+        self.tell(told, crowd, share)
     }
 
     // Works on tasks until the board is done or stopped.
@@ -253,14 +266,15 @@ impl<'h, 't, L: RunLedger, M: Ledger, G: Gate, R: Wait> Worker<'h, 't, L, M, G, 
         ensures worker { putter.new.worker ≡ putter.old.worker }
         ensures part { share.new.parts ≡ share.old.parts }
     {
+        let mut crowd = Crowd::new();
         for _ in self.rt.forever() {
-            let Some(next) = self.next_task(share)? else {
+            let Some(next) = self.next_task(&mut crowd, share)? else {
                 return Ok(());
             };
             let step = self.work_of(scratch, &next.task)?;
             // With the lock free.
             drop(next);
-            match self.deliver(step, putter, share)? {
+            match self.deliver(step, putter, &mut crowd, share)? {
                 Delivered::Told => {}
                 Delivered::Stopped => return Ok(()),
             }

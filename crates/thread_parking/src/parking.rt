@@ -3,6 +3,7 @@ use crossbeam_utils::CachePadded;
 use std::hint;
 use std::sync::Wait;
 use std::sync::atomic::{AtomicU64, Ordering};
+use std::time::Duration;
 
 // What a call leaves: nothing, something for one thread, or for every thread from then on.
 const NONE: u64 = 0;
@@ -90,6 +91,13 @@ impl Parking {
         self.call.park_timeout(rt, NONE as u32, rest.length());
         self.asleep.fetch_sub(1, Ordering::SeqCst);
         rest.learn(self.take_call());
+    }
+
+    /// Waits for a while, or until all are called for good.
+    pub fn rest<R: Wait>(&self, rt: &R, length: Duration) {
+        if !self.is_over() {
+            self.call.park_timeout(rt, NONE as u32, length);
+        }
     }
 
     /// Calls one thread. It wakes one where one sleeps, which is a call of the system, so it is made with no lock held.
