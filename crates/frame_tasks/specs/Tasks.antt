@@ -38,10 +38,3 @@ IsStepOf task step = IsToldOf task (told step)
 abbrev pub IsBeginning : Task → Type 0
 IsBeginning (LogicTask l) = l.has_spread ≡ false
 IsBeginning task = ⊥
-
--- what may be at hand: a Logic at its start, a Path, and a Think
-abbrev pub IsAtHand : Task → Type 0
-IsAtHand (LogicTask l) = l.has_spread ≡ false
-IsAtHand (ThinkTask t) = Unit {0}
-IsAtHand (PathTask q) = Unit {0}
-IsAtHand task = ⊥

@@ -15,9 +15,9 @@ use Rattle.frame_params.specs.Names.{ThinkOf, part_of, question_of}
 use Rattle.frame_params.specs.Contents.{signals_in, world_after, seen, memory_before, questions_in, place_in}
 use Rattle.frame_params.specs.Thoughts.{IsWayOf, EndsAt}
 use Rattle.frame_tasks.specs.declared.ahead.Ahead.{Ahead}
-use Rattle.frame_tasks.specs.declared.ahead.Ahead.TheVariants.{Waits, Asks as AsksAhead, Ended as EndedAhead}
+use Rattle.frame_tasks.specs.declared.ahead.Ahead.TheVariants.{Waits, Ended as EndedAhead}
 use Rattle.frame_tasks.specs.declared.stand.Stand.{Stand}
-use Rattle.frame_tasks.specs.declared.stand.Stand.TheVariants.{Start, Answered, Asks as AsksStand, Ended as EndedStand}
+use Rattle.frame_tasks.specs.declared.stand.Stand.TheVariants.{Start, Answered, Ended as EndedStand}
 use Rattle.frame_tasks.specs.declared.think_step.ThinkStep.{ThinkStep}
 use Rattle.frame_tasks.specs.declared.think_step.ThinkStep.TheVariants.{Ended as EndedStep, Asks as AsksStep}
 
@@ -48,24 +48,21 @@ pub record GoesOn {A : Type 0} (g : Game) (f a i : ℕ) (p : Pending Global A) (
   pub way : IsWayOf g f a i answer
   pub few : i < 255
 
--- how a tick that stands at question i goes on: it waits for the answer, or has it and has gone on
+-- how a tick that stands at question i goes on: it waits for the answer, or has gone on with it to its end
 abbrev pub IsAhead : Game → (f a i : ℕ) → Ahead → Type 0
 IsAhead g f a i (Waits p) = StandsAt g f a i (arc_value p)
-IsAhead g f a i (AsksAhead answer p) = IsWayOf g f a i answer × StandsAt g f a (i + 1) (arc_value p)
 IsAhead g f a i (EndedAhead answer status memory intent) = IsWayOf g f a i answer × EndsAt g f a (i + 1) status memory intent
 
--- a task's tick stands at its start, at a question to which it has the answer, at one that it has yet to ask, or at its end
+-- a task's tick stands at its start, at a question to which it has the answer, or at its end
 abbrev pub IsStand : Game → ℕ → ℕ → Stand → Type 0
 IsStand g f a Start = Unit {0}
 IsStand g f a (Answered i pending answer) = GoesOn g f a i (arc_value pending) answer
-IsStand g f a (AsksStand i pending) = StandsAt g f a i (arc_value pending)
 IsStand g f a (EndedStand n status memory intent) = EndsAt g f a n status memory intent
 
 -- how many questions are answered
 abbrev pub answered_at : Stand → ℕ
 answered_at Start = 0
 answered_at (Answered i pending answer) = i + 1
-answered_at (AsksStand i pending) = i
 answered_at (EndedStand n status memory intent) = n
 
 -- it ends exactly where all its questions are answered, and else it asks the first of the others

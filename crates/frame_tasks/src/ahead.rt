@@ -1,11 +1,11 @@
-ghost use Rattle.std.specs.Prelude.{◌≡◌, ◌+◌, ◌<◌, ℕ, IfOk, IfSome, length};
+ghost use Rattle.std.specs.Prelude.{◌≡◌, ◌+◌, ◌<◌, ℕ, IfOk, IfSome};
 ghost use Rattle.std.specs.Arc.{arc_value};
 ghost use Rattle.game_rules.specs.Game.{Game};
 ghost use Rattle.frame_params.specs.Thoughts.{IsWayOf};
-ghost use Rattle.frame_tasks.specs.Thinks.{ThinksTo, StandsAt, IsAhead, IsStand, answered_at};
+ghost use Rattle.frame_tasks.specs.Thinks.{StandsAt, IsAhead, IsStand, answered_at};
 
 use crate::stand::Stand;
-use crate::ticking::{copy_gone_on, gone_on};
+use crate::ticking::copy_gone_on;
 use bt_nodes::Status;
 use bt_tick::{Outcome, Pending};
 use frame_params::{FrameStart, KeptMemory};
@@ -13,17 +13,12 @@ use grid_world::{Answer, Intent};
 use std::alloc::{AllocError, Allocator, Global};
 use std::sync::Arc;
 
-// How a tick that stands at a question goes on. Where the answer was at hand it has gone on at once, to its next question
-// or its end. A tick is shared with the task that goes on with it.
+// How a tick that stands at a question goes on. Where the answer was known and is the last that the tick asks for, it has
+// gone on at once to its end. A tick that waits is shared with the task that goes on with it.
 #[derive(Drop)]
 pub(crate) enum Ahead<'t> {
     // It waits for the answer.
     Waits(Arc<Pending<'t, Global, Global>>),
-    // With this answer it asks again.
-    Asks {
-        answer: Answer,
-        pending: Arc<Pending<'t, Global, Global>>,
-    },
     // With this answer it has ended.
     Ended {
         answer: Answer,
@@ -34,39 +29,7 @@ pub(crate) enum Ahead<'t> {
 }
 
 impl<'t> Ahead<'t> {
-    // That of a tick which came to this with the answer to its question.
-    fn of_outcome<A: Allocator + Clone>(
-        alloc: Global,
-        start: &FrameStart<'t>,
-        agent: u32,
-        question: u32,
-        answer: Answer,
-        outcome: Outcome<'t, Global, A>,
-    ) -> Result<Ahead<'t>, AllocError>
-        requires there { agent < length start.now.game.trees }
-        requires way { IsWayOf start.now.game start.now.frame agent question answer }
-        requires thinks { ThinksTo start.now.game start.now.frame agent (question + 1) outcome }
-        ensures { IfOk result (λ ahead. IsAhead start.now.game start.now.frame agent question ahead) }
-    {
-        match outcome {
-            Outcome::Ended {
-                status,
-                memory,
-                intent,
-            } => Ok(Ahead::Ended {
-                answer,
-                status,
-                memory: KeptMemory::new(alloc, memory)?,
-                intent,
-            }),
-            Outcome::Asks { place: _, pending } => {
-                let pending = Arc::new(alloc, pending.move_in(alloc)?)?;
-                Ok(Ahead::Asks { answer, pending })
-            }
-        }
-    }
-
-    // That of a tick that was ticked in `scratch`. Where it waits it is taken out of there.
+    // That of a tick that was ticked in `scratch`. Where it waits it is taken out of there, as it stood.
     pub(crate) fn of<A: Allocator + Clone>(
         alloc: Global,
         scratch: A,
@@ -78,44 +41,33 @@ impl<'t> Ahead<'t> {
         requires { StandsAt start.now.game start.now.frame agent question pending }
         ensures { IfOk result (λ ahead. IsAhead start.now.game start.now.frame agent question ahead) }
     {
-        match start.known_way(pending.place(), agent) {
-            None => Ok(Ahead::Waits(Arc::new(alloc, pending.move_in(alloc)?)?)),
-            Some(answer) => {
-                let outcome = gone_on(scratch, start, agent, pending, answer)?;
-                Ahead::of_outcome(alloc, start, agent, question, answer, outcome)
+        if let Some(answer) = start.known_way(pending.place(), agent) {
+            let outcome = copy_gone_on(scratch, start, agent, &pending, answer)?;
+            if let Outcome::Ended {
+                status,
+                memory,
+                intent,
+            } = outcome
+            {
+                return Ok(Ahead::Ended {
+                    answer,
+                    status,
+                    memory: KeptMemory::new(alloc, memory)?,
+                    intent,
+                });
             }
         }
-    }
-
-    // That of a tick that is shared.
-    pub(crate) fn of_shared<A: Allocator + Clone>(
-        alloc: Global,
-        scratch: A,
-        start: &FrameStart<'t>,
-        agent: u32,
-        question: u32,
-        pending: &Arc<Pending<'t, Global, Global>>,
-    ) -> Result<Ahead<'t>, AllocError>
-        requires { StandsAt start.now.game start.now.frame agent question (arc_value pending.now) }
-        ensures { IfOk result (λ ahead. IsAhead start.now.game start.now.frame agent question ahead) }
-    {
-        match start.known_way(pending.place(), agent) {
-            None => Ok(Ahead::Waits(Arc::try_clone(pending)?)),
-            Some(answer) => {
-                let outcome = copy_gone_on(scratch, start, agent, pending, answer)?;
-                Ahead::of_outcome(alloc, start, agent, question, answer, outcome)
-            }
-        }
+        Ok(Ahead::Waits(Arc::new(alloc, pending.move_in(alloc)?)?))
     }
 
     #[inline(always)]
-    // The answer to its question, where it was at hand.
+    // The answer to its question, where the tick has gone on with it.
     pub(crate) fn answer(&self) -> Option<Answer>
         ensures { (g : Game) (f a i : ℕ) → IsAhead g f a i self.now → IfSome result (IsWayOf g f a i) }
     {
         match self {
             Ahead::Waits(_) => None,
-            Ahead::Asks { answer, .. } | Ahead::Ended { answer, .. } => Some(*answer),
+            Ahead::Ended { answer, .. } => Some(*answer),
         }
     }
 
@@ -132,10 +84,6 @@ impl<'t> Ahead<'t> {
                 question,
                 pending: Arc::try_clone(pending)?,
                 answer,
-            }),
-            Ahead::Asks { answer: _, pending } => Ok(Stand::Asks {
-                question: question + 1,
-                pending: Arc::try_clone(pending)?,
             }),
             Ahead::Ended {
                 answer: _,

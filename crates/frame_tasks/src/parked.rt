@@ -1,13 +1,10 @@
-ghost use Rattle.std.specs.Prelude.{◌≡◌, ◌<◌, IfOk, IfSome};
+ghost use Rattle.std.specs.Prelude.{◌≡◌, ◌<◌};
 ghost use Rattle.frame_params.specs.Contents.{questions_in};
-ghost use Rattle.frame_params.specs.Names.{part_of};
 
 use crate::ahead::Ahead;
-use frame_params::{Thought, Way};
 use game_session::Session;
 use grid_world::Place;
 use job_core::names::JobName;
-use std::alloc::AllocError;
 use std::marker::Model;
 
 /// An agent's tick in a frame that stands at one of its path questions.
@@ -88,46 +85,5 @@ impl<'t> Parked<'t> {
         ensures asks { result < questions_in self.now.game self.now.frame self.now.agent }
     {
         self.question
-    }
-
-    /// The answer to its question and what the tick came to, where the answer was at hand and the tick has gone on with it
-    /// to its end: then nothing is left to be worked. It takes no memory, and copies nothing.
-    pub fn ended(&self) -> Result<Option<(Way<'t>, Thought<'t>)>, AllocError>
-        ensures way { IfOk result (λ ended. IfSome ended (λ parts. parts.0 ≡ self.now)) }
-        ensures thought { IfOk result (λ ended. IfSome ended (λ parts. parts.1 ≡ part_of self.now.game self.now.frame self.now.agent)) }
-    {
-        match &self.ahead {
-            Ahead::Waits(_) | Ahead::Asks { .. } => Ok(None),
-            Ahead::Ended {
-                answer,
-                status,
-                memory,
-                intent,
-            } => {
-                let question = self.question;
-                // A tick asks at most as often as its tree has nodes.
-                let nodes = self.session.tree_of(self.agent).size();
-                prove!(u64::from(question) < nodes);
-                let memory = memory.share()?;
-                let way = Way::new(
-                    self.session,
-                    self.frame,
-                    self.agent,
-                    question,
-                    *answer,
-                    None,
-                );
-                let thought = Thought::at_end(
-                    self.session,
-                    self.frame,
-                    self.agent,
-                    question + 1,
-                    *status,
-                    memory,
-                    *intent,
-                );
-                Ok(Some((way, thought)))
-            }
-        }
     }
 }

@@ -102,11 +102,6 @@ impl<'t> PathTask<'t> {
         }
     }
 
-    // Whether the way or the distances to the place are known.
-    pub(crate) fn is_known(&self) -> bool {
-        self.answer.is_some() || self.known.is_some()
-    }
-
     // The way, and the distances if they were not known.
     fn answered<A: Allocator + Clone>(
         &self,

@@ -5,8 +5,8 @@ use grid_world::{Answer, Intent};
 use std::alloc::Global;
 use std::sync::Arc;
 
-// Where a tick stands that is to go on: at its start, at a question that has its answer, or, where an answer was at hand
-// before, at its next question or its end. A tick is shared with the one that was parked.
+// Where a tick stands that is to go on: at its start, at a question that has its answer, or, where it has gone on with its
+// last answer before, at its end. A tick is shared with the one that was parked.
 #[derive(Drop)]
 pub(crate) enum Stand<'t> {
     Start,
@@ -14,10 +14,6 @@ pub(crate) enum Stand<'t> {
         question: u32,
         pending: Arc<Pending<'t, Global, Global>>,
         answer: Answer,
-    },
-    Asks {
-        question: u32,
-        pending: Arc<Pending<'t, Global, Global>>,
     },
     Ended {
         questions: u32,

@@ -1,5 +1,5 @@
-ghost use Rattle.std.specs.Prelude.{◌≡◌, IfOk, IsOk, true};
-ghost use Rattle.frame_tasks.specs.Tasks.{job_of, IsStepOf, IsBeginning, IsAtHand};
+ghost use Rattle.std.specs.Prelude.{◌≡◌, IfOk, IsOk};
+ghost use Rattle.frame_tasks.specs.Tasks.{job_of, IsStepOf, IsBeginning};
 
 use crate::path_task::PathTask;
 use crate::step::Step;
@@ -34,20 +34,6 @@ impl<'t> Task<'t> {
             Task::Think(task) => task.name(),
             Task::Path(task) => task.name(),
             Task::Draw(task) => task.name(),
-        }
-    }
-
-    /// Whether there is next to nothing to do, and no memory to take: a frame's logic at its start, a path question whose
-    /// answer or distances are known, or a thought that has ended ahead of its answer.
-    pub fn is_at_hand(&self) -> bool
-        ensures yes { result ≡ true → IsAtHand self.now }
-        ensures begins { IsBeginning self.now → result ≡ true }
-    {
-        match self {
-            Task::Logic(task) => task.is_at_start(),
-            Task::Path(task) => task.is_known(),
-            Task::Think(task) => task.has_ended(),
-            Task::Draw(_) => false,
         }
     }
 

@@ -97,11 +97,6 @@ impl<'t> ThinkTask<'t> {
         })
     }
 
-    // Whether the tick has ended before, so that there is next to nothing to do.
-    pub(crate) fn has_ended(&self) -> bool {
-        matches!(self.stand, Stand::Ended { .. })
-    }
-
     fn session(&self) -> &'t Session
         ensures { result.now ≡ self.now.game }
     {
@@ -131,7 +126,6 @@ impl<'t> ThinkTask<'t> {
         match &self.stand {
             Stand::Start => 0,
             Stand::Answered { question, .. } => *question + 1,
-            Stand::Asks { question, .. } => *question,
             Stand::Ended { questions, .. } => *questions,
         }
     }
@@ -153,7 +147,8 @@ impl<'t> ThinkTask<'t> {
         }
     }
 
-    // The step of a tick that came to this. Where the answer to its next question is at hand it goes on at once.
+    // The step of a tick that came to this. Where the answer to its next question is known and is its last, it goes on to its
+    // end at once.
     fn step<A: Allocator + Clone>(
         &self,
         alloc: Global,
@@ -192,7 +187,7 @@ impl<'t> ThinkTask<'t> {
 
     /// Ticks the tree to its end or to its next question, in the world of the frame before, whatever other agents came
     /// to. It works on a copy of the memory or of the tick that it has. Where the distances to the place that is asked for
-    /// were known before the frame, the tick goes on at once, as far as the question after that.
+    /// were known before the frame, and the tick asks nothing after that, it goes on to its end at once.
     pub fn work(&self, alloc: Global) -> Result<ThinkStep<'t>, AllocError>
         ensures { IfOk result (λ step. IsThinkStep self.now step) }
     {
@@ -222,12 +217,6 @@ impl<'t> ThinkTask<'t> {
             } => {
                 let outcome = copy_gone_on(scratch.clone()?, start, self.agent, pending, *answer)?;
                 self.step(alloc, scratch, outcome)
-            }
-            Stand::Asks { question, pending } => {
-                let ahead = Ahead::of_shared(
-                    alloc, scratch, start, self.agent, *question, pending,
-                )?;
-                Ok(ThinkStep::Asks(self.parked(pending.place(), ahead)))
             }
             Stand::Ended {
                 questions,

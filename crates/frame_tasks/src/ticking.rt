@@ -31,7 +31,7 @@ pub(crate) fn begun<'t, A: Allocator + Clone>(
 }
 
 // Goes on with an agent's tick that stands, by the way to the place for which it asks.
-pub(crate) fn gone_on<'t, A: Allocator + Clone>(
+fn gone_on<'t, A: Allocator + Clone>(
     scratch: A,
     start: &FrameStart<'t>,
     agent: u32,
@@ -56,11 +56,11 @@ pub(crate) fn gone_on<'t, A: Allocator + Clone>(
 }
 
 // Goes on with a copy in `scratch` of such a tick.
-pub(crate) fn copy_gone_on<'t, A: Allocator + Clone>(
+pub(crate) fn copy_gone_on<'t, A: Allocator + Clone, B: Allocator + Clone>(
     scratch: A,
     start: &FrameStart<'t>,
     agent: u32,
-    pending: &Pending<'t, Global, Global>,
+    pending: &Pending<'t, Global, B>,
     answer: Answer,
 ) -> Result<Outcome<'t, Global, A>, AllocError>
     requires { agent < length start.now.game.trees }

@@ -1,4 +1,4 @@
-ghost use Rattle.std.specs.Prelude.{◌≡◌, IfSome, Some, None, is_some, true, false};
+ghost use Rattle.std.specs.Prelude.{◌≡◌, IfSome, Some, None, true, false};
 ghost use Rattle.std.specs.Option.{IsSomeAnd};
 ghost use Rattle.board_law.specs.Stored.{asked};
 ghost use Rattle.frame_params.specs.Names.{question_of};
@@ -51,16 +51,15 @@ impl<'t> Asking<'t> {
         }
     }
 
-    /// Keeps a thought that stands at a question, with the answer where it is there, and gives out the question before it.
-    pub(crate) fn park(&mut self, parked: Parked<'t>, way: Option<Way<'t>>) -> Asking<'t>
-        requires game { parked.game ≡ self.old.game }
-        requires way { IfSome way (λ way. way ≡ parked) }
-        ensures { self.new ≡ record self.old { asked = Some (asked parked.entry.frame parked.entry.agent parked.entry.question (is_some way.entry)) } }
+    /// Keeps a thought that stands at a question, and gives out the question before it.
+    pub(crate) fn park(&mut self, parked: Parked<'t>) -> Asking<'t>
+        requires { parked.game ≡ self.old.game }
+        ensures { self.new ≡ record self.old { asked = Some (asked parked.entry.frame parked.entry.agent parked.entry.question false) } }
     {
         let next = Asking {
             session: self.session,
             parked: Some(parked),
-            way,
+            way: None,
         };
         mem::replace(self, next)
     }

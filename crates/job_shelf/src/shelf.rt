@@ -239,18 +239,7 @@ impl<'t> Shelf<'t> {
         requires agent { (agent ≡ parked.agent) × (agent < length self.old.stored.asking) }
         ensures { self.new ≡ record self.old { stored = record self.old.stored { asking = slice_set self.old.stored.asking agent (Some (asked parked.entry.frame agent parked.entry.question false)) } } }
     {
-        self.spent.asking = Some(self.asking[agent as usize].park(parked, None));
-    }
-
-    /// The same where the answer is there already.
-    #[inline(always)]
-    pub fn park_answered(&mut self, agent: u32, parked: Parked<'t>, way: Way<'t>)
-        requires game { parked.game ≡ self.old.game }
-        requires agent { (agent ≡ parked.agent) × (agent < length self.old.stored.asking) }
-        requires way { way ≡ parked }
-        ensures { self.new ≡ record self.old { stored = record self.old.stored { asking = slice_set self.old.stored.asking agent (Some (asked parked.entry.frame agent parked.entry.question true)) } } }
-    {
-        self.spent.asking = Some(self.asking[agent as usize].park(parked, Some(way)));
+        self.spent.asking = Some(self.asking[agent as usize].park(parked));
     }
 
     /// Takes out what the last events have left over, of which nothing is made any more: to let it go takes longer than to

@@ -25,6 +25,6 @@ pub handed_by : (old new : Played) (w : ℕ) (step : BoardStep) → IsHandedIn o
 handed_by old new w (Logic Begins) h = ⊎_elim (λ d. (Spread w (LogicJob d.0), d.1, refl)) (λ d. (Hold w (LogicJob d.0), d.1, refl)) h
 handed_by old new w (Logic (Turned turn)) h = (Finish w (LogicJob turn.frame), h, refl)
 handed_by old new w (Think (Ended thought)) h = (Finish w (ThinkJob thought.frame thought.number), h, refl)
-handed_by old new w (Think (Asks parked)) h = (Ask w (ThinkJob parked.frame parked.agent), h, refl)
+handed_by old new w (Think (Asks parked)) h = (Ask w (ThinkJob parked.frame parked.agent), h.0, refl)
 handed_by old new w (Path way) h = (Finish w (PathJob way.frame way.agent way.question), h, refl)
 handed_by old new w (Draw mark) h = (Finish w (DrawJob mark.frame mark.number), h, refl)

@@ -6,4 +6,3 @@ pub mod Beginning
 pub mod Handing
 pub mod Idling
 pub mod Crossing
-pub mod AtOnce

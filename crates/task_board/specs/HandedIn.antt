@@ -2,13 +2,14 @@
 use Rattle.std.specs.Prelude.{◌≡◌, ℕ, ◌⊎◌}
 use Rattle.job_core.specs.declared.names.JobName.TheVariants.{Logic, Think, Path, Draw}
 use Rattle.job_core.specs.declared.names.Event.TheVariants.{Ask, Spread, Hold, Finish}
+use Rattle.job_core.specs.Core.{Runs}
 use Rattle.frame_tasks.specs.declared.board_step.BoardStep.{BoardStep}
 use Rattle.frame_tasks.specs.declared.board_step.BoardStep.TheVariants.{Logic as LogicStep, Think as ThinkStep, Path as PathStep, Draw as DrawStep}
 use Rattle.frame_params.specs.declared.logic_step.LogicStep.TheVariants.{Begins, Turned}
 use Rattle.frame_tasks.specs.declared.think_step.ThinkStep.TheVariants.{Ended, Asks}
 use Rattle.job_log.specs.declared.fault.BoardFault.{BoardFault}
 use Rattle.job_log.specs.declared.fault.BoardFault.TheVariants.{Illegal}
-use Rattle.task_board.specs.Boards.{Played, Happens, IsDoneByLogic, IsRefused, NoOther}
+use Rattle.task_board.specs.Boards.{Played, state_in, Happens, IsDoneByLogic, IsRefused, NoOther}
 use Rattle.job_shelf.specs.Dones.{IsOtherDone}
 use Rattle.task_board.specs.Parked.{IsOtherParked}
 use Rattle.job_shelf.specs.declared.done.Done.TheVariants.{Turned as TurnedDone, Thought as ThoughtDone, Way as WayDone, Drawn as DrawnDone}
@@ -17,12 +18,12 @@ use Rattle.job_shelf.specs.declared.done.Done.TheVariants.{Turned as TurnedDone,
 abbrev pub HasBegun : (old new : Played) → ℕ → Type 0
 HasBegun old new w = IsDoneByLogic old new (λ f. Spread w (Logic f)) ⊎ IsDoneByLogic old new (λ f. Hold w (Logic f))
 
--- the worker's event happened that its step calls for
+-- the worker's event happened that its step calls for: a question is asked at which its Think stands
 abbrev pub IsHandedIn : (old new : Played) → ℕ → BoardStep → Type 0
 IsHandedIn old new w (LogicStep Begins) = HasBegun old new w
 IsHandedIn old new w (LogicStep (Turned turn)) = Happens old new (Finish w (Logic turn.frame))
 IsHandedIn old new w (ThinkStep (Ended thought)) = Happens old new (Finish w (Think thought.frame thought.number))
-IsHandedIn old new w (ThinkStep (Asks parked)) = Happens old new (Ask w (Think parked.frame parked.agent))
+IsHandedIn old new w (ThinkStep (Asks parked)) = Happens old new (Ask w (Think parked.frame parked.agent)) × ((state_in old).phase (Think parked.frame parked.agent) ≡ Runs w parked.question)
 IsHandedIn old new w (PathStep way) = Happens old new (Finish w (Path way.frame way.agent way.question))
 IsHandedIn old new w (DrawStep mark) = Happens old new (Finish w (Draw mark.frame mark.number))
 

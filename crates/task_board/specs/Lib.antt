@@ -4,5 +4,4 @@ pub mod BoardCode
 pub mod Parked
 pub mod HandedIn
 pub mod Given
-pub mod AtOnce
 pub mod Setups

@@ -1,7 +1,6 @@
 //! The task board: the jobs of a run over a session, handed out as tasks, with what their work came to.
 #![tactic(auto)]
 
-mod at_once;
 mod board;
 mod fitting;
 mod hand_in;

@@ -19,6 +19,8 @@ impl<'t> TaskBoard<'t> {
     /// The worker's Think asks the question at which its tick stands.
     pub fn ask(&mut self, worker: u32, parked: Parked<'t>) -> Result<(), Refused<Parked<'t>>>
         ensures ok { OnOk result (Happens self.old self.new (Ask worker (Think parked.entry.frame parked.entry.agent))) }
+        ensures own { OnOk result (parked.entry.game ≡ self.old.game) }
+        ensures next { OnOk result ((state_in self.old).phase (Think parked.entry.frame parked.entry.agent) ≡ Runs worker parked.entry.question) }
         ensures refused { IfErr result (λ r. IsRefused self.old worker (IsOtherParked parked.entry self.old.game) (Ask worker) r.fault) }
         ensures back { IfErr result (λ r. r.value ≡ parked.entry) }
         ensures unchanged { OnErr result (self.new ≡ self.old) }
@@ -46,6 +48,7 @@ impl<'t> TaskBoard<'t> {
     pub fn ask_own(&mut self, worker: u32, parked: Parked<'t>) -> Result<(), Refused<Parked<'t>>>
         requires { parked.game ≡ self.old.game }
         ensures ok { OnOk result (Happens self.old self.new (Ask worker (Think parked.entry.frame parked.entry.agent))) }
+        ensures next { OnOk result ((state_in self.old).phase (Think parked.entry.frame parked.entry.agent) ≡ Runs worker parked.entry.question) }
         ensures refused { IfErr result (λ r. IsRefused self.old worker (IsOtherParked parked.entry self.old.game) (Ask worker) r.fault) }
         ensures back { IfErr result (λ r. r.value ≡ parked.entry) }
         ensures unchanged { OnErr result (self.new ≡ self.old) }
@@ -100,6 +103,7 @@ impl<'t> TaskBoard<'t> {
     /// The worker's job is over, with what its work came to.
     pub fn finish(&mut self, worker: u32, done: Done<'t>) -> Result<(), Refused<Done<'t>>>
         ensures ok { OnOk result (Happens self.old self.new (Finish worker (job_done done.entry))) }
+        ensures own { OnOk result (game_done done.entry ≡ self.old.game) }
         ensures refused { IfErr result (λ r. IsRefused self.old worker (IsOtherDone done.entry self.old.game) (Finish worker) r.fault) }
         ensures back { IfErr result (λ r. r.value ≡ done.entry) }
         ensures unchanged { OnErr result (self.new ≡ self.old) }
