@@ -3,7 +3,7 @@
 
 mod board;
 mod fault;
-mod joined;
+mod joining;
 mod ledger;
 mod run_band;
 mod run_task;
@@ -13,7 +13,7 @@ mod worked;
 
 pub use board::SharedBoard;
 pub use fault::{Cause, RunFault};
-pub use joined::joined;
+pub use joining::joined;
 pub use ledger::RunLedger;
 pub use run_band::RunBand;
 pub use run_task::RunTask;

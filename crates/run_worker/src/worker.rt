@@ -19,7 +19,7 @@ use std::alloc::Global;
 use std::hint;
 use std::sync::Wait;
 use std::sync::ledger::{Ledger, Share};
-use task_board::BoardFault;
+use task_board::{BoardFault, Spent};
 use thread_parking::{Crowd, Rest};
 
 // How often a full queue is tried again before its worker waits for room: some microseconds.
@@ -47,11 +47,11 @@ struct Worker<'h, 't, L: RunLedger, M: Ledger, G: Gate, R: Wait> {
 
 impl<'h, 't, L: RunLedger, M: Ledger, G: Gate, R: Wait> Worker<'h, 't, L, M, G, R> {
     // Looks for a task once, in one hold of the lock. Where there is one and another could be taken, calls a worker for that.
-    fn look(&self, crowd: &mut Crowd, share: &mut Share<L>) -> Result<Given<'t, L>, Cause>
+    fn look(&self, share: &mut Share<L>) -> Result<Given<'t, L>, Cause>
         requires part { 0 < share.old.parts }
         ensures part { share.new.parts ≡ share.old.parts }
     {
-        let mut board = self.shared.lock_in_turn(self.rt, crowd);
+        let mut board = self.shared.lock(self.rt);
         match board.take(self.number, share) {
             Ok(Some(task)) => {
                 let is_more = board.may_take();
@@ -73,7 +73,7 @@ impl<'h, 't, L: RunLedger, M: Ledger, G: Gate, R: Wait> Worker<'h, 't, L, M, G, 
 
     // Waits until there is a task, or none any more. Whoever waits counts as idle before it looks, so that a call for what it
     // doesn't see reaches it.
-    fn wait_for_task(&self, crowd: &mut Crowd, share: &mut Share<L>) -> Result<Given<'t, L>, Cause>
+    fn wait_for_task(&self, share: &mut Share<L>) -> Result<Given<'t, L>, Cause>
         requires part { 0 < share.old.parts }
         ensures part { share.new.parts ≡ share.old.parts }
     {
@@ -81,7 +81,7 @@ impl<'h, 't, L: RunLedger, M: Ledger, G: Gate, R: Wait> Worker<'h, 't, L, M, G, 
         let mut rest = Rest::new();
         idle.enter();
         for _ in self.rt.forever() {
-            match self.look(crowd, share) {
+            match self.look(share) {
                 Ok(Given::Nothing) => idle.wait(self.rt, &mut rest),
                 given => {
                     idle.leave();
@@ -93,19 +93,12 @@ impl<'h, 't, L: RunLedger, M: Ledger, G: Gate, R: Wait> Worker<'h, 't, L, M, G, 
     }
 
     // The next task. None where the board is done or stopped.
-    fn next_task(
-        &self,
-        crowd: &mut Crowd,
-        share: &mut Share<L>,
-    ) -> Result<Option<RunTask<'t, L>>, Cause>
+    fn next_task(&self, share: &mut Share<L>) -> Result<Option<RunTask<'t, L>>, Cause>
         requires part { 0 < share.old.parts }
         ensures part { share.new.parts ≡ share.old.parts }
     {
-        if crowd.is_too_much() {
-            self.shared.waiting.rest(self.rt);
-        }
-        let given = match self.look(crowd, share) {
-            Ok(Given::Nothing) => self.wait_for_task(crowd, share),
+        let given = match self.look(share) {
+            Ok(Given::Nothing) => self.wait_for_task(share),
             given => given,
         };
         match given {
@@ -193,18 +186,19 @@ impl<'h, 't, L: RunLedger, M: Ledger, G: Gate, R: Wait> Worker<'h, 't, L, M, G, 
         self.put_when_there_is_room(putter, band)
     }
 
-    // Tells the board what the work came to, in one hold of the lock. The printer is called where a frame can be shown then.
+    // Tells the board what the work came to, in one hold of the lock. The printer is called where a frame can be shown then. What
+    // the board has left over is given back, to be let go once the lock isn't wanted.
     fn tell(
         &self,
         told: BoardStep<'t>,
         crowd: &mut Crowd,
         share: &mut Share<L>,
-    ) -> Result<Delivered, Cause>
+    ) -> Result<(Delivered, Spent<'t>), Cause>
         requires own { IsToldIn self.now.session.now told }
         requires part { 0 < share.old.parts }
         ensures part { share.new.parts ≡ share.old.parts }
-        ensures counted { IfOk result (λ d. d ≡ Told → share.new.amount ≡ share.old.amount + 1) }
-        ensures stopped { IfOk result (λ d. d ≡ Stopped → share.new.amount ≡ share.old.amount) }
+        ensures counted { IfOk result (λ d. d.0 ≡ Told → share.new.amount ≡ share.old.amount + 1) }
+        ensures stopped { IfOk result (λ d. d.0 ≡ Stopped → share.new.amount ≡ share.old.amount) }
     {
         // Nothing else makes a frame ready to be shown.
         let is_drawn = matches!(told, BoardStep::Draw(_));
@@ -213,13 +207,12 @@ impl<'h, 't, L: RunLedger, M: Ledger, G: Gate, R: Wait> Worker<'h, 't, L, M, G, 
         let spent = board.take_spent();
         let shows = is_drawn && board.may_show();
         drop(board);
-        drop(spent);
         if shows {
             self.shared.waiting.printer.call_one();
         }
         match handed_in {
-            Ok(()) => Ok(Delivered::Told),
-            Err(BoardFault::Stopped) => Ok(Delivered::Stopped),
+            Ok(()) => Ok((Delivered::Told, spent)),
+            Err(BoardFault::Stopped) => Ok((Delivered::Stopped, spent)),
             Err(fault) => Err(cause_of(fault)),
         }
     }
@@ -232,25 +225,26 @@ impl<'h, 't, L: RunLedger, M: Ledger, G: Gate, R: Wait> Worker<'h, 't, L, M, G, 
         putter: &mut Putter<RunBand<'t, L>>,
         crowd: &mut Crowd,
         share: &mut Share<L>,
-    ) -> Result<Delivered, Cause>
+    ) -> Result<(Delivered, Option<Spent<'t>>), Cause>
         requires own { IsWorkIn self.now.session.now step }
         requires part { 0 < share.old.parts }
         requires putter { IsPutterOf self.now.shared.now.mail putter.old }
         ensures putter { IsPutterOf self.now.shared.now.mail putter.new }
         ensures worker { putter.new.worker ≡ putter.old.worker }
         ensures part { share.new.parts ≡ share.old.parts }
-        ensures counted { IfOk result (λ d. d ≡ Told → share.new.amount ≡ share.old.amount + 1) }
-        ensures stopped { IfOk result (λ d. d ≡ Stopped → share.new.amount ≡ share.old.amount) }
+        ensures counted { IfOk result (λ d. d.0 ≡ Told → share.new.amount ≡ share.old.amount + 1) }
+        ensures stopped { IfOk result (λ d. d.0 ≡ Stopped → share.new.amount ≡ share.old.amount) }
     {
         let (told, band) = step.deliver();
         if let Some(band) = band {
             // Its memory is there for the next one.
             drop(self.shared.take_printed());
             if !self.put_band(putter, RunBand::new(band)) {
-                return Ok(Delivered::Stopped);
+                return Ok((Delivered::Stopped, None));
             }
         }
-        self.tell(told, crowd, share)
+        let (delivered, spent) = self.tell(told, crowd, share)?;
+        Ok((delivered, Some(spent)))
     }
 
     // Works on tasks until the board is done or stopped.
@@ -267,17 +261,22 @@ impl<'h, 't, L: RunLedger, M: Ledger, G: Gate, R: Wait> Worker<'h, 't, L, M, G, 
         ensures part { share.new.parts ≡ share.old.parts }
     {
         let mut crowd = Crowd::new();
+        let mut next = self.next_task(share)?;
         for _ in self.rt.forever() {
-            let Some(next) = self.next_task(&mut crowd, share)? else {
+            let Some(task) = next else {
                 return Ok(());
             };
-            let step = self.work_of(scratch, &next.task)?;
-            // With the lock free.
-            drop(next);
-            match self.deliver(step, putter, &mut crowd, share)? {
-                Delivered::Told => {}
-                Delivered::Stopped => return Ok(()),
+            let step = self.work_of(scratch, &task.task)?;
+            drop(task);
+            let (delivered, spent) = self.deliver(step, putter, &mut crowd, share)?;
+            if delivered == Delivered::Stopped {
+                return Ok(());
             }
+            if crowd.is_too_much() {
+                self.shared.waiting.rest(self.rt);
+            }
+            next = self.next_task(share)?;
+            drop(spent);
         }
         unreachable!()
     }

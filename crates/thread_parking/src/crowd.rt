@@ -1,8 +1,4 @@
-// What a lock that was held counts, where one that was free counts one: it is too crowded where it is held in a third of the
-// tries.
-const HELD: u32 = 2;
-
-// From how much on it is too crowded.
+// How many times more often it was held than free where it is too crowded.
 const MUCH: u32 = 32;
 
 /// How crowded a lock is, as a thread that takes it again and again finds it.
@@ -20,13 +16,14 @@ impl Crowd {
     /// Takes into account whether the lock was held.
     pub fn learn(&mut self, was_held: bool) {
         self.met = if was_held {
-            self.met.saturating_add(HELD)
+            self.met.saturating_add(1)
         } else {
             self.met.saturating_sub(1)
         };
     }
 
-    /// Whether those who take the lock would do more with one fewer. Then the count begins anew.
+    /// Whether the lock is held more often than not, so that those who take it would do more with one fewer. Then the count
+    /// begins anew.
     pub fn is_too_much(&mut self) -> bool {
         if self.met < MUCH {
             return false;

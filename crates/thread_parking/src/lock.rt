@@ -1,10 +1,14 @@
 use crossbeam_utils::Backoff;
 use std::sync::{Mutex, MutexGuard, Wait};
+use std::thread;
 
-// How often a thread tries for a lock before it sleeps for it.
+// How often a thread tries for a lock before it sleeps for it: some tens of microseconds.
 const TRIES: u32 = 64;
 
-/// Takes a lock that is held for less than a microsecond at a time, and says whether it was held: whoever sleeps for a lock
+// Behind how many tries it lets other threads run in between: the holder may have lost its processor to this one.
+const YIELDS: u32 = 32;
+
+/// Takes a lock that is held for less than a microsecond at a time, and says whether it was held. Whoever sleeps for a lock
 /// makes the holder wake it, which takes longer than many holds, so a thread tries for a while first.
 pub fn lock_soon<'m, T, R: Wait>(rt: &R, lock: &'m Mutex<T>) -> (MutexGuard<'m, T>, bool) {
     let backoff = Backoff::new();
@@ -12,10 +16,11 @@ pub fn lock_soon<'m, T, R: Wait>(rt: &R, lock: &'m Mutex<T>) -> (MutexGuard<'m, 
         if let Some(guard) = lock.try_lock() {
             return (guard, number != 0);
         }
-        if backoff.is_completed() {
-            break;
+        if number < YIELDS {
+            backoff.spin();
+        } else {
+            thread::yield_now();
         }
-        backoff.snooze();
     }
     (lock.lock(rt), true)
 }
