@@ -14,23 +14,21 @@ use Rattle.std.proofs.sync.ledger.Share.TheSendSync as share_crossing
 use Rattle.std.specs.declared.sync.ledger.Ledger as ledger
 use Rattle.std.specs.contracts.sync.ledger.Share as share
 use Rattle.std.specs.contracts.alloc.Global as global
-use Rattle.run_ledger.specs.declared.ledger.RunLedger as run_ledger
+use Rattle.run_shared.specs.declared.ledger.RunLedger as run_ledger
 use Rattle.band_mail.proofs.putter.Putter.TheSendSync as putter_crossing
 use Rattle.band_mail.specs.contracts.putter.Putter as putter
 use Rattle.frame_params.proofs.Crossing as params
-use Rattle.frame_print.specs.contracts.run_band.RunBand as run_band
-use Rattle.frame_print.proofs.Crossing as prints
+use Rattle.run_shared.specs.contracts.run_band.RunBand as run_band
 use Rattle.game_session.specs.contracts.session.Session as session
-use Rattle.run_hall.specs.contracts.hall.Hall as hall
-use Rattle.run_hall.proofs.Sends.{hall_sync}
-use Rattle.run_hall.specs.contracts.worked.Worked as worked
-use Rattle.run_crew.specs.contracts.hiring.Post as post
+use Rattle.run_shared.specs.contracts.shared.Shared as shared
+use Rattle.run_shared.proofs.Sends as shares
+use Rattle.run_shared.specs.contracts.worked.Worked as worked
 
 pub session_sync : IsSync session.the_row
 session_sync = params.session
 
-pub hall_lent : (κ : NamedLft) (L M : RattleType) (p : run_ledger.Ghosts L.Denot) (l : ledger.Ghosts L.Denot) (m : ledger.Ghosts M.Denot) → IsSync (hall.the_row κ L M p l m)
-hall_lent κ L M p l m = hall_sync κ L M p l m
+pub shared_lent : (κ : NamedLft) (L M : RattleType) (p : run_ledger.Ghosts L.Denot) (l : ledger.Ghosts L.Denot) (m : ledger.Ghosts M.Denot) → IsSync (shared.the_row κ L M p l m)
+shared_lent κ L M p l m = shares.shared_sync κ L M p l m
 
 runtime_send : (κ : NamedLft) (R : RattleType) → IsSync (param 4 R) → IsSend ((shr_ref_field κ (param 4 R) tt).row)
 runtime_send κ R sR = search (sR, sendable)
@@ -41,8 +39,8 @@ alloc_send = search (crosses, sendable) depth 40
 session_send : (κ : NamedLft) → IsSend ((shr_ref_field κ session.the_row tt).row)
 session_send κ = search (session_sync, sendable)
 
-hall_send : (κ κd : NamedLft) (L M : RattleType) (p : run_ledger.Ghosts L.Denot) (l : ledger.Ghosts L.Denot) (m : ledger.Ghosts M.Denot) → IsSend ((shr_ref_field κ (hall.the_row κd (param 1 L) (param 2 M) p l m) tt).row)
-hall_send κ κd L M p l m = search (hall_sync κd (param 1 L) (param 2 M) p l m, sendable)
+shared_send : (κ κd : NamedLft) (L M : RattleType) (p : run_ledger.Ghosts L.Denot) (l : ledger.Ghosts L.Denot) (m : ledger.Ghosts M.Denot) → IsSend ((shr_ref_field κ (shared.the_row κd (param 1 L) (param 2 M) p l m) tt).row)
+shared_send κ κd L M p l m = search (shares.shared_sync κd (param 1 L) (param 2 M) p l m, sendable)
 
 gate_send : (κ : NamedLft) (G : RattleType) → IsSync (param 3 G) → IsSend ((shr_ref_field κ (param 3 G) tt).row)
 gate_send κ G sG = search (sG, sendable)
@@ -54,25 +52,20 @@ share_send : (L : RattleType) (l : ledger.Ghosts L.Denot) → IsSend (param 1 L)
 share_send L l sL = search (share_crossing.the_send, sL, crosses, sendable) depth 40
 
 putter_send : (κ : NamedLft) (L : RattleType) (p : run_ledger.Ghosts L.Denot) (l : ledger.Ghosts L.Denot) → IsSend (putter.the_row (run_band.the_row κ (param 1 L) p l))
-putter_send κ L p l = search (prints.run_band_send κ (param 1 L) p l, putter_crossing.the_send, crosses, sendable) depth 40
-
-post_send : (κh κd : NamedLft) (L M : RattleType) (p : run_ledger.Ghosts L.Denot) (l : ledger.Ghosts L.Denot) (m : ledger.Ghosts M.Denot) → IsSend (post.the_row κh κd (param 1 L) (param 2 M) p l m)
-post_send κh κd L M p l m =
-    declared_send (post.the_type κh κd (param 1 L) (param 2 M) p l m)
-    (as_row_send (shr_ref_field κh (hall.the_row κd (param 1 L) (param 2 M) p l m) tt) (hall_send κh κd L M p l m), (putter_send κd L p l, tt))
+putter_send κ L p l = search (shares.run_band_send κ (param 1 L) p l, putter_crossing.the_send, crosses, sendable) depth 40
 
 -- what a worker's thread hands back
 pub worked_send : (κ : NamedLft) (L : RattleType) (p : run_ledger.Ghosts L.Denot) (l : ledger.Ghosts L.Denot) → IsSend (param 1 L) → IsSend (worked.the_row κ (param 1 L) p l)
 worked_send κ L p l sL = declared_send (worked.the_type κ (param 1 L) p l) (share_send L l sL, (putter_send κ L p l, (search (crosses, sendable) depth 40, tt)))
 
-all_send : (ν : Sym) (A B C D E F G : RattleType) → IsSend A → IsSend B → IsSend C → IsSend D → IsSend E → IsSend F → IsSend G
-    → IsSend (TupleAt ν (A ∷ B ∷ C ∷ D ∷ E ∷ F ∷ G ∷ []))
-all_send ν A B C D E F G a b c d e f g =
-    declared_send (type_at ν (A ∷ B ∷ C ∷ D ∷ E ∷ F ∷ G ∷ []))
-    (as_row_send (row_field A) a, (as_row_send (row_field B) b, (as_row_send (row_field C) c, (as_row_send (row_field D) d, (as_row_send (row_field E) e, (as_row_send (row_field F) f, (as_row_send (row_field G) g, tt)))))))
+all_send : (ν : Sym) (A B C D E F G H : RattleType) → IsSend A → IsSend B → IsSend C → IsSend D → IsSend E → IsSend F → IsSend G → IsSend H
+    → IsSend (TupleAt ν (A ∷ B ∷ C ∷ D ∷ E ∷ F ∷ G ∷ H ∷ []))
+all_send ν A B C D E F G H a b c d e f g h =
+    declared_send (type_at ν (A ∷ B ∷ C ∷ D ∷ E ∷ F ∷ G ∷ H ∷ []))
+    (as_row_send (row_field A) a, (as_row_send (row_field B) b, (as_row_send (row_field C) c, (as_row_send (row_field D) d, (as_row_send (row_field E) e, (as_row_send (row_field F) f, (as_row_send (row_field G) g, (as_row_send (row_field H) h, tt))))))))
 
-pub worker_send : (δ : Ty) (k : Kept) (ν : Sym) (κr κs κh κd κg : NamedLft) (L M G R : RattleType) (p : run_ledger.Ghosts L.Denot) (l : ledger.Ghosts L.Denot) (m : ledger.Ghosts M.Denot)
+pub worker_send : (δ : Ty) (k : Kept) (ν : Sym) (κr κs κh κd κg κp : NamedLft) (L M G R : RattleType) (p : run_ledger.Ghosts L.Denot) (l : ledger.Ghosts L.Denot) (m : ledger.Ghosts M.Denot)
     → IsSend (param 1 L) → IsSync (param 3 G) → IsSync (param 4 R)
-    → IsSend (param 2 (arg δ k (TupleAt ν ((shr_ref_field κr (param 4 R) tt).row ∷ global.the_row ∷ (shr_ref_field κs session.the_row tt).row ∷ post.the_row κh κd (param 1 L) (param 2 M) p l m ∷ (shr_ref_field κg (param 3 G) tt).row ∷ u32-field.row ∷ share.the_row (param 1 L) l ∷ []))))
-worker_send δ k ν κr κs κh κd κg L M G R p l m sL sG sR =
-    param_send 2 _ (arg_send δ k _ (all_send ν _ _ _ _ _ _ _ (runtime_send κr R sR) alloc_send (session_send κs) (post_send κh κd L M p l m) (gate_send κg G sG) worker_number_send (share_send L l sL)))
+    → IsSend (param 2 (arg δ k (TupleAt ν ((shr_ref_field κr (param 4 R) tt).row ∷ global.the_row ∷ (shr_ref_field κs session.the_row tt).row ∷ (shr_ref_field κh (shared.the_row κd (param 1 L) (param 2 M) p l m) tt).row ∷ (shr_ref_field κg (param 3 G) tt).row ∷ u32-field.row ∷ share.the_row (param 1 L) l ∷ putter.the_row (run_band.the_row κp (param 1 L) p l) ∷ []))))
+worker_send δ k ν κr κs κh κd κg κp L M G R p l m sL sG sR =
+    param_send 2 _ (arg_send δ k _ (all_send ν _ _ _ _ _ _ _ _ (runtime_send κr R sR) alloc_send (session_send κs) (shared_send κh κd L M p l m) (gate_send κg G sG) worker_number_send (share_send L l sL) (putter_send κp L p l)))

@@ -139,3 +139,9 @@ pub complete_for : (b : Played) (g : Game) (n : Numbers) (es : List Event) → b
 complete_for b g n es p q r h =
     subst (λ x. IsComplete (setup_for x n) es) p
     (subst (λ x. IsComplete (setup_for b.game x) es) q (subst (λ l. IsComplete (setup_for b.game b.numbers) l) (sym r) h))
+
+pub some_game : (a b : Game) → Some a ≡ Some b → a ≡ b
+some_game a b e = cc
+
+pub some_numbers : (a b : Numbers) → Some a ≡ Some b → a ≡ b
+some_numbers a b e = cc

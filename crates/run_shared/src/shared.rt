@@ -102,7 +102,7 @@ impl<'t, L: RunLedger, M: Ledger> Shared<'t, L, M> {
     ) -> (SharedBoard<'t, L, M>, Vec<(u32, RunBand<'t, L>)>)
         requires putters { (vec_len putters ≡ length self.mail) × ArePuttersOf self.mail putters.items }
         requires taker { taker.mail ≡ self.mail }
-        ensures { IsAllDelivered (all_put putters.items) taker.taken result.1.items }
+        ensures { IsAllDelivered (all_put putters.entry.items) taker.entry.taken result.1.items }
     {
         let Self {
             board,

@@ -1,0 +1,16 @@
+use Rattle.std.proofs.Common.{rules, ◌∙◌}
+use Rattle.task_board.specs.Setups.{setup_for}
+use Rattle.play_run.specs.Reports.{AreStepsOf}
+use Rattle.play_run.proofs.Steps.{sum_steps}
+use Rattle.play_run.proofs.report.report_on.Goals as goal
+
+pub returns-clause-sum : goal.returns-clause-sum
+returns-clause-sum g c =
+    let steps : AreStepsOf c.args.settings.workers c.in-Some.events.items c.in-Ok.steps.items = search rules in
+    sum_steps (setup_for c.args.session.now c.args.settings) c.in-Some.events.items c.in-Ok.steps.items c.in-Some.ensures.complete.0 steps
+
+pub returns-clause-shares : goal.returns-clause-shares
+returns-clause-shares g c =
+    let steps : AreStepsOf c.args.settings.workers c.in-Some.events.items c.in-Ok.steps.items = search rules in
+    sum_steps (setup_for c.args.session.now c.args.settings) c.in-Some.events.items c.in-Ok.steps.items c.in-Some.ensures.complete.0 steps
+    ∙ c.in-Some.ensures.named

@@ -1,0 +1,10 @@
+use Rattle.std.proofs.Common.{◌∙◌, sym}
+use Rattle.run_shared.proofs.Counting.{complete_for, some_game, some_numbers}
+use Rattle.run_shared.proofs.board.SharedBoard.into_events.Goals as goal
+
+pub returns-then-is_done-clause-complete : goal.returns-then-is_done-clause-complete
+returns-then-is_done-clause-complete g c = λ game numbers named numbered.
+    let board = c.self.inside.board in
+    complete_for board game numbers c.into_events.result.items
+    (some_game board.game game (sym c.self.inside.game_is ∙ named)) (some_numbers board.numbers numbers (sym c.self.inside.numbers_are ∙ numbered))
+    c.into_events.ensures (c.is_done.ensures.yes c.if-is_done.true)
