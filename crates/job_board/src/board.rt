@@ -1,7 +1,7 @@
 ghost use Rattle.std.specs.Prelude.{◌≡◌, ℕ, IfOk, IfErr, OnOk, OnErr, true, false, [], replicate, slice_set};
 ghost use Rattle.job_core.specs.declared.names.JobName.TheVariants.{Logic, Think};
 ghost use Rattle.job_core.specs.declared.names.Event.TheVariants.{Ask, Spread, Hold, Finish, Emit};
-ghost use Rattle.job_core.specs.Core.{IsLegal, IsLegalList, IsComplete};
+ghost use Rattle.job_core.specs.Core.{Runs, IsLegal, IsLegalList, IsComplete};
 ghost use Rattle.task_board.specs.Boards.{setup_in, state_in, Happens, IsDoneByLogic, IsTaken, IsTakeRefused, GivesJob, IsRefused, IsEmitRefused, IsShown, IsStopped, NoOther};
 ghost use Rattle.frame_tasks.specs.BoardSteps.{IsToldIn};
 ghost use Rattle.task_board.specs.HandedIn.{IsHandedIn, IsHandInRefused};
@@ -167,6 +167,8 @@ impl<'t> Board<'t> {
     /// The worker's Think asks the question at which its tick stands.
     pub fn ask(&mut self, worker: u32, parked: Parked<'t>) -> Result<(), Refused<Parked<'t>>>
         ensures ok { OnOk result (Happens self.old.run self.new.run (Ask worker (Think parked.entry.frame parked.entry.agent))) }
+        ensures own { OnOk result (parked.entry.game ≡ self.old.run.game) }
+        ensures next { OnOk result ((state_in self.old.run).phase (Think parked.entry.frame parked.entry.agent) ≡ Runs worker parked.entry.question) }
         ensures worked { OnOk result (self.new.worked ≡ slice_set self.old.worked worker false) }
         ensures refused { IfErr result (λ r. IsRefused self.old.run worker (IsOtherParked parked.entry self.old.run.game) (Ask worker) r.fault) }
         ensures back { IfErr result (λ r. r.value ≡ parked.entry) }
@@ -184,6 +186,7 @@ impl<'t> Board<'t> {
     pub fn ask_own(&mut self, worker: u32, parked: Parked<'t>) -> Result<(), Refused<Parked<'t>>>
         requires { parked.game ≡ self.old.run.game }
         ensures ok { OnOk result (Happens self.old.run self.new.run (Ask worker (Think parked.entry.frame parked.entry.agent))) }
+        ensures next { OnOk result ((state_in self.old.run).phase (Think parked.entry.frame parked.entry.agent) ≡ Runs worker parked.entry.question) }
         ensures worked { OnOk result (self.new.worked ≡ slice_set self.old.worked worker false) }
         ensures refused { IfErr result (λ r. IsRefused self.old.run worker (IsOtherParked parked.entry self.old.run.game) (Ask worker) r.fault) }
         ensures back { IfErr result (λ r. r.value ≡ parked.entry) }
@@ -200,6 +203,7 @@ impl<'t> Board<'t> {
     /// The worker's job is over, with what its work came to.
     pub fn finish(&mut self, worker: u32, done: Done<'t>) -> Result<(), Refused<Done<'t>>>
         ensures ok { OnOk result (Happens self.old.run self.new.run (Finish worker (job_done done.entry))) }
+        ensures own { OnOk result (game_done done.entry ≡ self.old.run.game) }
         ensures worked { OnOk result (self.new.worked ≡ slice_set self.old.worked worker false) }
         ensures refused { IfErr result (λ r. IsRefused self.old.run worker (IsOtherDone done.entry self.old.run.game) (Finish worker) r.fault) }
         ensures back { IfErr result (λ r. r.value ≡ done.entry) }

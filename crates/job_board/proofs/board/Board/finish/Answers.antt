@@ -19,3 +19,6 @@ returns-clause-ok c = rw (← c.self.view_is) c.in-Ok.ensures.ok
 
 pub returns-clause-worked : goal.returns-clause-worked
 returns-clause-worked c = rw (c.clear.ensures, ← c.self.view_is) (map-set is_some c.self.inside.works c.args.worker None)
+
+pub returns-clause-own : goal.returns-clause-own
+returns-clause-own c = rw (← c.self.view_is) c.in-Ok.ensures.own
