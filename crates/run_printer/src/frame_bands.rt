@@ -1,4 +1,4 @@
-ghost use Rattle.std.specs.Prelude.{◌≡◌, ◌≢◌, ◌≤◌, ◌⊎◌, ⊥, Some, None, replicate, slice_index_or, slice_set, vec_len, IfOk, OnOk, IfSome, IfNone};
+ghost use Rattle.std.specs.Prelude.{◌≡◌, ◌≢◌, ◌≤◌, ◌⊎◌, Some, None, replicate, slice_index_or, slice_set, vec_len, IfOk, OnOk, IfSome, IfNone};
 ghost use Rattle.game_rules.specs.Game.{Game};
 ghost use Rattle.frame_params.specs.Contents.{band_in};
 ghost use Rattle.run_printer.specs.Tables.{with_place, AreFirstBands};
@@ -47,7 +47,7 @@ impl<'t, L: RunLedger> FrameBands<'t, L> {
         ensures { IfOk result (λ row. row ≡ replicate bands None) }
     {
         let mut places = Vec::with_capacity(alloc, bands as usize)?;
-        'places: for _number in 0..bands {
+        for _number in 0..bands {
             places.push(None)?;
         }
         Ok(FrameBands { places })

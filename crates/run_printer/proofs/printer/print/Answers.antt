@@ -1,0 +1,24 @@
+use Rattle.std.proofs.Common.{rules, ◌≡◌, ◌+◌, ◌<◌, arith, ap, ◌∙◌}
+use Rattle.std.specs.Io.KnownBytes.{Appends}
+use Rattle.std.proofs.KnownBytes.{Appends-kept}
+use Rattle.game_rules.specs.Text.{texts, frame_text}
+use Rattle.run_shared.proofs.Texts.{part-of_more, part-of_whole}
+use Rattle.run_printer.proofs.printer.print.Goals as goal
+
+pub returns-in-Err-clause-err : goal.returns-in-Err-clause-err
+returns-in-Err-clause-err g c =
+    part-of_whole _ _ c.args.session.now _ c.loop-done.done (omega (arith, c.loop-done-test.true, c.frames-last.ensures.value)) c.loop-done.invariant.3
+
+pub returns-in-Err-write_whole-clause-err : goal.returns-in-Err-write_whole-clause-err
+returns-in-Err-write_whole-clause-err g c =
+    let session = c.args.session.now in
+    let done = c.loop-done.done in
+    let below : done < c.args.settings.frames = omega (arith, c.loop-done-test.true, c.frames-last.ensures.value) in
+    let text : c.deref.result.now ≡ frame_text session (done + 1) = c.deref.ensures.value ∙ c.in-Ok.ensures.text in
+    part-of_more _ _ _ session c.args.settings.frames done _ below (rw text at c.in-Err-write_whole.ensures.not_all) c.loop-done.invariant.3 (rw text at c.in-Err-write_whole.ensures.err)
+
+pub returns-in-Err-flush-clause-err : goal.returns-in-Err-flush-clause-err
+returns-in-Err-flush-clause-err g c =
+    let wrote : Appends (g.W.Write.contents c.args.out.now) (g.W.Write.contents c.loop-done.out) (texts c.args.session.now c.args.settings.frames) = search rules in
+    rw c.frames-last.ensures.value
+    (part-of_whole _ _ c.args.session.now c.args.settings.frames c.args.settings.frames (omega arith) (Appends-kept _ _ _ _ wrote c.in-Err-flush.ensures.bytes))
