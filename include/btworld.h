@@ -1,15 +1,18 @@
-/* btworld.h: a proved grid world of agents with behaviour trees, stepped frame by frame by its caller.
+/* btworld.h: a grid world of agents with behaviour trees, stepped frame by frame by its caller.
  *
- * Link with libbtworld_c.a and then liblibc_c.a (of the kit, malloc behind three names).
+ * examples/README.md says how it is built and linked, which threads may do what, and what is proved.
  *
- * What is proved is said of each call. What a caller owes, which nothing checks:
- *  - a handle is {0} at first, and is changed by these calls alone; it may be moved, but a copy of it must not be used;
- *  - two handles of one call, or a handle and a buffer, don't overlap; a buffer has as many bytes as its length says,
- *    is writable where it is not const, and a length is at most PTRDIFF_MAX;
- *  - a pointer is never null, not even beside a length of 0;
- *  - a handle is used by one thread at a time, and by the thread that opened it (forks share memory: keep all forks of one
- *    opened game on one thread);
- *  - malloc, realloc and free come from one allocator and align to 16; no call from a signal handler.
+ * A caller owes, and nothing checks:
+ *  - a handle is BTWORLD_CLOSED_GAME at first, and is changed by these calls alone; it may be moved, and its old place is not
+ *    used any more: a copy of a handle is no second game (btworld_fork makes one);
+ *  - the handles, the buffer and the other pointers of one call don't overlap, and none is null, not even beside a length of 0;
+ *  - a buffer has as many bytes as its length says, and a length is at most PTRDIFF_MAX;
+ *  - a game and all its forks are used by one thread at a time, and by the one that opened it;
+ *  - malloc, realloc and free come from one allocator, and align to 16 bytes; no call comes from a signal handler.
+ *
+ * Each call but btworld_close answers a status. Where it is not BTWORLD_OK nothing is written and each handle is as it was, but
+ * for what is said at btworld_step and btworld_text. Each may answer BTWORLD_NO_MEMORY, but for btworld_agent, btworld_frame,
+ * btworld_digest and btworld_same, which take no memory.
  */
 #ifndef BTWORLD_H
 #define BTWORLD_H
@@ -25,35 +28,67 @@ extern "C" {
 typedef struct btworld_game { void *at; bool is_open; } btworld_game;
 #define BTWORLD_CLOSED_GAME {0}
 
+/* status: 0 success, 1 failure, 2 running; x counts columns from the left, y rows from the top */
 typedef struct btworld_agent_state { uint32_t x, y; bool carrying; uint8_t status; } btworld_agent_state;
 
 enum btworld_status {
-    BTWORLD_OK = 0, BTWORLD_NO_MEMORY = 1, BTWORLD_CLOSED = 2, BTWORLD_OPEN = 3, BTWORLD_NO_FRAME = 4,
-    BTWORLD_SHORT = 5, BTWORLD_NO_AGENT = 6, BTWORLD_LAST_FRAME = 7,
-    BTWORLD_LEVEL_JSON = 16, BTWORLD_LEVEL_SHAPE, BTWORLD_LEVEL_MAP_SIZE, BTWORLD_LEVEL_MAP_CHAR, BTWORLD_LEVEL_LETTERS,
-    BTWORLD_LEVEL_AGENT_COUNT, BTWORLD_LEVEL_BAD_TREE, BTWORLD_LEVEL_NO_TREE, BTWORLD_LEVEL_NO_PLACE, BTWORLD_LEVEL_NO_AGENT,
+    BTWORLD_OK = 0,
+    BTWORLD_NO_MEMORY = 1,
+    BTWORLD_CLOSED = 2,     /* the handle holds no game */
+    BTWORLD_OPEN = 3,       /* the handle holds a game already */
+    BTWORLD_NO_FRAME = 4,   /* no frame was stepped yet */
+    BTWORLD_SHORT = 5,      /* the buffer is too short */
+    BTWORLD_NO_AGENT = 6,   /* there is no such agent */
+    BTWORLD_LAST_FRAME = 7, /* 2^32 - 1 frames were stepped */
+    /* the first fault of a level, in this order */
+    BTWORLD_LEVEL_JSON = 16,
+    BTWORLD_LEVEL_SHAPE = 17,
+    BTWORLD_LEVEL_MAP_SIZE = 18,
+    BTWORLD_LEVEL_MAP_CHAR = 19,
+    BTWORLD_LEVEL_LETTERS = 20,
+    BTWORLD_LEVEL_AGENT_COUNT = 21,
+    BTWORLD_LEVEL_BAD_TREE = 22,
+    BTWORLD_LEVEL_NO_TREE = 23,
+    BTWORLD_LEVEL_NO_PLACE = 24,
+    BTWORLD_LEVEL_NO_AGENT = 25,
 };
 
-/* 0 only where the bytes spell a level; else NO_MEMORY or the number of its fault. */
+/* Whether the bytes spell a level: 0, or the number of their first fault. */
 uint32_t btworld_check(const uint8_t *level, size_t length);
 
-/* 0: the handle holds the level's game before its first frame, all signals off. Else (also OPEN) it is as it was. */
+/* The handle, closed before, holds the level's game before its first frame, with all signals off. OPEN, or a level's fault. */
 uint32_t btworld_open(btworld_game *game, const uint8_t *level, size_t length);
 
-/* 0: one frame on; in this frame exactly the signals were on whose bits are, bit 0 for a to bit 25 for z. Else no frame on;
- * where memory was refused call again with the signals of the frame. */
+/* The next frame, in which exactly the signals are on whose bits are: bit 0 is a, bit 25 is z, and higher bits count nothing.
+ * CLOSED, LAST_FRAME. Where memory is refused no frame is stepped; the next step turns the signals as it wants. */
 uint32_t btworld_step(btworld_game *game, uint32_t signals);
 
-/* 0: the first *length bytes of text are the text of the frame. SHORT: *length are needed. NO_FRAME before the first step. */
+/* The text of the frame at the start of a buffer, and how many bytes it has, with no zero behind them. SHORT where the buffer is
+ * shorter: *length is written then too. CLOSED, NO_FRAME. Any frame of a level has at most (width + 1) * height + 381 bytes. */
 uint32_t btworld_text(btworld_game *game, uint8_t *text, size_t capacity, size_t *length);
 
-/* 0: an agent after the frame, 0 for A; its status is 0 success, 1 failure, 2 running (tested; that the game is kept is proved). */
+/* An agent after the frame, 0 for A. CLOSED, NO_FRAME, NO_AGENT. */
 uint32_t btworld_agent(btworld_game *game, uint32_t agent, btworld_agent_state *out);
 
-/* 0: copy, which was closed, holds the same game at the same frame. Else it is as it was. */
+/* How many frames were stepped. CLOSED. */
+uint32_t btworld_frame(btworld_game *game, uint32_t *frame);
+
+/* The same game at the same frame in a handle that was closed; both go on by themselves. CLOSED, OPEN. To save is to keep a
+ * fork; to load is to close the game and fork the kept one. */
 uint32_t btworld_fork(btworld_game *game, btworld_game *copy);
 
-/* The handle is closed and its memory given back; a closed one stays so. */
+/* Whether two games are in the same state: the same frame, world, trees and memories, and the same signals in the next frame.
+ * Games in the same state that are stepped with the same signals stay so, and show the same text. CLOSED. */
+uint32_t btworld_same(btworld_game *game, btworld_game *other, bool *same);
+
+/* FNV-1a of 64 bits over the bytes of the state, each number with its lowest byte first: the frame in 4 bytes; a byte for each
+ * of the 26 signals in the next frame, 1 where it is on; of each agent x and y in 4 bytes each, and a byte that is 1 where it
+ * carries an item; of each agent's memory the number of each node of its tree in 2 bytes, in preorder; the number of each cell
+ * with an item in 4 bytes, cells being counted row after row. Trees and walls are not in it. Games in the same state have the
+ * same digest, in each version of this library; the other way round is not promised. CLOSED. */
+uint32_t btworld_digest(btworld_game *game, uint64_t *digest);
+
+/* The handle is closed, and its memory given back; a closed one stays so. */
 void btworld_close(btworld_game *game);
 
 #ifdef __cplusplus

@@ -3,7 +3,7 @@ use Rattle.std.proofs.Common.{◌≡◌, ℕ, zero, suc, List, [], ◌∷◌, le
 use Rattle.std.specs.Prelude.{not, is_none}
 use Rattle.std.proofs.lemmas.List.{length-set}
 use Rattle.grid_world.specs.Grid.{Grid, Point, agent_of, agent_on, point_of, has_item, is_on_map, place_of}
-use Rattle.grid_world.specs.Ground.{bare}
+use Rattle.grid_world.specs.Ground.{bare, emptied}
 use Rattle.grid_world.specs.Way.{way, way_to}
 use Rattle.grid_world.specs.declared.cell.Answer.TheVariants.{NoWay}
 use Rattle.grid_world.specs.declared.cell.Intent.{Intent}
@@ -65,3 +65,21 @@ play_ground g zero = same g.world
 play_ground g (suc f) =
     onward g.world (play g f).world (play g (suc f)).world (play_ground g f)
     (apply_all_ground (play g f).world (signals g.changes (suc f)) 0 (map (λ t. t.intent) (thoughts g (suc f) (play g f))))
+
+-- ---- ways
+
+module _ (k w : Grid) (same : emptied k ≡ emptied w) where
+  -- a way is told by the ground alone
+  pub way_stays : (on : List Bool) (p : Point) (place : ℕ) → way k on p place ≡ way w on p place
+  way_stays on p place = ap (λ (g : Grid). way g on p place) same
+
+  pub map_stays : (p : Point) → is_on_map w p ≡ true → is_on_map k p ≡ true
+  map_stays p there = ap (λ (g : Grid). is_on_map g p) same ∙ there
+
+-- to a place that is not there no way leads
+pub no_way : (g : Grid) (on : List Bool) (p : Point) (place : ℕ) → place_of g place ≡ None → NoWay ≡ way g on p place
+no_way g on p place none = sym (ap (way_to g on p) none)
+
+pub ground_is : (g h : Grid) → SameGround g h → emptied g ≡ emptied h
+ground_is g h s =
+    sym (ap (λ n. bare n h.height h.cells) s.width ∙ ap (λ n. bare g.width n h.cells) s.height ∙ ap (λ cells. bare g.width g.height cells) s.cells)
