@@ -1,5 +1,5 @@
 -- What no intent changes of a world: its size, its cells, and how many agents there are.
-use Rattle.std.proofs.Common.{◌≡◌, ℕ, zero, suc, List, [], ◌∷◌, length, map, Bool, true, false, Option, Some, None, refl, sym, ap, subst, nat_lt, ◌∙◌, ◌&&◌, if◌then◌else◌}
+use Rattle.std.proofs.Common.{◌≡◌, ℕ, zero, suc, List, [], ◌∷◌, length, map, Bool, true, false, Option, Some, None, refl, sym, ap, ◌∙◌, ◌&&◌, if◌then◌else◌}
 use Rattle.std.specs.Prelude.{not, is_none}
 use Rattle.std.proofs.lemmas.List.{length-set}
 use Rattle.grid_world.specs.Grid.{Grid, Point, agent_of, agent_on, point_of, has_item, is_on_map, place_of}

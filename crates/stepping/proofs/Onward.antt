@@ -1,5 +1,5 @@
 -- What a game's changes leave as it was, and what a step comes to.
-use Rattle.std.proofs.Common.{◌≡◌, ◌<◌, ◌≤◌, ℕ, zero, suc, ◌+◌, List, [], ◌∷◌, ◌++◌, length, map, get_or, Bool, true, false, if◌then◌else◌, refl, sym, ap, ◌∙◌, subst, arith, append_assoc, append-nil}
+use Rattle.std.proofs.Common.{◌≡◌, ◌<◌, ◌≤◌, ℕ, zero, suc, ◌+◌, List, [], ◌∷◌, ◌++◌, map, Bool, false, if◌then◌else◌, refl, sym, ap, ◌∙◌, subst, arith, append_assoc, append-nil}
 use Rattle.std.specs.Prelude.{nat_le, slice_set, All, replicate}
 use Rattle.std.proofs.lemmas.List.Elements.{All-append}
 use Rattle.grid_world.specs.Grid.{Grid}
@@ -8,7 +8,6 @@ use Rattle.bt_nodes.specs.Plain.{Plain}
 use Rattle.bt_nodes.specs.Bounds.{zero_memory}
 use Rattle.game_rules.specs.declared.change.Change.{Change}
 use Rattle.game_rules.specs.Game.{Game, signals, changed_by}
-use Rattle.game_rules.specs.Thought.{Thought}
 use Rattle.game_rules.specs.Play.{Position, play, thoughts_from}
 use Rattle.game_rules.specs.Text.{text, texts, frame_text}
 use Rattle.stepping.specs.Played.{Played, played_of, changed_game, next_signals, bits, IsOnBy, IsStepped, State, state_of}

@@ -1,5 +1,5 @@
 -- The digest of a state: FNV-1a of 64 bits over its bytes.
-use Rattle.std.specs.Prelude.{ℕ, zero, suc, ◌*◌, ◌%◌, ◌/◌, ◌^◌, ◌++◌, bit_xor, Bool, true, false, if◌then◌else◌, List, [], ◌∷◌, map}
+use Rattle.std.specs.Prelude.{ℕ, zero, suc, ◌*◌, ◌%◌, ◌/◌, ◌^◌, ◌++◌, bit_xor, Bool, if◌then◌else◌, List, [], ◌∷◌, map}
 use Rattle.std.specs.List.{flat_map}
 use Rattle.grid_world.specs.declared.cell.Agent.{Agent}
 use Rattle.stepping.specs.Played.{State}
