@@ -1,0 +1,29 @@
+-- What the calls do to the game of a handle.
+use Rattle.std.specs.Prelude.{ℕ, ◌≡◌, List, [], Option, Some, None, Ok}
+use Rattle.game_session.specs.Parts.{Parts}
+use Rattle.game_session.specs.Sessions.{game_of}
+use Rattle.level_text.specs.Levels.{spelled}
+use Rattle.stepping.specs.Played.{Played, played_of, IsOnBy, IsStepped}
+use Rattle.btworld_c.specs.Statuses.{taken, IsLevelStatus}
+
+-- it is the game of the level that bytes spell, before the first frame
+pub record IsOpened (bytes : List ℕ) (held : Option Played) : Type 0 where
+  pub level : Parts
+  pub spells : spelled bytes ≡ Ok level
+  pub is : held ≡ Some (played_of (game_of level []) 0)
+
+-- what opening answers: that a game is there already, or how the bytes are as a level
+abbrev pub IsOpenStatus : List ℕ → Option Played → ℕ → Type 0
+IsOpenStatus bytes None status = IsLevelStatus bytes status
+IsOpenStatus bytes (Some game) status = status ≡ taken
+
+-- a game was held, and is a frame on, in which these signals were on
+abbrev pub IsSteppedIn : ℕ → Option Played → Option Played → Type 0
+IsSteppedIn mask (Some before) (Some after) = IsStepped mask before after
+IsSteppedIn mask before after = ⊥
+
+-- no frame was stepped; signals may have been handed in
+abbrev pub IsNotStepped : Option Played → Option Played → Type 0
+IsNotStepped None None = Unit {0}
+IsNotStepped (Some before) (Some after) = IsOnBy 0 before after
+IsNotStepped before after = ⊥

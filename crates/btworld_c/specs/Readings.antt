@@ -1,0 +1,57 @@
+-- What is read of the game of a handle.
+use Rattle.std.specs.Prelude.{ℕ, zero, suc, ◌≡◌, ◌<◌, ◌≤◌, ◌≢◌, ◌++◌, Bool, true, false, List, length, drop, Option, Some, None, slice_index_or}
+use Rattle.grid_world.specs.Grid.{agent_of}
+use Rattle.grid_world.specs.declared.cell.Agent.{Agent as Body}
+use Rattle.bt_nodes.specs.declared.node.Status.{Status}
+use Rattle.bt_nodes.specs.declared.node.Status.TheVariants.{Success, Failure, Running}
+use Rattle.game_rules.specs.Play.{play}
+use Rattle.game_rules.specs.Text.{frame_text}
+use Rattle.stepping.specs.Played.{Played, State, state_of, statuses_at}
+use Rattle.stepping.specs.Digest.{digest_of}
+use Rattle.btworld_c.specs.declared.game.Agent.{Agent}
+
+abbrev pub text_of : Played → List ℕ
+text_of p = frame_text p.game p.frame
+
+-- the text of the held game's frame stands at the start of a buffer, which is kept behind it
+abbrev pub IsText : Option Played → ℕ → (old new : List ℕ) → Type 0
+IsText None size old new = ⊥
+IsText (Some p) size old new = (size ≡ length (text_of p)) × (new ≡ text_of p ++ drop size old)
+
+-- the text of the held game's frame is so long, and longer than a buffer
+abbrev pub IsTooLong : Option Played → ℕ → List ℕ → Type 0
+IsTooLong None size buffer = ⊥
+IsTooLong (Some p) size buffer = (size ≡ length (text_of p)) × (length buffer < size)
+
+abbrev pub status_number : Status → ℕ
+status_number Success = 0
+status_number Failure = 1
+status_number Running = 2
+
+abbrev pub agent_told : Body → Status → Agent
+agent_told body status = record { x = body.x; y = body.y; carrying = body.carrying; status = status_number status }
+
+-- an agent of the held game after its frame
+abbrev pub IsAgent : Option Played → ℕ → Agent → Type 0
+IsAgent None number told = ⊥
+IsAgent (Some p) number told =
+    (number < length p.game.trees)
+    × (told ≡ agent_told (agent_of (play p.game p.frame).world number) (slice_index_or (statuses_at p.game p.frame) number Success))
+
+-- there is no agent of this number
+abbrev pub IsBeyondAgents : Option Played → ℕ → Type 0
+IsBeyondAgents None number = ⊥
+IsBeyondAgents (Some p) number = length p.game.trees ≤ number
+
+abbrev pub IsFrame : Option Played → ℕ → Type 0
+IsFrame None frame = ⊥
+IsFrame (Some p) frame = frame ≡ p.frame
+
+abbrev pub IsDigest : Option Played → ℕ → Type 0
+IsDigest None digest = ⊥
+IsDigest (Some p) digest = digest ≡ digest_of (state_of p)
+
+-- whether two held games are in the same state
+abbrev pub TellsSame : Option Played → Option Played → Bool → Type 0
+TellsSame (Some p) (Some q) same = (same ≡ true → state_of p ≡ state_of q) × (same ≡ false → state_of p ≢ state_of q)
+TellsSame p q same = ⊥

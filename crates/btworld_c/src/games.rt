@@ -1,0 +1,121 @@
+// A game is opened, stepped, forked and closed.
+ghost use Rattle.std.specs.Prelude.{◌≡◌, ◌≢◌, ◌⊎◌, Some, None, IfOk, []};
+ghost use Rattle.game_session.specs.Levels.{value_of};
+ghost use Rattle.game_session.specs.Sessions.{game_of};
+ghost use Rattle.stepping.specs.Played.{played_of, IsOnBy, IsStepped};
+ghost use Rattle.btworld_c.specs.Statuses.{done, closed, no_memory};
+ghost use Rattle.btworld_c.specs.Games.{IsOpened, IsOpenStatus, IsSteppedIn, IsNotStepped};
+
+use crate::game::{Game, put, take};
+use crate::status::{CLOSED, LAST_FRAME, NO_MEMORY, OK, OPEN, level_status};
+use game_session::Level;
+use level_text::read_level;
+use std::alloc::{AllocError, Global};
+use stepping::{Stepping, step_by};
+
+fn opened(alloc: Global, level: Level) -> Result<Box<Stepping>, AllocError>
+    ensures { IfOk result (λ b. b.value ≡ played_of (game_of (value_of level) []) 0) }
+{
+    let game = Stepping::open(alloc, level)?;
+    Ok(Box::new(alloc, game)?)
+}
+
+#[tactic(auto, using(crate::proofs::Told::level_told, crate::proofs::Told::open_told, crate::proofs::Told::taken_told))]
+/// Opens the game of the level that bytes spell in a closed handle, before its first frame, with all signals off. A handle
+/// that holds a game answers 3. Where the status is not 0 the handle is as it was.
+#[unsafe(no_mangle)]
+pub extern "C" fn btworld_open(alloc: Global, game: &mut Game, level: &[u8]) -> u32
+    ensures ok { result ≡ done → IsOpened level.now game.new.handle.value }
+    ensures status { IsOpenStatus level.now game.old.handle.value result }
+    ensures refused { result ≢ done → game.new.handle.value ≡ game.old.handle.value }
+{
+    if game.is_open {
+        return OPEN;
+    }
+    match read_level(alloc, level) {
+        Ok(read) => match opened(alloc, read) {
+            Ok(held) => {
+                put(game, held);
+                OK
+            }
+            Err(_) => NO_MEMORY,
+        },
+        Err(fault) => level_status(&fault),
+    }
+}
+
+fn step_held(alloc: Global, held: &mut Stepping, mask: u32) -> u32
+    ensures ok { result ≡ done → IsStepped mask held.old held.new }
+    ensures refused { result ≢ done → IsOnBy 0 held.old held.new }
+    ensures held { result ≢ closed }
+{
+    if held.frame() == u32::MAX {
+        return LAST_FRAME;
+    }
+    match step_by(held, alloc, mask) {
+        Ok(()) => OK,
+        Err(_) => NO_MEMORY,
+    }
+}
+
+/// The next frame, in which the signals are on whose bits are: bit 0 is `a`, and bits above 25 count nothing. A closed
+/// handle answers 2; 7 comes after 2^32 - 1 frames. Where the status is not 0 no frame is stepped: after want of memory some
+/// signals may be turned for the next frame, which the next step turns as it wants.
+#[unsafe(no_mangle)]
+pub extern "C" fn btworld_step(alloc: Global, game: &mut Game, mask: u32) -> u32
+    ensures ok { result ≡ done → IsSteppedIn mask game.old.handle.value game.new.handle.value }
+    ensures refused { result ≢ done → IsNotStepped game.old.handle.value game.new.handle.value }
+    ensures closed { game.old.handle.value ≡ None → result ≡ closed }
+    ensures held { result ≡ closed → game.old.handle.value ≡ None }
+{
+    let Some(held) = take(alloc, game) else {
+        return CLOSED;
+    };
+    let mut held = held;
+    let status = step_held(alloc, &mut held, mask);
+    put(game, held);
+    status
+}
+
+fn forked(alloc: Global, held: &Stepping) -> Result<Box<Stepping>, AllocError>
+    ensures { IfOk result (λ b. b.value ≡ held.now) }
+{
+    let copy = held.fork(alloc)?;
+    Ok(Box::new(alloc, copy)?)
+}
+
+/// The same game at the same frame in another handle, which is closed before; both go on by themselves. 3 comes where the
+/// other handle holds a game, 2 where this one holds none. Where the status is not 0 both are as they were. It copies agents,
+/// memories and the changes of signals; the level, its ground and the known distances are shared.
+#[unsafe(no_mangle)]
+pub extern "C" fn btworld_fork(alloc: Global, game: &mut Game, copy: &mut Game) -> u32
+    ensures ok { result ≡ done → (copy.old.handle.value ≡ None) × (copy.new.handle.value ≡ game.old.handle.value) }
+    ensures refused { result ≢ done → copy.new.handle.value ≡ copy.old.handle.value }
+    ensures kept { game.new.handle.value ≡ game.old.handle.value }
+    ensures closed { copy.old.handle.value ≡ None → game.old.handle.value ≡ None → result ≡ closed }
+    ensures held { result ≡ closed → game.old.handle.value ≡ None }
+{
+    if copy.is_open {
+        return OPEN;
+    }
+    let Some(held) = take(alloc, game) else {
+        return CLOSED;
+    };
+    let made = forked(alloc, &held);
+    put(game, held);
+    match made {
+        Ok(other) => {
+            put(copy, other);
+            OK
+        }
+        Err(_) => NO_MEMORY,
+    }
+}
+
+/// Closes a game and gives its memory back. A closed one stays so.
+#[unsafe(no_mangle)]
+pub extern "C" fn btworld_close(alloc: Global, game: &mut Game)
+    ensures { game.new.handle.value ≡ None }
+{
+    let _held = take(alloc, game);
+}

@@ -1,0 +1,191 @@
+// What a caller reads of a game. No reading changes it.
+ghost use Rattle.std.specs.Prelude.{◌≡◌, ◌≢◌, ◌⊎◌, ◌≤◌, ◌<◌, ◌++◌, Some, None, IsTrue, length, drop};
+ghost use Rattle.stepping.specs.Played.{state_of};
+ghost use Rattle.btworld_c.specs.Statuses.{done, closed, no_memory, no_frame, short, beyond_agents};
+ghost use Rattle.btworld_c.specs.Readings.{IsText, IsTooLong, IsAgent, IsBeyondAgents, IsFrame, IsDigest, TellsSame, agent_told, status_number, text_of};
+
+use crate::game::{Agent, Game, put, take};
+use crate::status::{CLOSED, NO_AGENT, NO_FRAME, NO_MEMORY, OK, SHORT};
+use bt_nodes::Status;
+use std::alloc::Global;
+use stepping::{AgentState, Stepping};
+
+// The text of a frame, copied to the start of a buffer that has room for it.
+fn copy_text(written: &[u8], text: &mut [u8])
+    requires { length written.now ≤ length text.old }
+    ensures { text.new ≡ written.now ++ drop (length written.now) text.old }
+{
+    text[..written.len()].copy_from_slice(written);
+}
+
+fn write_text(alloc: Global, held: &Stepping, text: &mut [u8], size: &mut usize) -> u32
+    ensures ok { result ≡ done → IsText (Some held.now) size.new text.old text.new }
+    ensures short { result ≡ short → IsTooLong (Some held.now) size.new text.old }
+    ensures untouched { result ≢ done → text.new ≡ text.old }
+    ensures held { result ≢ closed }
+{
+    if held.frame() == 0 {
+        return NO_FRAME;
+    }
+    let Ok(written) = held.text(alloc) else {
+        return NO_MEMORY;
+    };
+    *size = written.len();
+    if text.len() < written.len() {
+        return SHORT;
+    }
+    copy_text(&written, text);
+    OK
+}
+
+/// The text of the frame, at the start of a buffer, and its length in bytes, which is told also where the buffer is too
+/// short for it: then the status is 5. It is 2 for a closed handle, and 4 before the first frame. Where it is not 0 the
+/// buffer is as it was.
+#[unsafe(no_mangle)]
+pub extern "C" fn btworld_text(
+    alloc: Global,
+    game: &mut Game,
+    text: &mut [u8],
+    size: &mut usize,
+) -> u32
+    ensures ok { result ≡ done → IsText game.old.handle.value size.new text.old text.new }
+    ensures short { result ≡ short → IsTooLong game.old.handle.value size.new text.old }
+    ensures untouched { result ≢ done → text.new ≡ text.old }
+    ensures closed { game.old.handle.value ≡ None → result ≡ closed }
+    ensures held { result ≡ closed → game.old.handle.value ≡ None }
+    ensures kept { game.new.handle.value ≡ game.old.handle.value }
+{
+    let Some(held) = take(alloc, game) else {
+        return CLOSED;
+    };
+    let status = write_text(alloc, &held, text, size);
+    put(game, held);
+    status
+}
+
+fn status_number(status: Status) -> u8
+    ensures { result ≡ status_number status }
+{
+    match status {
+        Status::Success => 0,
+        Status::Failure => 1,
+        Status::Running => 2,
+    }
+}
+
+fn told(state: AgentState) -> Agent
+    ensures { result ≡ agent_told state.agent state.status }
+{
+    Agent {
+        x: state.agent.x,
+        y: state.agent.y,
+        carrying: state.agent.carrying,
+        status: status_number(state.status),
+    }
+}
+
+fn write_agent(held: &Stepping, number: u32, out: &mut Agent) -> u32
+    ensures ok { result ≡ done → IsAgent (Some held.now) number out.new }
+    ensures beyond { result ≡ beyond_agents → IsBeyondAgents (Some held.now) number }
+    ensures untouched { result ≢ done → out.new ≡ out.old }
+    ensures held { result ≢ closed }
+{
+    if held.frame() == 0 {
+        return NO_FRAME;
+    }
+    match held.agent(number) {
+        Some(state) => {
+            *out = told(state);
+            OK
+        }
+        None => NO_AGENT,
+    }
+}
+
+/// An agent after the frame, 0 for `A`. The status is 2 for a closed handle, 4 before the first frame, 6 where there is no
+/// such agent. Where it is not 0 nothing is written. It takes constant time.
+#[unsafe(no_mangle)]
+pub extern "C" fn btworld_agent(alloc: Global, game: &mut Game, number: u32, out: &mut Agent) -> u32
+    ensures ok { result ≡ done → IsAgent game.old.handle.value number out.new }
+    ensures beyond { result ≡ beyond_agents → IsBeyondAgents game.old.handle.value number }
+    ensures untouched { result ≢ done → out.new ≡ out.old }
+    ensures closed { game.old.handle.value ≡ None → result ≡ closed }
+    ensures held { result ≡ closed → game.old.handle.value ≡ None }
+    ensures kept { game.new.handle.value ≡ game.old.handle.value }
+{
+    let Some(held) = take(alloc, game) else {
+        return CLOSED;
+    };
+    let status = write_agent(&held, number, out);
+    put(game, held);
+    status
+}
+
+/// How many frames were stepped. The status is 0, or 2 for a closed handle, and then nothing is written.
+#[unsafe(no_mangle)]
+pub extern "C" fn btworld_frame(alloc: Global, game: &mut Game, frame: &mut u32) -> u32
+    ensures ok { result ≡ done → IsFrame game.old.handle.value frame.new }
+    ensures untouched { result ≢ done → frame.new ≡ frame.old }
+    ensures closed { game.old.handle.value ≡ None → result ≡ closed }
+    ensures held { result ≡ closed → game.old.handle.value ≡ None }
+    ensures answered { (result ≡ done) ⊎ (result ≡ closed) }
+    ensures kept { game.new.handle.value ≡ game.old.handle.value }
+{
+    let Some(held) = take(alloc, game) else {
+        return CLOSED;
+    };
+    *frame = held.frame();
+    put(game, held);
+    OK
+}
+
+/// The digest of the game's state, by which machines in lockstep tell that they have come apart: games in the same state
+/// have the same digest. The status is 0, or 2 for a closed handle, and then nothing is written. It takes time linear in the
+/// number of cells and of nodes, and no memory.
+#[unsafe(no_mangle)]
+pub extern "C" fn btworld_digest(alloc: Global, game: &mut Game, digest: &mut u64) -> u32
+    ensures ok { result ≡ done → IsDigest game.old.handle.value digest.new }
+    ensures untouched { result ≢ done → digest.new ≡ digest.old }
+    ensures closed { game.old.handle.value ≡ None → result ≡ closed }
+    ensures held { result ≡ closed → game.old.handle.value ≡ None }
+    ensures answered { (result ≡ done) ⊎ (result ≡ closed) }
+    ensures kept { game.new.handle.value ≡ game.old.handle.value }
+{
+    let Some(held) = take(alloc, game) else {
+        return CLOSED;
+    };
+    *digest = held.digest();
+    put(game, held);
+    OK
+}
+
+/// Whether two games are in the same state, whatever led them there: the same frame, world, trees and memories, and the same
+/// signals in the next frame. Games in the same state go on alike. The status is 0, or 2 where a handle is closed, and then
+/// nothing is written. It reads both until they differ, and takes no memory.
+#[unsafe(no_mangle)]
+pub extern "C" fn btworld_same(
+    alloc: Global,
+    game: &mut Game,
+    other: &mut Game,
+    same: &mut bool,
+) -> u32
+    ensures ok { result ≡ done → TellsSame game.old.handle.value other.old.handle.value same.new }
+    ensures untouched { result ≢ done → same.new ≡ same.old }
+    ensures closed { (game.old.handle.value ≡ None) ⊎ (other.old.handle.value ≡ None) → result ≡ closed }
+    ensures held { result ≡ closed → (game.old.handle.value ≡ None) ⊎ (other.old.handle.value ≡ None) }
+    ensures answered { (result ≡ done) ⊎ (result ≡ closed) }
+    ensures kept { game.new.handle.value ≡ game.old.handle.value }
+    ensures other_kept { other.new.handle.value ≡ other.old.handle.value }
+{
+    let Some(held) = take(alloc, game) else {
+        return CLOSED;
+    };
+    let Some(twin) = take(alloc, other) else {
+        put(game, held);
+        return CLOSED;
+    };
+    *same = held.is_same(&twin);
+    put(game, held);
+    put(other, twin);
+    OK
+}

@@ -1,0 +1,221 @@
+-- What a game's changes leave as it was, and what a step comes to.
+use Rattle.std.proofs.Common.{◌≡◌, ◌<◌, ◌≤◌, ℕ, zero, suc, ◌+◌, List, [], ◌∷◌, ◌++◌, map, Bool, false, if◌then◌else◌, refl, sym, ap, ◌∙◌, subst, arith, append_assoc, append-nil}
+use Rattle.std.specs.Prelude.{nat_le, slice_set, All, replicate}
+use Rattle.std.proofs.lemmas.List.Elements.{All-append}
+use Rattle.grid_world.specs.Grid.{Grid}
+use Rattle.grid_world.specs.Intents.{apply_all}
+use Rattle.bt_nodes.specs.Plain.{Plain}
+use Rattle.bt_nodes.specs.Bounds.{zero_memory}
+use Rattle.game_rules.specs.declared.change.Change.{Change}
+use Rattle.game_rules.specs.Game.{Game, signals, changed_by}
+use Rattle.game_rules.specs.Play.{Position, play, thoughts_from}
+use Rattle.game_rules.specs.Text.{text, texts, frame_text}
+use Rattle.stepping.specs.Played.{Played, played_of, changed_game, next_signals, bits, IsOnBy, IsStepped, State, state_of}
+
+-- ---- changes that come later
+
+none_due : (ds : List Change) (k : ℕ) (on : List Bool) → All (λ c. k < c.frame) ds → changed_by ds k on ≡ on
+none_due [] k on all = refl
+none_due (d ∷ ds) k on all =
+    let h : k < d.frame = all 0 d (omega arith) in
+    let e : nat_le d.frame k ≡ false = grind (arith, h) in
+    ap (λ b. changed_by ds k (if b then slice_set on d.signal d.on else on)) e ∙ none_due ds k on (λ i x l. all (suc i) x (omega (arith, l)))
+
+pub none_more : (cs ds : List Change) (k : ℕ) (on : List Bool) → All (λ c. k < c.frame) ds → changed_by (cs ++ ds) k on ≡ changed_by cs k on
+none_more [] ds k on all = none_due ds k on all
+none_more (c ∷ cs) ds k on all = none_more cs ds k (if nat_le c.frame k then slice_set on c.signal c.on else on) all
+
+-- ---- frames
+
+pub turn_by : List Plain → List Bool → Position → Position
+turn_by trees on before = let ts = thoughts_from before.world on 0 trees before.memories in
+    record { world = apply_all before.world on 0 (map (λ t. t.intent) ts); memories = map (λ t. t.memory) ts }
+
+pub play_suc : (g : Game) (f : ℕ) → play g (suc f) ≡ turn_by g.trees (signals g.changes (suc f)) (play g f)
+unfolding turn_by
+play_suc g f = refl
+
+text_by : ℕ → List Plain → List Bool → Position → List ℕ
+text_by f trees on before = text f (turn_by trees on before).world on (map (λ t. t.status) (thoughts_from before.world on 0 trees before.memories))
+
+text_suc : (g : Game) (f : ℕ) → frame_text g (suc f) ≡ text_by (suc f) g.trees (signals g.changes (suc f)) (play g f)
+unfolding text_by turn_by
+text_suc g f = refl
+
+begun : Grid → List Plain → Position
+begun w trees = record { world = w; memories = map zero_memory trees }
+
+play_zero : (g : Game) → play g zero ≡ begun g.world g.trees
+unfolding begun
+play_zero g = refl
+
+-- the same game up to a frame
+record IsSameBy (g h : Game) (f : ℕ) : Type 0 where
+  world : h.world ≡ g.world
+  trees : h.trees ≡ g.trees
+  signals_are : (k : ℕ) → k ≤ f → signals h.changes k ≡ signals g.changes k
+
+module _ (g h : Game) (f : ℕ) (same : IsSameBy g h f) where
+  play_by : (n : ℕ) → n ≤ f → play h n ≡ play g n
+  play_by zero l = play_zero h ∙ ap (λ w. begun w h.trees) same.world ∙ ap (λ ts. begun g.world ts) same.trees ∙ sym (play_zero g)
+  play_by (suc n) l =
+      play_suc h n
+      ∙ ap (λ ts. turn_by ts (signals h.changes (suc n)) (play h n)) same.trees
+      ∙ ap (λ on. turn_by g.trees on (play h n)) (same.signals_are (suc n) l)
+      ∙ ap (turn_by g.trees (signals g.changes (suc n))) (play_by n (omega (arith, l)))
+      ∙ sym (play_suc g n)
+
+  text_as : (n : ℕ) → n ≤ f → frame_text h n ≡ frame_text g n
+  text_as zero l = refl
+  text_as (suc n) l =
+      text_suc h n
+      ∙ ap (λ ts. text_by (suc n) ts (signals h.changes (suc n)) (play h n)) same.trees
+      ∙ ap (λ on. text_by (suc n) g.trees on (play h n)) (same.signals_are (suc n) l)
+      ∙ ap (text_by (suc n) g.trees (signals g.changes (suc n))) (play_by n (omega (arith, l)))
+      ∙ sym (text_suc g n)
+
+  texts_as : (n : ℕ) → n ≤ f → texts h n ≡ texts g n
+  texts_as zero l = refl
+  texts_as (suc n) l =
+      ap (λ t. t ++ frame_text h (suc n)) (texts_as n (omega (arith, l))) ∙ ap (λ t. texts g n ++ t) (text_as (suc n) l)
+
+-- ---- what is handed in
+
+pub stays_on : (p : Played) → IsOnBy 0 p p
+stays_on p = record {
+  world = refl;
+  trees = refl;
+  frame = omega arith;
+  added = [];
+  changes = sym (append-nil p.game.changes);
+  now = λ k d l. absurd (omega (arith, l));
+}
+
+pub handed_on : (p : Played) (c : Change) → c.frame ≡ p.frame + 1 → IsOnBy 0 p (played_of (changed_game p.game c) p.frame)
+handed_on p c e = record {
+  world = refl;
+  trees = refl;
+  frame = omega arith;
+  added = c ∷ [];
+  changes = refl;
+  now = one;
+}
+  where
+    one : All (λ (d : Change). d.frame ≡ p.frame + 1) (c ∷ [])
+    one zero d l = e
+    one (suc k) d l = absurd (omega (arith, l))
+
+pub on_again : (p q r : Played) (n : ℕ) → IsOnBy 0 p q → IsOnBy n q r → IsOnBy n p r
+on_again p q r n a b =
+    let e : q.frame ≡ p.frame = let h = a.frame in omega (arith, h) in
+    let later : All (λ (c : Change). c.frame ≡ p.frame + 1) b.added = subst (λ (k : ℕ). All (λ (c : Change). c.frame ≡ k + 1) b.added) e b.now in
+    record {
+      world = b.world ∙ a.world;
+      trees = b.trees ∙ a.trees;
+      frame = b.frame ∙ ap (λ k. k + n) e;
+      added = a.added ++ b.added;
+      changes = b.changes ∙ ap (λ l. l ++ b.added) a.changes ∙ append_assoc p.game.changes a.added b.added;
+      now = All-append (λ (c : Change). c.frame ≡ p.frame + 1) a.added b.added a.now later;
+    }
+
+pub one_on : (p : Played) → IsOnBy 1 p (played_of p.game (p.frame + 1))
+one_on p = record {
+  world = refl;
+  trees = refl;
+  frame = refl;
+  added = [];
+  changes = sym (append-nil p.game.changes);
+  now = λ k d l. absurd (omega (arith, l));
+}
+
+-- ---- states
+
+abbrev pub state_as : ℕ → List Plain → List Bool → Position → State
+state_as f trees on at = record { frame = f; world = at.world; trees = trees; memories = at.memories; signals = on }
+
+module _ (p q : Played) where
+  pub all_same : p.frame ≡ q.frame → next_signals p ≡ next_signals q → (play p.game p.frame).world ≡ (play q.game q.frame).world → p.game.trees ≡ q.game.trees
+      → (play p.game p.frame).memories ≡ (play q.game q.frame).memories → state_of p ≡ state_of q
+  all_same f on w ts ms =
+      ap (λ n. state_as n p.game.trees (next_signals p) (play p.game p.frame)) f
+      ∙ ap (λ l. state_as q.frame l (next_signals p) (play p.game p.frame)) ts
+      ∙ ap (λ l. state_as q.frame q.game.trees l (play p.game p.frame)) on
+      ∙ ap (λ g. state_as q.frame q.game.trees (next_signals q) (record { world = g; memories = (play p.game p.frame).memories })) w
+      ∙ ap (λ m. state_as q.frame q.game.trees (next_signals q) (record { world = (play q.game q.frame).world; memories = m })) ms
+
+  pub same_frame : state_of p ≡ state_of q → p.frame ≡ q.frame
+  same_frame e = ap (λ (s : State). s.frame) e
+
+  pub same_signals : state_of p ≡ state_of q → next_signals p ≡ next_signals q
+  same_signals e = ap (λ (s : State). s.signals) e
+
+  pub same_world : state_of p ≡ state_of q → (play p.game p.frame).world ≡ (play q.game q.frame).world
+  same_world e = ap (λ (s : State). s.world) e
+
+  pub same_trees : state_of p ≡ state_of q → p.game.trees ≡ q.game.trees
+  same_trees e = ap (λ (s : State). s.trees) e
+
+  pub same_memories : state_of p ≡ state_of q → (play p.game p.frame).memories ≡ (play q.game q.frame).memories
+  same_memories e = ap (λ (s : State). s.memories) e
+
+-- ---- steps
+
+abbrev position_of : State → Position
+position_of s = record { world = s.world; memories = s.memories }
+
+next_state : ℕ → State → State
+next_state mask s = state_as (suc s.frame) s.trees (bits 26 mask) (turn_by s.trees (bits 26 mask) (position_of s))
+
+next_text : ℕ → State → List ℕ
+next_text mask s = text_by (suc s.frame) s.trees (bits 26 mask) (position_of s)
+
+module _ (mask : ℕ) (p q : Played) (step : IsStepped mask p q) where
+  number : q.frame ≡ suc p.frame
+  number = let e = step.on.frame in omega (arith, e)
+
+  before : IsSameBy p.game q.game p.frame
+  before = record {
+    world = step.on.world;
+    trees = step.on.trees;
+    signals_are = λ k l. ap (λ cs. signals cs k) step.on.changes
+        ∙ none_more p.game.changes step.on.added k (replicate 26 false) (λ i d h. let e = step.on.now i d h in omega (arith, e, l));
+  }
+
+  signals_then : signals q.game.changes (suc p.frame) ≡ bits 26 mask
+  signals_then = ap (signals q.game.changes) (sym number) ∙ step.signals_are
+
+  played_on : play q.game q.frame ≡ turn_by p.game.trees (bits 26 mask) (play p.game p.frame)
+  played_on =
+      ap (play q.game) number ∙ play_suc q.game p.frame
+      ∙ ap (λ ts. turn_by ts (signals q.game.changes (suc p.frame)) (play q.game p.frame)) step.on.trees
+      ∙ ap (λ on. turn_by p.game.trees on (play q.game p.frame)) signals_then
+      ∙ ap (turn_by p.game.trees (bits 26 mask)) (play_by p.game q.game p.frame before p.frame (omega arith))
+
+  stepped_state : state_of q ≡ next_state mask (state_of p)
+  unfolding next_state
+  stepped_state =
+      ap (λ f. state_as f q.game.trees (next_signals q) (play q.game q.frame)) number
+      ∙ ap (λ ts. state_as (suc p.frame) ts (next_signals q) (play q.game q.frame)) step.on.trees
+      ∙ ap (λ on. state_as (suc p.frame) p.game.trees on (play q.game q.frame)) step.stay
+      ∙ ap (state_as (suc p.frame) p.game.trees (bits 26 mask)) played_on
+
+  stepped_text : frame_text q.game q.frame ≡ next_text mask (state_of p)
+  unfolding next_text
+  stepped_text =
+      ap (frame_text q.game) number ∙ text_suc q.game p.frame
+      ∙ ap (λ ts. text_by (suc p.frame) ts (signals q.game.changes (suc p.frame)) (play q.game p.frame)) step.on.trees
+      ∙ ap (λ on. text_by (suc p.frame) p.game.trees on (play q.game p.frame)) signals_then
+      ∙ ap (text_by (suc p.frame) p.game.trees (bits 26 mask)) (play_by p.game q.game p.frame before p.frame (omega arith))
+
+  pub texts_more : texts q.game q.frame ≡ texts p.game p.frame ++ frame_text q.game q.frame
+  texts_more =
+      ap (texts q.game) number
+      ∙ ap (λ t. t ++ frame_text q.game (suc p.frame)) (texts_as p.game q.game p.frame before p.frame (omega arith))
+      ∙ ap (λ k. texts p.game p.frame ++ frame_text q.game k) (sym number)
+
+pub alike : (mask : ℕ) (p q next_p next_q : Played) → state_of p ≡ state_of q → IsStepped mask p next_p → IsStepped mask q next_q
+    → (state_of next_p ≡ state_of next_q) × (frame_text next_p.game next_p.frame ≡ frame_text next_q.game next_q.frame)
+alike mask p q next_p next_q same a b = (
+  stepped_state mask p next_p a ∙ ap (next_state mask) same ∙ sym (stepped_state mask q next_q b),
+  stepped_text mask p next_p a ∙ ap (next_text mask) same ∙ sym (stepped_text mask q next_q b),
+)
