@@ -1,12 +1,12 @@
 -- No byte of a film is a `<`.
-use Rattle.std.proofs.Common.{◌≡◌, ◌≢◌, ◌<◌, ◌≤◌, ◌^◌, ◌+◌, ◌/◌, ◌%◌, ◌∙◌, ◌==◌, ℕ, suc, Bool, true, false, if◌then◌else◌, List, [], ◌∷◌, ◌++◌, length, refl, sym, ap, subst, arith, codes, decimal}
+use Rattle.std.proofs.Common.{◌≢◌, ◌<◌, ◌≤◌, ◌^◌, ◌+◌, ◌/◌, ◌%◌, ◌∙◌, ◌==◌, ℕ, suc, Bool, true, false, if◌then◌else◌, List, [], ◌∷◌, ◌++◌, length, sym, ap, subst, arith, codes, decimal}
 use Rattle.std.specs.List.{All}
 use Rattle.std.proofs.lemmas.Fmt.{decimal_by_steps}
 use Rattle.std.proofs.lemmas.List.Concat.{flat_map-cons}
 use Rattle.std.proofs.lemmas.List.Elements.{All-nil, All-cons, All-append}
 use Rattle.frame_changes.specs.declared.change.Change.{Change}
 use Rattle.frame_changes.specs.Changes.{change_text, changes_from, changes_text}
-use Rattle.frame_changes.specs.Films.{Frame, HasNoMark, IsFrameOf, IsWithoutMark, feeds_of, film_after, film_of, kept_rows}
+use Rattle.frame_changes.specs.Films.{Frame, HasNoMark, IsFrameOf, IsWithoutMark, film_after, film_of, kept_rows}
 use Rattle.frame_changes.proofs.Unrolled.{feeds_length}
 
 abbrev IsOther : ℕ → Type 0

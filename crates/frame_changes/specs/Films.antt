@@ -1,5 +1,5 @@
 -- Frames that are kept as changes.
-use Rattle.std.specs.Prelude.{ℕ, zero, suc, ◌≡◌, ◌≢◌, ◌≤◌, ◌==◌, if◌then◌else◌, Bool, List, [], ◌∷◌, ◌++◌, length, map, take, drop, None}
+use Rattle.std.specs.Prelude.{ℕ, zero, suc, ◌≡◌, ◌≢◌, ◌==◌, if◌then◌else◌, Bool, List, [], ◌∷◌, ◌++◌, map, take, drop, None}
 use Rattle.std.specs.List.{All}
 use Rattle.frame_changes.specs.Changes.{changed, changes_from, changes_text}
 use Rattle.frame_changes.specs.Reading.{read}

@@ -1,8 +1,8 @@
 // Laws over the definitions alone.
-ghost use Rattle.std.specs.Prelude.{◌≡◌, ◌≢◌, ◌≤◌, ◌^◌, ℕ, Bool, List, [], ◌∷◌, ◌++◌, length, All, None};
+ghost use Rattle.std.specs.Prelude.{◌≡◌, ◌≢◌, ◌≤◌, ℕ, Bool, List, [], ◌∷◌, ◌++◌, length, All, None};
 ghost use Rattle.frame_changes.specs.declared.change.Change.{Change};
 ghost use Rattle.frame_changes.specs.Changes.{changes_from, changes_text, changed};
-ghost use Rattle.frame_changes.specs.Films.{Frame, IsFrameOf, IsWithoutMark, HasNoMark, film_after, film_of, frames_in, kept_frame};
+ghost use Rattle.frame_changes.specs.Films.{Frame, IsFrameOf, IsWithoutMark, HasNoMark, film_of, frames_in};
 ghost use Rattle.frame_changes.specs.Reading.{read, IsReadable};
 
 /// The changes, put into the old text, give the new one.
