@@ -63,7 +63,7 @@ fn with_arguments<'a>(
 }
 
 /// A command with what its help says first.
-fn new_command<'a>(alloc: Global, name: &'a str, about: &'a str, usage: &'a str) -> Command<'a>
+pub fn new_command<'a>(alloc: Global, name: &'a str, about: &'a str, usage: &'a str) -> Command<'a>
     ensures app { app_of result ≡ new_app name.entry.now }
     ensures local { (out-Command result).has_globals ≡ false }
 {
@@ -87,8 +87,8 @@ fn top_command<'a>(alloc: Global) -> Command<'a>
         .after_help(STATUSES)
 }
 
-/// A command with more commands of the program.
-fn with_subcommands<'a>(
+/// A command with the commands of a table under it.
+pub fn with_subcommands<'a>(
     alloc: Global,
     command: Command<'a>,
     subcommands: &[Subcommand],

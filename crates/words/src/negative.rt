@@ -1,5 +1,5 @@
 // A number below 0, which clap takes for an option that it doesn't know.
-use crate::table::{Argument, Form, SUBCOMMANDS};
+use crate::table::{Argument, Form, Subcommand};
 use std::alloc::{AllocError, Global};
 
 /// An option that takes a number, and the numbers that it takes.
@@ -10,8 +10,8 @@ struct NumberOption {
     most: u32,
 }
 
-fn arguments_of(command: &str) -> &'static [Argument] {
-    for subcommand in &SUBCOMMANDS {
+fn arguments_of(subcommands: &[Subcommand], command: &str) -> &'static [Argument] {
+    for subcommand in subcommands {
         if subcommand.name == command {
             return subcommand.arguments;
         }
@@ -60,13 +60,14 @@ fn is_about(told: &str, number: &str) -> bool {
 /// a number that is out of its range.
 pub fn negative_text(
     alloc: Global,
+    subcommands: &[Subcommand],
     words: &[String],
     told: &str,
 ) -> Result<Option<String>, AllocError> {
     let Some((command, words)) = words.split_first() else {
         return Ok(None);
     };
-    let arguments = arguments_of(command.as_str());
+    let arguments = arguments_of(subcommands, command.as_str());
     let mut before: Option<NumberOption> = None;
     for word in words {
         if is_below_zero(word.as_str()) {

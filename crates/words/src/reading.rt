@@ -8,13 +8,20 @@ use crate::entries::{missing, number_entry, optional_entry, text_entry};
 use crate::fault::WordsFault;
 use crate::negative::negative_text;
 use crate::request::Words;
+use crate::table::{SUBCOMMANDS, Subcommand};
 use clap::error::ErrorKind;
 use clap::{ArgMatches, Error};
 use job_machine::Settings;
 use std::alloc::Global;
 
-/// What clap answers in place of matches.
-fn fault_of(alloc: Global, words: &[String], error: &Error) -> WordsFault
+/// What is said of words of these commands for which clap answers an error: its text, or that of its help. A number below 0
+/// behind an option is told as one that is out of its range.
+pub fn fault_of(
+    alloc: Global,
+    subcommands: &[Subcommand],
+    words: &[String],
+    error: &Error,
+) -> WordsFault
     ensures { IsNoHelp result ⊎ (kind_of error.now ≡ ErrorKind.DisplayHelp) }
 {
     if error.kind() == ErrorKind::OutOfMemory {
@@ -29,7 +36,7 @@ fn fault_of(alloc: Global, words: &[String], error: &Error) -> WordsFault
     if error.kind() != ErrorKind::UnknownArgument {
         return WordsFault::Refused(text);
     }
-    match negative_text(alloc, words, text.as_str()) {
+    match negative_text(alloc, subcommands, words, text.as_str()) {
         Ok(Some(text)) => WordsFault::Refused(text),
         Ok(None) => WordsFault::Refused(text),
         Err(_) => WordsFault::OutOfMemory,
@@ -114,6 +121,6 @@ pub fn read_words(alloc: Global, words: &[String]) -> Result<Words, WordsFault>
     let command = program_command(alloc)?;
     match command.try_get_matches_from(words) {
         Ok(matches) => command_words(alloc, &matches),
-        Err(error) => Err(fault_of(alloc, words, &error)),
+        Err(error) => Err(fault_of(alloc, &SUBCOMMANDS, words, &error)),
     }
 }

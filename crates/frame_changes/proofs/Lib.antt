@@ -1,0 +1,4 @@
+pub mod Given
+pub mod ReadBack
+pub mod Unrolled
+pub mod NoMark

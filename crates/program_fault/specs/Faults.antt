@@ -1,0 +1,37 @@
+-- Which fault a program reports, and the status with which it ends.
+use Rattle.std.specs.Prelude.{⊤, ℕ, ◌≡◌, ◌⊎◌, List, Result, Ok, Err, string_bytes}
+use Rattle.log_text.specs.declared.fault.LogFault.{LogFault}
+use Rattle.log_text.specs.declared.fault.LogFault.TheVariants as logs
+use Rattle.log_text.specs.Readings.{IsFirstFault}
+use Rattle.program_fault.specs.declared.fault.Fault.{Fault}
+use Rattle.program_fault.specs.declared.fault.Fault.TheVariants.{File, StandardInput, LogHead, LogLine, Write, Spawn, GateClosed, Stranger, OutOfMemory}
+
+-- a file or a write failed; refused words or files; want of memory, or the run failed otherwise
+abbrev pub status_of : Fault → ℕ
+status_of (File path) = 1
+status_of StandardInput = 1
+status_of Write = 1
+status_of Spawn = 3
+status_of GateClosed = 3
+status_of Stranger = 3
+status_of OutOfMemory = 3
+status_of _ = 2
+
+abbrev pub status_in : Result (⊤) Fault → ℕ
+status_in (Ok _) = 0
+status_in (Err fault) = status_of fault
+
+abbrev pub IsOfLog : LogFault → Fault → Type 0
+IsOfLog logs.OutOfMemory fault = fault ≡ OutOfMemory
+IsOfLog logs.Head fault = fault ≡ LogHead
+IsOfLog (logs.Line n) fault = fault ≡ LogLine n
+
+-- the bytes are no log
+abbrev pub IsReadingFault : List ℕ → Fault → Type 0
+IsReadingFault log fault = (f : LogFault) × ((f ≡ logs.OutOfMemory) ⊎ IsFirstFault log f) × IsOfLog f fault
+
+-- a file that can't be had is reported by its path
+abbrev pub IsFileFault : List ℕ → Fault → Type 0
+IsFileFault path OutOfMemory = Unit {0}
+IsFileFault path (File name) = string_bytes name ≡ path
+IsFileFault path _ = ⊥

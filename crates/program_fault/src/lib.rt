@@ -1,0 +1,13 @@
+//! What a program says of what went wrong, and the files that its words name.
+#![tactic(auto)]
+
+mod ending;
+mod fault;
+mod files;
+mod log_fault;
+mod unread;
+
+pub use ending::{end_with, refuse_words};
+pub use fault::Fault;
+pub use files::{put, read_file, read_optional_file, write_file};
+pub use unread::refuse_unread_words;

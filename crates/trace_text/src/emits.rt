@@ -1,0 +1,64 @@
+// The frames shown, in the printer's lane.
+ghost use Rattle.std.specs.Prelude.{◌≡◌, ◌++◌, OnOk};
+ghost use Rattle.trace_text.specs.Trace.{told_text, emit_text, shown_text, emits_from};
+
+use crate::parts::{push_two, push_where};
+use event_slices::FrameSpan;
+use job_core::names::Event;
+use std::alloc::AllocError;
+
+const EMIT: &str = ",\"cat\":\"emit\",\"name\":\"emit ";
+
+const EMIT_ARGUMENTS: &str = "\",\"args\":{\"frame\":";
+
+const EMIT_END: &str = "}}";
+
+#[tactic(auto, unfolding(crate::specs::Trace::told_text))]
+fn push_told(text: &mut Vec<u8>, frame: u32) -> Result<(), AllocError>
+    ensures { OnOk result (text.new.items ≡ text.old.items ++ told_text frame) }
+{
+    push_two(
+        text,
+        EMIT,
+        u64::from(frame),
+        EMIT_ARGUMENTS,
+        u64::from(frame),
+        EMIT_END,
+    )
+}
+
+fn push_emit(text: &mut Vec<u8>, at: usize, frame: u32) -> Result<(), AllocError>
+    ensures { OnOk result (text.new.items ≡ text.old.items ++ emit_text at frame) }
+{
+    push_where(text, 17, at, 1)?;
+    push_told(text, frame)
+}
+
+fn push_shown(
+    text: &mut Vec<u8>,
+    span: FrameSpan,
+    at: usize,
+    event: Event,
+) -> Result<(), AllocError>
+    ensures { OnOk result (text.new.items ≡ text.old.items ++ shown_text span at event) }
+{
+    match event {
+        Event::Emit { frame } => {
+            if span.has(frame) {
+                return push_emit(text, at, frame);
+            }
+            Ok(())
+        }
+        _ => Ok(()),
+    }
+}
+
+/// Appends an entry for each of these frames that is shown.
+pub fn push_emits(text: &mut Vec<u8>, span: FrameSpan, events: &[Event]) -> Result<(), AllocError>
+    ensures { OnOk result (text.new.items ≡ text.old.items ++ emits_from span 0 events.now) }
+{
+    'events: for (at, event) in events.iter().enumerate() {
+        push_shown(text, span, at, *event)?;
+    }
+    Ok(())
+}

@@ -1,0 +1,42 @@
+-- What is written of a log.
+use Rattle.std.specs.Prelude.{ℕ, ◌≡◌, ◌⊎◌, List, Option}
+use Rattle.std.specs.Io.KnownBytes.{Appends, Keeps}
+use Rattle.byte_streams.specs.Streams.{AppendsPart}
+use Rattle.job_core.specs.declared.names.Event.{Event}
+use Rattle.job_machine.specs.Numbers.{Numbers}
+use Rattle.log_text.specs.Readings.{IsLog}
+use Rattle.event_slices.specs.declared.span.FrameSpan.{FrameSpan}
+use Rattle.trace_text.specs.Trace.{trace_of}
+use Rattle.program_fault.specs.declared.fault.Fault.{Fault}
+use Rattle.program_fault.specs.declared.fault.Fault.TheVariants.{Write}
+use Rattle.program_fault.specs.Faults.{IsReadingFault}
+use Rattle.view_commands.specs.declared.request.View.{View}
+use Rattle.view_commands.specs.declared.request.View.TheVariants.{Trace}
+
+-- the trace of the settings and events was written that the log's bytes spell
+abbrev pub Traces : (old new : Option (List ℕ)) → FrameSpan → (log : List ℕ) → Type 0
+Traces old new frames log = (settings : Numbers) × (events : List Event) × IsLog log settings events × Appends old new (trace_of settings events frames)
+
+-- nothing was written, or a first part of that trace
+abbrev pub TracesPart : (old new : Option (List ℕ)) → FrameSpan → (log : List ℕ) → Type 0
+TracesPart old new frames log =
+    Keeps old new ⊎ ((settings : Numbers) × (events : List Event) × IsLog log settings events × AppendsPart old new (trace_of settings events frames))
+
+-- the bytes are no log, or there was no memory; or a write failed
+abbrev pub IsTraceFault : List ℕ → Fault → Type 0
+IsTraceFault log fault = IsReadingFault log fault ⊎ ((settings : Numbers) × (events : List Event) × IsLog log settings events × (fault ≡ Write))
+
+-- of some log, for words that name a file, of which no contract says what it holds
+abbrev pub TracesSome : (old new : Option (List ℕ)) → FrameSpan → Type 0
+TracesSome old new frames = (log : List ℕ) × Traces old new frames log
+
+abbrev pub TracesSomePart : (old new : Option (List ℕ)) → FrameSpan → Type 0
+TracesSomePart old new frames = Keeps old new ⊎ ((log : List ℕ) × TracesPart old new frames log)
+
+-- what the words ask for is done
+abbrev pub IsDone : (old new : Option (List ℕ)) → View → Type 0
+IsDone old new (Trace log frames) = TracesSome old new frames
+
+-- or a part of it
+abbrev pub IsPartDone : (old new : Option (List ℕ)) → View → Type 0
+IsPartDone old new (Trace log frames) = TracesSomePart old new frames

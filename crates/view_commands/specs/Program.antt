@@ -1,0 +1,48 @@
+-- The viewer's words, and what they ask for.
+use Rattle.std.specs.Prelude.{◌≡◌, ◌≢◌, ℕ, List, [], Some, codes, true}
+use Rattle.clap.specs.Words.{App, IsAmong, Row, Text, fault_of, first_of, new_app, subcommand_of, subcommand_rows_of, with_rule, with_subcommand}
+use Rattle.clap.specs.declared.error.kind.ErrorKind.TheVariants as kinds
+use Rattle.clap.specs.declared.parser.matches.ArgMatches.{ArgMatches}
+use Rattle.clap.specs.Simple.{on_top}
+use Rattle.event_slices.specs.declared.span.FrameSpan.{FrameSpan}
+use Rattle.words.specs.declared.fault.WordsFault.{WordsFault}
+use Rattle.words.specs.declared.fault.WordsFault.TheVariants.{Help}
+use Rattle.words.specs.Program.{default_rule, word_rule, IsNumber, IsText}
+use Rattle.view_commands.specs.declared.request.View.{View}
+use Rattle.view_commands.specs.declared.request.View.TheVariants.{Trace}
+
+-- `[--from F] [--to T]`
+abbrev pub with_frames : App → App
+with_frames a = with_rule (with_rule a (default_rule (codes "from") 1 9999 (codes "1"))) (default_rule (codes "to") 1 9999 (codes "9999"))
+
+-- `trace LOG [--from F] [--to T]`
+abbrev pub trace : App
+trace = with_frames (with_rule (new_app (codes "trace")) (word_rule (codes "log")))
+
+abbrev pub program : App
+program = with_subcommand (on_top (λ s. record s { no_binary_name = true }) (new_app (codes "btview"))) trace.top
+
+-- clap finds no fault in the words, and its reading is this subcommand with these entries
+abbrev pub Enters : List Text → Text → List Row → Type 0
+Enters words name rows = (words ≢ []) × (fault_of program words ≡ []) × (subcommand_of program words ≡ Some (name, rows))
+
+-- the words enter the subcommand that the matches have
+abbrev pub IsEntered : List Text → ArgMatches → Type 0
+IsEntered words m = (name : Text) (rows : List Row) → subcommand_rows_of m ≡ Some (name, rows) → Enters words name rows
+
+-- the frames that the entries name; clap's reading has an entry with the default where the words have none
+abbrev pub AreFrames : List Row → FrameSpan → Type 0
+AreFrames rows frames = IsNumber (first_of (codes "from") rows) frames.first × IsNumber (first_of (codes "to") rows) frames.last
+
+-- the words are taken for `trace` of these frames
+abbrev pub AsksToTrace : List Text → FrameSpan → Type 0
+AsksToTrace words frames = (rows : List Row) × Enters words (codes "trace") rows × AreFrames rows frames
+
+-- the subcommand and the entries of clap's reading
+abbrev pub IsReading : List Text → View → Type 0
+IsReading words (Trace log frames) = (rows : List Row) × Enters words (codes "trace") rows × IsText rows (codes "log") log × AreFrames rows frames
+
+-- help is answered only where clap finds that the words ask for it
+abbrev pub IsAskedFor : List Text → WordsFault → Type 0
+IsAskedFor words (Help text) = IsAmong kinds.DisplayHelp (fault_of program words)
+IsAskedFor words _ = Unit {0}

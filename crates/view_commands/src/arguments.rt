@@ -1,0 +1,64 @@
+// The viewer's words, as clap is told of them.
+ghost use Rattle.std.specs.Prelude.{◌≡◌, true, codes, IfOk};
+ghost use Rattle.clap.specs.Simple.{on_top};
+ghost use Rattle.clap.specs.Words.{app_of, new_app};
+ghost use Rattle.view_commands.specs.Program.{program};
+
+use clap::Command;
+use std::alloc::{AllocError, Global};
+use words::{Argument, Form, Subcommand, new_command, with_subcommands};
+
+const ABOUT: &str = "Shows runs of btworld: what its workers did, event by event.";
+
+const STATUSES: &str =
+    "Status: 0 done; 1 a file can't be read, or a write failed; 2 words or log are refused; 3 want of memory.\nA fault is one line on standard error. Logs are written by `btworld play --log FILE`.";
+
+const FROM: Argument = Argument {
+    name: "from",
+    help: "The first frame whose jobs are shown, 1 to 9999",
+    form: Form::Default {
+        least: 1,
+        most: 9999,
+        value: "1",
+    },
+};
+
+const TO: Argument = Argument {
+    name: "to",
+    help: "The last frame whose jobs are shown, 1 to 9999",
+    form: Form::Default {
+        least: 1,
+        most: 9999,
+        value: "9999",
+    },
+};
+
+pub static SUBCOMMANDS: [Subcommand; 1] = [Subcommand {
+    name: "trace",
+    about: "Writes a log as JSON of Chrome's trace format, for ui.perfetto.dev or chrome://tracing: a lane for each worker and one for the printer, a slice for each stretch in which a worker runs a job, arrows from a Think to the Paths that it asks and back. Time counts events. Any log that can be read is shown, legal or not. Browsers like up to some 100,000 slices: --from and --to take a part of a longer run.",
+    usage: "btview trace LOG [--from F] [--to T]",
+    arguments: &[
+        Argument {
+            name: "log",
+            help: "The log file, as `btworld play --log` writes it",
+            form: Form::Place,
+        },
+        FROM,
+        TO,
+    ],
+}];
+
+fn top_command<'a>(alloc: Global) -> Command<'a>
+    ensures { app_of result ≡ on_top (λ s. record s { no_binary_name = true }) (new_app (codes "btview")) }
+{
+    new_command(alloc, "btview", ABOUT, "btview <COMMAND>")
+        .no_binary_name(true)
+        .after_help(STATUSES)
+}
+
+/// The viewer with all its commands.
+pub fn program_command<'a>(alloc: Global) -> Result<Command<'a>, AllocError>
+    ensures { IfOk result (λ c. app_of c ≡ program) }
+{
+    with_subcommands(alloc, top_command(alloc), &SUBCOMMANDS)
+}

@@ -1,0 +1,14 @@
+//! What the viewer's commands do, over any writers.
+#![tactic(auto)]
+
+mod arguments;
+mod program;
+mod reading;
+mod request;
+mod tracing;
+
+pub use program::view_command;
+pub use program_fault::refuse_unread_words;
+pub use reading::read_view_words;
+pub use request::View;
+pub use tracing::trace_bytes;

@@ -1,0 +1,48 @@
+// What the viewer does with its words.
+ghost use Rattle.std.specs.Prelude.{◌≡◌, map, string_bytes, OnOk, OnErr};
+ghost use Rattle.event_slices.specs.declared.span.FrameSpan.{FrameSpan};
+ghost use Rattle.view_commands.specs.Doing.{TracesSome, TracesSomePart, IsDone, IsPartDone};
+ghost use Rattle.view_commands.specs.Program.{AsksToTrace};
+
+use crate::reading::read_view_words;
+use crate::request::View;
+use crate::tracing::trace_file;
+use program_fault::{Fault, end_with, refuse_words};
+use std::alloc::Global;
+use std::io::Write;
+use std::rt::Files;
+
+/// Does what words ask for.
+fn act<H: Files, W: Write>(rt: &H, alloc: Global, view: View, out: &mut W) -> Result<(), Fault>
+    ensures ok { OnOk result (IsDone (W.contents out.old) (W.contents out.new) view) }
+    ensures part { OnErr result (IsPartDone (W.contents out.old) (W.contents out.new) view) }
+{
+    match view {
+        View::Trace { log, frames } => trace_file(rt, alloc, log, frames, out),
+    }
+}
+
+/// Does what the words after the viewer's name ask for, and gives the status with which the program ends: 0 done, 1 a file
+/// or a write failed, 2 refused words or log, 3 want of memory. A fault is one line on `err`.
+///
+/// The clauses say that there is a log of which the text is the trace; that it is what the file holds is tested.
+pub fn view_command<H: Files, W: Write, E: Write>(
+    rt: &H,
+    alloc: Global,
+    words: &[String],
+    out: &mut W,
+    err: &mut E,
+) -> u8
+    ensures traced { (frames : FrameSpan) → AsksToTrace (map string_bytes words.now) frames → result ≡ 0
+        → TracesSome (W.contents out.old) (W.contents out.new) frames }
+    ensures traced_part { (frames : FrameSpan) → AsksToTrace (map string_bytes words.now) frames
+        → TracesSomePart (W.contents out.old) (W.contents out.new) frames }
+{
+    match read_view_words(alloc, words) {
+        Ok(view) => {
+            let done = act(rt, alloc, view, out);
+            end_with(done, err)
+        }
+        Err(fault) => refuse_words(fault, out, err),
+    }
+}
