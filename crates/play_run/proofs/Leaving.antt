@@ -23,6 +23,7 @@ use Rattle.game_session.specs.contracts.session.Session as session
 use Rattle.run_shared.specs.contracts.shared.Shared as shared
 use Rattle.run_shared.proofs.Sends as shares
 use Rattle.run_shared.specs.contracts.worked.Worked as worked
+use Rattle.play_run.specs.contracts.workers.WorkerStart as start
 
 pub session_sync : IsSync session.the_row
 session_sync = params.session
@@ -54,18 +55,23 @@ share_send L l sL = search (share_crossing.the_send, sL, crosses, sendable) dept
 putter_send : (κ : NamedLft) (L : RattleType) (p : run_ledger.Ghosts L.Denot) (l : ledger.Ghosts L.Denot) → IsSend (putter.the_row (run_band.the_row κ (param 1 L) p l))
 putter_send κ L p l = search (shares.run_band_send κ (param 1 L) p l, putter_crossing.the_send, crosses, sendable) depth 40
 
+start_send : (κh κd : NamedLft) (L M : RattleType) (p : run_ledger.Ghosts L.Denot) (l : ledger.Ghosts L.Denot) (m : ledger.Ghosts M.Denot) → IsSend (start.the_row κh κd (param 1 L) (param 2 M) p l m)
+start_send κh κd L M p l m =
+    declared_send (start.the_type κh κd (param 1 L) (param 2 M) p l m)
+    (as_row_send (shr_ref_field κh (shared.the_row κd (param 1 L) (param 2 M) p l m) tt) (shared_send κh κd L M p l m), (putter_send κd L p l, tt))
+
 -- what a worker's thread hands back
 pub worked_send : (κ : NamedLft) (L : RattleType) (p : run_ledger.Ghosts L.Denot) (l : ledger.Ghosts L.Denot) → IsSend (param 1 L) → IsSend (worked.the_row κ (param 1 L) p l)
 worked_send κ L p l sL = declared_send (worked.the_type κ (param 1 L) p l) (share_send L l sL, (putter_send κ L p l, (search (crosses, sendable) depth 40, tt)))
 
-all_send : (ν : Sym) (A B C D E F G H : RattleType) → IsSend A → IsSend B → IsSend C → IsSend D → IsSend E → IsSend F → IsSend G → IsSend H
-    → IsSend (TupleAt ν (A ∷ B ∷ C ∷ D ∷ E ∷ F ∷ G ∷ H ∷ []))
-all_send ν A B C D E F G H a b c d e f g h =
-    declared_send (type_at ν (A ∷ B ∷ C ∷ D ∷ E ∷ F ∷ G ∷ H ∷ []))
-    (as_row_send (row_field A) a, (as_row_send (row_field B) b, (as_row_send (row_field C) c, (as_row_send (row_field D) d, (as_row_send (row_field E) e, (as_row_send (row_field F) f, (as_row_send (row_field G) g, (as_row_send (row_field H) h, tt))))))))
+all_send : (ν : Sym) (A B C D E F G : RattleType) → IsSend A → IsSend B → IsSend C → IsSend D → IsSend E → IsSend F → IsSend G
+    → IsSend (TupleAt ν (A ∷ B ∷ C ∷ D ∷ E ∷ F ∷ G ∷ []))
+all_send ν A B C D E F G a b c d e f g =
+    declared_send (type_at ν (A ∷ B ∷ C ∷ D ∷ E ∷ F ∷ G ∷ []))
+    (as_row_send (row_field A) a, (as_row_send (row_field B) b, (as_row_send (row_field C) c, (as_row_send (row_field D) d, (as_row_send (row_field E) e, (as_row_send (row_field F) f, (as_row_send (row_field G) g, tt)))))))
 
-pub worker_send : (δ : Ty) (k : Kept) (ν : Sym) (κr κs κh κd κg κp : NamedLft) (L M G R : RattleType) (p : run_ledger.Ghosts L.Denot) (l : ledger.Ghosts L.Denot) (m : ledger.Ghosts M.Denot)
+pub worker_send : (δ : Ty) (k : Kept) (ν : Sym) (κr κs κh κd κg : NamedLft) (L M G R : RattleType) (p : run_ledger.Ghosts L.Denot) (l : ledger.Ghosts L.Denot) (m : ledger.Ghosts M.Denot)
     → IsSend (param 1 L) → IsSync (param 3 G) → IsSync (param 4 R)
-    → IsSend (param 2 (arg δ k (TupleAt ν ((shr_ref_field κr (param 4 R) tt).row ∷ global.the_row ∷ (shr_ref_field κs session.the_row tt).row ∷ (shr_ref_field κh (shared.the_row κd (param 1 L) (param 2 M) p l m) tt).row ∷ (shr_ref_field κg (param 3 G) tt).row ∷ u32-field.row ∷ share.the_row (param 1 L) l ∷ putter.the_row (run_band.the_row κp (param 1 L) p l) ∷ []))))
-worker_send δ k ν κr κs κh κd κg κp L M G R p l m sL sG sR =
-    param_send 2 _ (arg_send δ k _ (all_send ν _ _ _ _ _ _ _ _ (runtime_send κr R sR) alloc_send (session_send κs) (shared_send κh κd L M p l m) (gate_send κg G sG) worker_number_send (share_send L l sL) (putter_send κp L p l)))
+    → IsSend (param 2 (arg δ k (TupleAt ν ((shr_ref_field κr (param 4 R) tt).row ∷ global.the_row ∷ (shr_ref_field κs session.the_row tt).row ∷ start.the_row κh κd (param 1 L) (param 2 M) p l m ∷ (shr_ref_field κg (param 3 G) tt).row ∷ u32-field.row ∷ share.the_row (param 1 L) l ∷ []))))
+worker_send δ k ν κr κs κh κd κg L M G R p l m sL sG sR =
+    param_send 2 _ (arg_send δ k _ (all_send ν _ _ _ _ _ _ _ (runtime_send κr R sR) alloc_send (session_send κs) (start_send κh κd L M p l m) (gate_send κg G sG) worker_number_send (share_send L l sL)))

@@ -4,7 +4,7 @@ ghost use Rattle.play_run.specs.Plays.{IsPlayed, IsPlayFault};
 
 use crate::fault::PlayFault;
 use crate::report::RunReport;
-use crate::run::run;
+use crate::whole_run::run;
 use game_session::Session;
 use level_text::{read_level, read_script};
 use run_worker::Gate;

@@ -5,14 +5,14 @@ mod bytes;
 mod fault;
 mod opening;
 mod report;
-mod run;
+mod whole_run;
 mod workers;
 
 pub use band_mail::{BandMail, Putter, Taker};
 pub use bytes::run_bytes;
 pub use fault::PlayFault;
 pub use report::RunReport;
-pub use run::run;
 pub use run_shared::{Cause, RunFault};
 pub use run_worker::{EveryJob, Gate};
 pub use task_board::{Event, JobName, Settings};
+pub use whole_run::run;

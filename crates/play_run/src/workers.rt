@@ -27,6 +27,32 @@ impl<'m, 't, L: RunLedger> Promise<Worked<'t, L>> for HandsBack<'m, 't, L> {
 /// The handle of a worker's thread, with the promise of what it hands back once it is joined.
 pub type WorkerHandle<'m, 't, L> = PromisedHandle<Worked<'t, L>, HandsBack<'m, 't, L>>;
 
+/// What a worker's thread starts with: what all share, and its Putter.
+#[derive(Drop)]
+pub struct WorkerStart<'h, 't, L: RunLedger, M: Ledger> {
+    pub shared: &'h Shared<'t, L, M>,
+    pub putter: Putter<RunBand<'t, L>>,
+}
+
+// A worker's thread.
+fn work_from<'h, 't, L: RunLedger, M: Ledger, G: Gate, R: Wait>(
+    rt: &R,
+    alloc: Global,
+    session: &Session,
+    start: WorkerStart<'h, 't, L, M>,
+    gate: &G,
+    worker: u32,
+    share: Share<L>,
+) -> Worked<'t, L>
+    requires run { L.game ≡ Some session.now }
+    requires part { share.parts ≡ 1 }
+    requires putter { IsPutterOf start.shared.now.mail start.putter }
+    ensures { IsPutterOf start.entry.shared.now.mail result.putter × (result.putter.worker ≡ start.entry.putter.worker) }
+{
+    let WorkerStart { shared, putter } = start;
+    work(rt, alloc, session, shared, gate, worker, share, putter)
+}
+
 // Starts a worker's thread. None where it could not be started.
 #[tactic(auto, using(crate::proofs::Leaving::shared_lent, crate::proofs::Leaving::session_sync))]
 fn spawn<'s, 't, E, L, M, G, R>(
@@ -51,12 +77,13 @@ where
     requires putter { IsPutterOf shared.now.mail putter × (putter.worker ≡ worker) }
     ensures handle { IfSome result (λ h. (h.promise.mail.now ≡ shared.now.mail) × (h.promise.worker ≡ worker)) }
 {
+    let start = WorkerStart { shared, putter };
     let job = move || -> Worked<L>
         requires run { L.game ≡ Some session.now }
         requires part { share.parts ≡ 1 }
-        requires putter { IsPutterOf shared.now.mail putter }
-        ensures { IsPutterOf shared.entry.now.mail result.putter × (result.putter.worker ≡ putter.entry.worker) }
-    { work(rt, alloc, session, shared, gate, worker, share, putter) };
+        requires putter { IsPutterOf start.shared.now.mail start.putter }
+        ensures { IsPutterOf start.entry.shared.now.mail result.putter × (result.putter.worker ≡ start.entry.putter.worker) }
+    { work_from(rt, alloc, session, start, gate, worker, share) };
     let mail = &shared.mail;
     scope.spawn_with(HandsBack { mail, worker }, job).ok()
 }

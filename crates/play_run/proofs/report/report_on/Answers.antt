@@ -7,10 +7,13 @@ use Rattle.play_run.proofs.report.report_on.Goals as goal
 pub returns-clause-sum : goal.returns-clause-sum
 returns-clause-sum g c =
     let steps : AreStepsOf c.args.settings.workers c.in-Some.events.items c.in-Ok.steps.items = search rules in
-    sum_steps (setup_for c.args.session.now c.args.settings) c.in-Some.events.items c.in-Ok.steps.items c.in-Some.ensures.complete.0 steps
+    sum_steps (setup_for c.args.session.now c.args.settings) c.in-Some.events.items c.in-Ok.steps.items (c.in-Some.ensures.complete c.args.session.now c.args.settings c.requires.run.0 c.requires.run.1).0 steps
 
 pub returns-clause-shares : goal.returns-clause-shares
 returns-clause-shares g c =
     let steps : AreStepsOf c.args.settings.workers c.in-Some.events.items c.in-Ok.steps.items = search rules in
-    sum_steps (setup_for c.args.session.now c.args.settings) c.in-Some.events.items c.in-Ok.steps.items c.in-Some.ensures.complete.0 steps
+    sum_steps (setup_for c.args.session.now c.args.settings) c.in-Some.events.items c.in-Ok.steps.items (c.in-Some.ensures.complete c.args.session.now c.args.settings c.requires.run.0 c.requires.run.1).0 steps
     ∙ c.in-Some.ensures.named
+
+pub returns-clause-complete : goal.returns-clause-complete
+returns-clause-complete g c = c.in-Some.ensures.complete c.args.session.now c.args.settings c.requires.run.0 c.requires.run.1

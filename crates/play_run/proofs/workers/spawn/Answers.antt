@@ -5,7 +5,7 @@ use Rattle.play_run.proofs.workers.spawn.Goals as goal
 
 pub spawn_with-requires-send-F : goal.spawn_with-requires-send-F
 spawn_with-requires-send-F g c κs within =
-    worker_send _ no _ _ _ _ _ _ _ g.row.L g.row.M g.row.G g.row.R g.L.RunLedger g.L.Ledger g.M.Ledger
+    worker_send _ no _ _ _ _ _ _ g.row.L g.row.M g.row.G g.row.R g.L.RunLedger g.L.Ledger g.M.Ledger
     (search c.type_bounds.send-L) (search c.type_bounds.sync-G) (search c.type_bounds.sync-R)
 
 pub spawn_with-requires-send-T : goal.spawn_with-requires-send-T
