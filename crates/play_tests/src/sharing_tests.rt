@@ -30,7 +30,15 @@ fn long_ticks(alloc: Global) -> Result<String, Fail> {
 fn steps<R: Threads + Wait + Sync>(rt: &R, alloc: Global, level: &str) -> Result<[u64; 2], Fail> {
     let settings = Settings::new(FRAMES, 2, 8, 8, 3)?;
     let mut out: Vec<u8> = Vec::new(alloc);
-    let Ok(report) = run_bytes(rt, alloc, level.as_bytes(), b"", settings, &mut out, &EveryJob) else {
+    let Ok(report) = run_bytes(
+        rt,
+        alloc,
+        level.as_bytes(),
+        b"",
+        settings,
+        &mut out,
+        &EveryJob,
+    ) else {
         return Err(Fail::from("a fault"));
     };
     match report.steps.as_slice() {

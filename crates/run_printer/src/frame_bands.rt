@@ -65,7 +65,12 @@ impl<'t, L: RunLedger> FrameBands<'t, L> {
 
     /// Takes the bands of a frame that are next out of their places, and puts them behind those that lie in `into`, from the
     /// top, as far as they are there.
-    pub fn take_next(&mut self, frame: u32, bands: u32, into: &mut Vec<Band>) -> Result<(), AllocError>
+    pub fn take_next(
+        &mut self,
+        frame: u32,
+        bands: u32,
+        into: &mut Vec<Band>,
+    ) -> Result<(), AllocError>
         requires first { (g : Game) → L.game ≡ Some g → AreFirstBands g frame into.old.items }
         requires few { vec_len into.old ≤ bands }
         ensures first { (g : Game) → L.game ≡ Some g → AreFirstBands g frame into.new.items }
