@@ -63,16 +63,6 @@ get_index [] i d l = absurd (omega (arith, l))
 get_index (x ∷ xs) zero d l = refl
 get_index (x ∷ xs) (suc i) d l = get_index xs i d (omega (arith, l))
 
-pub get_named : {X Y : Type 0} (name : X → Y) (xs : List X) (i : ℕ) (d : X) → i < length xs → slice_get (map name xs) i ≡ Some (name (slice_index_or xs i d))
-get_named name [] i d l = absurd (omega (arith, l))
-get_named name (x ∷ xs) zero d l = refl
-get_named name (x ∷ xs) (suc i) d l = get_named name xs i d (omega (arith, l))
-
-pub all_index : {X : Type 0} (P : X → Type 0) (xs : List X) (i : ℕ) (d : X) → i < length xs → All P xs → P (slice_index_or xs i d)
-all_index P [] i d l h = absurd (omega (arith, l))
-all_index P (x ∷ xs) zero d l h = h 0 x (omega arith)
-all_index P (x ∷ xs) (suc i) d l h = all_index P xs i d (omega (arith, l)) (λ k e m. h (suc k) e (omega (arith, m)))
-
 -- ---- a shelf with something put in
 
 set_named : {X Y : Type 0} (name : X → Y) (xs : List X) (i k : ℕ) (x : X) (y : Y) → i ≡ k → name x ≡ y → map name (slice_set xs i x) ≡ slice_set (map name xs) k y
