@@ -1,5 +1,5 @@
 -- What is stored beside the phases of a state.
-use Rattle.std.proofs.Common.{◌≡◌, ◌<◌, ℕ, zero, suc, ◌%◌, Bool, true, false, ◌&&◌, nat_lt, List, Option, Some, None, length, slice_get, refl, sym, ap, ap₂, ◌∙◌, ⊎_elim, arith}
+use Rattle.std.proofs.Common.{◌≡◌, ◌<◌, ℕ, zero, suc, ◌%◌, Bool, true, false, ◌&&◌, nat_lt, List, Option, Some, None, length, slice_get, refl, sym, ap, ◌∙◌, ⊎_elim, arith}
 use Rattle.std.proofs.lemmas.Bool.{cases_lt}
 use Rattle.job_core.specs.declared.names.JobName.TheVariants.{Logic, Think, Path, Draw}
 use Rattle.job_core.specs.Core.{Setup, IsJob, Phase, Absent, Queued, Runs, Waits, Finished, State, Shown}
@@ -8,7 +8,7 @@ use Rattle.job_core.proofs.Shape.{Shape, there, logic_next, ThinkFits, PathFits,
 use Rattle.job_core.proofs.Once.{ended}
 use Rattle.board_law.specs.Lists.{bit, at}
 use Rattle.board_law.specs.Law.{has_spread, number, SlotsFit}
-use Rattle.board_law.specs.Stored.{Part, Drawn, Stored, nothing, turned}
+use Rattle.board_law.specs.Stored.{Part, Stored}
 use Rattle.board_law.specs.Needed.{IsInSlot, IsAsked}
 use Rattle.board_law.proofs.Kit.{at_some}
 use Rattle.board_law.proofs.Places.{get_at}
@@ -38,29 +38,26 @@ abbrev pub is_over : ℕ → Bool
 is_over zero = false
 is_over (suc n) = true
 
--- the thoughts and the bands of a frame that are there
+-- the thoughts of a frame that are there
 abbrev pub thoughts_in : Setup → State → ℕ → List Part
 thoughts_in s st f = among f s.agents (λ a. ended (st.phase (Think f a)))
 
-abbrev pub bands_in : Setup → State → ℕ → List Part
-bands_in s st f = among f s.bands (λ b. ended (st.phase (Draw f b)))
+-- the frame in a slot, once its turn is there
+abbrev pub turn_once : ℕ → ℕ → Option ℕ
+turn_once zero f = None
+turn_once (suc n) f = Some f
 
--- what came of the frame in a slot
-abbrev pub drawn_once : ℕ → ℕ → List Part → Drawn
-drawn_once zero f bands = nothing
-drawn_once (suc n) f bands = turned f bands
-
-abbrev pub drawn_in : Setup → State → Option ℕ → Drawn
-drawn_in s st None = nothing
-drawn_in s st (Some f) = drawn_once (ended (st.phase (Logic f))) f (bands_in s st f)
+abbrev pub turn_in : State → Option ℕ → Option ℕ
+turn_in st None = None
+turn_in st (Some f) = turn_once (ended (st.phase (Logic f))) f
 
 pub record Kept (s : Setup) (k : Stored) (st : State) : Type 0 where
   pub next : (f : ℕ) → IsBefore (st.phase (Logic f)) → k.next ≡ Some f
   pub thoughts : (f : ℕ) → IsOpen (st.phase (Logic f)) → k.thoughts ≡ thoughts_in s st f
   pub asking : (f a i : ℕ) → st.phase (Think f a) ≡ Waits (suc i) → IsAsked k f a i (is_over (ended (st.phase (Path f a i))))
-  pub drawn : (i : ℕ) → i < s.slots → slice_get k.drawn i ≡ Some (drawn_in s st (at k.slots i))
+  pub turns : (i : ℕ) → i < s.slots → slice_get k.turns i ≡ Some (turn_in st (at k.slots i))
   pub agents : length k.asking ≡ s.agents
-  pub places : length k.drawn ≡ s.slots
+  pub places : length k.turns ≡ s.slots
 
 -- ---- phases
 
@@ -170,9 +167,6 @@ module _ (s : Setup) (st : State) (inv : Shape s st) where
 pub thoughts_same : (s : Setup) (st st' : State) (f : ℕ) → ((a : ℕ) → ended (st'.phase (Think f a)) ≡ ended (st.phase (Think f a))) → thoughts_in s st f ≡ thoughts_in s st' f
 thoughts_same s st st' f h = among_same f s.agents _ _ (λ a l. sym (h a))
 
-pub bands_same : (s : Setup) (st st' : State) (f : ℕ) → ((b : ℕ) → ended (st'.phase (Draw f b)) ≡ ended (st.phase (Draw f b))) → bands_in s st f ≡ bands_in s st' f
-bands_same s st st' f h = among_same f s.bands _ _ (λ b l. sym (h b))
-
-pub drawn_same : (s : Setup) (st st' : State) (o : Option ℕ) → ((f : ℕ) → o ≡ Some f → (ended (st'.phase (Logic f)) ≡ ended (st.phase (Logic f))) × ((b : ℕ) → ended (st'.phase (Draw f b)) ≡ ended (st.phase (Draw f b)))) → drawn_in s st o ≡ drawn_in s st' o
-drawn_same s st st' None h = refl
-drawn_same s st st' (Some f) h = let x = h f refl in ap₂ (λ n bands. drawn_once n f bands) (sym x.0) (bands_same s st st' f x.1)
+pub turn_same : (st st' : State) (o : Option ℕ) → ((f : ℕ) → o ≡ Some f → ended (st'.phase (Logic f)) ≡ ended (st.phase (Logic f))) → turn_in st o ≡ turn_in st' o
+turn_same st st' None h = refl
+turn_same st st' (Some f) h = ap (λ n. turn_once n f) (sym (h f refl))

@@ -1,8 +1,7 @@
 -- What each legal event needs is stored, by induction on the log.
-use Rattle.std.proofs.Common.{◌≡◌, ◌<◌, ℕ, zero, suc, ◌-◌, ◌%◌, ◌∷◌, ◌++◌, List, [], Some, None, length, replicate, slice_get, slice_set, if◌then◌else◌, refl, sym, ap, ◌∙◌, subst, ⊎_elim, arith}
+use Rattle.std.proofs.Common.{◌≡◌, ◌<◌, ℕ, zero, suc, ◌-◌, ◌%◌, ◌∷◌, ◌++◌, List, [], Some, None, length, replicate, slice_set, if◌then◌else◌, refl, sym, ap, ◌∙◌, subst, ⊎_elim, arith}
 use Rattle.std.proofs.lemmas.Bool.{cases_lt}
 use Rattle.std.proofs.Math.Nat.{mod-lt}
-use Rattle.std.specs.Option.{IsSomeAnd}
 use Rattle.job_core.specs.declared.names.JobName.{JobName}
 use Rattle.job_core.specs.declared.names.JobName.TheVariants.{Logic, Think, Path, Draw}
 use Rattle.job_core.specs.declared.names.Event.{Event}
@@ -15,7 +14,7 @@ use Rattle.job_core.proofs.Once.{ended}
 use Rattle.board_law.specs.Lists.{at}
 use Rattle.board_law.specs.Board.{Core, core_after, core_opening}
 use Rattle.board_law.specs.Law.{number, SlotsFit, Fits}
-use Rattle.board_law.specs.Stored.{Part, Stored, nothing, turned, store, stored_first, stored_from, stored_after}
+use Rattle.board_law.specs.Stored.{Stored, store, stored_first, stored_from, stored_after}
 use Rattle.board_law.specs.Needed.{IsInSlot, IsAsked, IsMissing, HasTurn, HasParts, HasPlaces, IsThere}
 use Rattle.board_law.proofs.Bridges.{write_is}
 use Rattle.board_law.proofs.Fit.{step_fits}
@@ -23,9 +22,9 @@ use Rattle.board_law.proofs.Needs.{slot_free}
 use Rattle.board_law.proofs.Opening.{opening_fits}
 use Rattle.board_law.proofs.Places.{length_replicate, get_first, get_at}
 use Rattle.board_law.proofs.InOrder.{among, among_all, among_missing, among_short}
-use Rattle.board_law.proofs.Kept.{Kept, IsBefore, IsOpen, is_over, bands_in, drawn_once, drawn_in, open_of_think, open_of_wait, think_of_path, logic_of_draw, unshown_of_draw, open_shown, done_shown, in_slot}
-use Rattle.board_law.proofs.Storing.{starts, resumes, holds, stops, spreads, asks, path_ends, think_ends}
-use Rattle.board_law.proofs.Showing.{logic_ends, draw_ends, emits}
+use Rattle.board_law.proofs.Kept.{Kept, IsBefore, IsOpen, is_over, turn_once, turn_in, open_of_think, open_of_wait, think_of_path, logic_of_draw, unshown_of_draw, open_shown, done_shown, in_slot}
+use Rattle.board_law.proofs.Storing.{starts, resumes, holds, stops, spreads, asks, path_ends, think_ends, draw_ends}
+use Rattle.board_law.proofs.Showing.{logic_ends, emits}
 
 -- ---- what an event needs
 
@@ -47,14 +46,11 @@ module _ (s : Setup) (st : State) (inv : Shape s st) (k : Stored) (g : Kept s k 
   slot_of_open : (f : ℕ) → IsOpen (st.phase (Logic f)) → IsInSlot s k f
   slot_of_open f b = in_slot s st inv k fit f (open_shown s st inv f b)
 
-  -- what came of a frame whose Logic is finished, and that isn't shown
-  drawn_of : (f : ℕ) → st.phase (Logic f) ≡ Finished → st.emitted < f → slice_get k.drawn (f % s.slots) ≡ Some (turned f (bands_in s st f))
-  drawn_of f e l =
-      g.drawn (f % s.slots) (mod-lt f p)
-      ∙ ap Some (ap (drawn_in s st) (fit.full f (done_shown s st inv f e l)) ∙ ap (λ n. drawn_once n f (bands_in s st f)) (ap ended e))
-
-  has_turn : (f : ℕ) (P : List Part → Type 0) → st.phase (Logic f) ≡ Finished → st.emitted < f → P (bands_in s st f) → HasTurn s k f P
-  has_turn f P e l h = subst (λ o. IsSomeAnd o (λ d. (d.turn ≡ Some f) × P d.bands)) (sym (drawn_of f e l)) (refl, h)
+  -- the turn of a frame whose Logic is finished, and that isn't shown
+  has_turn : (f : ℕ) → st.phase (Logic f) ≡ Finished → st.emitted < f → HasTurn s k f
+  has_turn f e l =
+      g.turns (f % s.slots) (mod-lt f p)
+      ∙ ap Some (ap (turn_in st) (fit.full f (done_shown s st inv f e l)) ∙ ap (λ n. turn_once n f) (ap ended e))
 
   start_there : (w : ℕ) (j : JobName) → st.phase j ≡ Queued → HasParts s k j 0
   start_there w (Logic f) q = tt
@@ -66,7 +62,7 @@ module _ (s : Setup) (st : State) (inv : Shape s st) (k : Stored) (g : Kept s k 
       (slot_of_open f (open_of_wait s st inv f a (suc i) e), subst (λ x. IsAsked k f a i (is_over (ended x))) q (g.asking f a i e))
   start_there w (Draw f b) q =
       let v : IsJob s (Draw f b) = there s st inv (Draw f b) (λ y. cc) in
-      (has_turn f (λ bands. Unit {0}) (logic_of_draw s st inv f b (λ y. cc)) (unshown_of_draw s st inv f b (λ y. cc) (λ y. cc)) tt, v.1)
+      (has_turn f (logic_of_draw s st inv f b (λ y. cc)) (unshown_of_draw s st inv f b (λ y. cc) (λ y. cc)), v.1)
 
   logic_there : (f n : ℕ) → st.phase (Logic f) ≡ Waits n → left s st (awaited s (Logic f) n) ≡ 0 → HasParts s k (Logic f) n
   logic_there f zero q z = tt
@@ -107,7 +103,7 @@ module _ (s : Setup) (st : State) (inv : Shape s st) (k : Stored) (g : Kept s k 
       let x = g.agents in omega (arith, v.1)
   event_there (Finish w (Logic f)) m free =
       let q : st.phase (Logic f) ≡ Runs w 1 = m.1 ∙ ap (λ n. Runs w n) m.2 in
-      g.drawn (f % s.slots) (mod-lt f p) ∙ ap Some (ap (drawn_in s st) (fit.full f (open_shown s st inv f (subst IsOpen (sym q) tt))) ∙ ap (λ n. drawn_once n f (bands_in s st f)) (ap ended q))
+      g.turns (f % s.slots) (mod-lt f p) ∙ ap Some (ap (turn_in st) (fit.full f (open_shown s st inv f (subst IsOpen (sym q) tt))) ∙ ap (λ n. turn_once n f) (ap ended q))
   event_there (Finish w (Think f a)) m free =
       let q : st.phase (Think f a) ≡ Runs w m.0 = m.1 in
       let v : IsJob s (Think f a) = there s st inv (Think f a) (λ y. cc) in
@@ -116,16 +112,9 @@ module _ (s : Setup) (st : State) (inv : Shape s st) (k : Stored) (g : Kept s k 
   event_there (Finish w (Path f a i)) m free =
       let q : st.phase (Path f a i) ≡ Runs w m.0 = m.1 in
       subst (λ x. IsAsked k f a i (is_over (ended x))) q (g.asking f a i (think_of_path s st inv f a i (λ y. cc) (λ y. cc)))
-  event_there (Finish w (Draw f b)) m free =
-      let q : st.phase (Draw f b) ≡ Runs w m.0 = m.1 in
-      let v : IsJob s (Draw f b) = there s st inv (Draw f b) (λ y. cc) in
-      has_turn f (λ bands. IsMissing b bands × (length bands < s.bands)) (logic_of_draw s st inv f b (λ y. cc)) (unshown_of_draw s st inv f b (λ y. cc) (λ y. cc))
-      (among_missing f s.bands b (λ c. ended (st.phase (Draw f c))) (ap ended q), among_short f s.bands b (λ c. ended (st.phase (Draw f c))) v.1 (ap ended q))
+  event_there (Finish w (Draw f b)) m free = tt
   event_there (Emit f) m free =
-      let l : st.emitted < f = let e : f ≡ suc st.emitted = m.0 in omega arith in (
-        in_slot s st inv k fit f (done_shown s st inv f m.2 l),
-        drawn_of f m.2 l ∙ ap (λ x. Some (turned f x)) (among_all f s.bands (λ b. ended (st.phase (Draw f b))) (λ b o. ap ended (zero_finished (st.phase (Draw f b)) (total_all_zero s.bands (λ b. unfinished (st.phase (Draw f b))) m.3 b o)))),
-      )
+      let l : st.emitted < f = let e : f ≡ suc st.emitted = m.0 in omega arith in (in_slot s st inv k fit f (done_shown s st inv f m.2 l), has_turn f m.2 l)
   event_there Stop m free = tt
   event_there (Spread w (Think f a)) m free = absurd m
   event_there (Spread w (Path f a i)) m free = absurd m
@@ -185,7 +174,7 @@ kept_step s k st p t (Ask w (Think f a)) m = asks s st t.shape k t.kept w f a m
 kept_step s k st p t (Finish w (Logic f)) m = logic_ends s st t.shape k t.kept (fit_of s k st t) w f (mod-lt f p) m
 kept_step s k st p t (Finish w (Think f a)) m = think_ends s st t.shape k t.kept w f a m
 kept_step s k st p t (Finish w (Path f a i)) m = path_ends s st t.shape k t.kept w f a i m
-kept_step s k st p t (Finish w (Draw f b)) m = draw_ends s st t.shape k t.kept (fit_of s k st t) w f b (mod-lt f p) m
+kept_step s k st p t (Finish w (Draw f b)) m = draw_ends s st t.shape k t.kept w f b m
 kept_step s k st p t (Emit f) m = emits s st t.shape k t.kept (fit_of s k st t) f (mod-lt f p)
 kept_step s k st p t Stop m = stops s st t.shape k t.kept
 kept_step s k st p t (Spread w (Think f a)) m = absurd m
@@ -224,9 +213,9 @@ tied_first s = record {
     next = λ f. by_eq_lt f 1 0 s.frames (λ x. IsBefore (if x then Queued else Absent) → Some 1 ≡ Some f) (λ d l b. ap Some (sym d)) (λ n b. absurd b);
     thoughts = λ f. by_eq_lt f 1 0 s.frames (λ x. IsOpen (if x then Queued else Absent) → [] ≡ among f s.agents (λ a. 0)) (λ d l b. absurd b) (λ n b. absurd b);
     asking = λ f a i e. let z : Absent ≡ Waits (suc i) = e in absurd cc;
-    drawn = λ i l. get_first s.slots i nothing l ∙ ap Some (sym (ap (drawn_in s (opening s)) (none_at s.slots i)));
+    turns = λ i l. get_first s.slots i None l ∙ ap Some (sym (ap (turn_in (opening s)) (none_at s.slots i)));
     agents = length_replicate s.agents None;
-    places = length_replicate s.slots nothing;
+    places = length_replicate s.slots None;
   };
 }
 

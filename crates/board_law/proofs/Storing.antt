@@ -14,7 +14,7 @@ use Rattle.board_law.specs.Stored.{Stored, part, asked, put_in, store}
 use Rattle.board_law.specs.Needed.{IsAsked}
 use Rattle.board_law.proofs.Places.{length_set, get_here, get_other, at_set, at_set_other}
 use Rattle.board_law.proofs.InOrder.{among_none, among_more}
-use Rattle.board_law.proofs.Kept.{Kept, IsBefore, IsOpen, is_over, thoughts_in, bands_in, drawn_once, drawn_in, before_next, open_next, open_of_wait, think_of_path, open_of_think, thoughts_same, drawn_same}
+use Rattle.board_law.proofs.Kept.{Kept, IsBefore, IsOpen, is_over, thoughts_in, turn_once, turn_in, before_next, open_next, open_of_wait, think_of_path, open_of_think, thoughts_same, turn_same}
 
 -- what waits has waited
 steady_wait : (old new : Phase) (k : ℕ) → IsSteady old new → new ≡ Waits k → old ≡ Waits k
@@ -47,7 +47,7 @@ module _ (s : Setup) (st : State) (inv : Shape s st) (k : Stored) (g : Kept s k 
     asking = λ f a i. by_same (Think f a) j (λ x. (if x then new else st.phase (Think f a)) ≡ Waits (suc i) → IsAsked k f a i (is_over (ended (put st.phase j new (Path f a i)))))
         (λ d h. absurd (n i h))
         (λ d h. subst (λ x. IsAsked k f a i (is_over x)) (sym (each (Path f a i))) (g.asking f a i h));
-    drawn = λ i l. g.drawn i l ∙ ap Some (drawn_same s st (moved st j new) (at k.slots i) (λ f h. (each (Logic f), λ b. each (Draw f b))));
+    turns = λ i l. g.turns i l ∙ ap Some (turn_same st (moved st j new) (at k.slots i) (λ f h. each (Logic f)));
     agents = g.agents;
     places = g.places;
   }
@@ -78,7 +78,7 @@ module _ (s : Setup) (st : State) (inv : Shape s st) (k : Stored) (g : Kept s k 
     next = g.next;
     thoughts = g.thoughts;
     asking = g.asking;
-    drawn = λ i l. g.drawn i l ∙ ap Some (drawn_same s st (after s st Stop) (at k.slots i) (λ f h. (refl, λ b. refl)));
+    turns = λ i l. g.turns i l ∙ ap Some (turn_same st (after s st Stop) (at k.slots i) (λ f h. refl));
     agents = g.agents;
     places = g.places;
   }
@@ -97,11 +97,11 @@ module _ (s : Setup) (st : State) (inv : Shape s st) (k : Stored) (g : Kept s k 
             (λ d b. absurd (d (open_next s st inv h b ∙ sym now)));
         asking = λ h a i e. subst (λ x. IsAsked k h a i (is_over x)) (sym (stay (Path h a i)))
             (g.asking h a i (steady_wait (st.phase (Think h a)) ((after s st (Spread w (Logic f))).phase (Think h a)) (suc i) (others s st inv (Spread w (Logic f)) m (Think h a) (λ d. cc)) e));
-        drawn = λ i l. ⊎_elim
-            (λ d. g.drawn i l ∙ ap Some (ap (drawn_in s st) (ap (at k.slots) d ∙ free)
-            ∙ (sym (ap (λ n. drawn_once n f (bands_in s (after s st (Spread w (Logic f))) f)) (stay (Logic f) ∙ ap ended q))
-            ∙ ap (drawn_in s (after s st (Spread w (Logic f)))) (sym (ap (at (slice_set k.slots (f % s.slots) (Some f))) d ∙ at_set k.slots (f % s.slots) (Some f) (omega arith))))))
-            (λ d. g.drawn i l ∙ ap Some (drawn_same s st (after s st (Spread w (Logic f))) (at k.slots i) (λ h e. (stay (Logic h), λ b. stay (Draw h b))) ∙ ap (drawn_in s (after s st (Spread w (Logic f)))) (sym (at_set_other k.slots (f % s.slots) i (Some f) d))))
+        turns = λ i l. ⊎_elim
+            (λ d. g.turns i l ∙ ap Some (ap (turn_in st) (ap (at k.slots) d ∙ free)
+            ∙ (sym (ap (λ n. turn_once n f) (stay (Logic f) ∙ ap ended q))
+            ∙ ap (turn_in (after s st (Spread w (Logic f)))) (sym (ap (at (slice_set k.slots (f % s.slots) (Some f))) d ∙ at_set k.slots (f % s.slots) (Some f) (omega arith))))))
+            (λ d. g.turns i l ∙ ap Some (turn_same st (after s st (Spread w (Logic f))) (at k.slots i) (λ h e. stay (Logic h)) ∙ ap (turn_in (after s st (Spread w (Logic f)))) (sym (at_set_other k.slots (f % s.slots) i (Some f) d))))
             (cases_eq i (f % s.slots));
         agents = g.agents;
         places = g.places;
@@ -120,7 +120,7 @@ module _ (s : Setup) (st : State) (inv : Shape s st) (k : Stored) (g : Kept s k 
         (λ d e x. here h c j d e (next_step i j x) (each (Path h c j)))
         (λ n x. get_other k.asking a c (Some (asked f a i false)) (λ e. n (open_next s st inv h (open_of_wait s st inv h c (suc j) x) ∙ sym now) e)
         ∙ subst (λ y. IsAsked k h c j (is_over y)) (sym (each (Path h c j))) (g.asking h c j x));
-    drawn = λ j l. g.drawn j l ∙ ap Some (drawn_same s st (record st { phase = ask st.phase f a i }) (at k.slots j) (λ h e. (refl, λ b. refl)));
+    turns = λ j l. g.turns j l ∙ ap Some (turn_same st (record st { phase = ask st.phase f a i }) (at k.slots j) (λ h e. refl));
     agents = length_set k.asking a (Some (asked f a i false)) ∙ g.agents;
     places = g.places;
   }
@@ -155,7 +155,7 @@ module _ (s : Setup) (st : State) (inv : Shape s st) (k : Stored) (g : Kept s k 
   pub asks : (w f a : ℕ) → May s st (Ask w (Think f a)) → Kept s (store s st k (Ask w (Think f a))) (after s st (Ask w (Think f a)))
   asks w f a m = subst (λ i. Kept s (record k { asking = slice_set k.asking a (Some (asked f a i false)) }) (record st { phase = ask st.phase f a i })) (sym (ap step_of m.1)) (ask_at w f a m.0 m.1 m.2)
 
-  -- ---- a Path, a Think, a Logic and a Draw end
+  -- ---- a Path, a Think and a Draw end
 
   pub path_ends : (w f a i : ℕ) → May s st (Finish w (Path f a i)) → Kept s (store s st k (Finish w (Path f a i))) (after s st (Finish w (Path f a i)))
   path_ends w f a i m = record {
@@ -165,7 +165,7 @@ module _ (s : Setup) (st : State) (inv : Shape s st) (k : Stored) (g : Kept s k 
         (λ e. here h c j (open_next s st inv h (open_of_wait s st inv h c (suc j) x) ∙ sym now) e x)
         (λ e. get_other k.asking a c (Some (asked f a i true)) e ∙ subst (λ y. IsAsked k h c j (is_over (ended y))) (sym (put_other st.phase (Path f a i) (Path h c j) Finished (λ y. e (ap agent_of y)))) (g.asking h c j x))
         (cases_eq c a);
-    drawn = λ j l. g.drawn j l ∙ ap Some (drawn_same s st (moved st (Path f a i) Finished) (at k.slots j) (λ h e. (refl, λ b. refl)));
+    turns = λ j l. g.turns j l ∙ ap Some (turn_same st (moved st (Path f a i) Finished) (at k.slots j) (λ h e. refl));
     agents = length_set k.asking a (Some (asked f a i true)) ∙ g.agents;
     places = g.places;
   }
@@ -203,7 +203,7 @@ module _ (s : Setup) (st : State) (inv : Shape s st) (k : Stored) (g : Kept s k 
         ∙ among_more f s.agents a (λ c. ended (put st.phase (Think f a) Finished (Think f c))) (λ c. ended (st.phase (Think f c))) job.1 (ap ended runs) (ap ended (put_here st.phase (Think f a) Finished))
         (λ c l n. ap ended (put_other st.phase (Think f a) (Think f c) Finished (λ e. n (ap agent_of e)))));
     asking = λ h c j. by_eq2 h f c a (λ x. (if x then Finished else st.phase (Think h c)) ≡ Waits (suc j) → IsAsked k h c j (is_over (ended (st.phase (Path h c j))))) (λ d e x. absurd cc) (λ n x. g.asking h c j x);
-    drawn = λ j l. g.drawn j l ∙ ap Some (drawn_same s st (moved st (Think f a) Finished) (at k.slots j) (λ h e. (refl, λ b. refl)));
+    turns = λ j l. g.turns j l ∙ ap Some (turn_same st (moved st (Think f a) Finished) (at k.slots j) (λ h e. refl));
     agents = g.agents;
     places = g.places;
   }
@@ -219,3 +219,13 @@ module _ (s : Setup) (st : State) (inv : Shape s st) (k : Stored) (g : Kept s k 
 
       now : f ≡ suc inv.turned
       now = open_next s st inv f opened
+
+  pub draw_ends : (w f b : ℕ) → May s st (Finish w (Draw f b)) → Kept s (store s st k (Finish w (Draw f b))) (after s st (Finish w (Draw f b)))
+  draw_ends w f b m = record {
+    next = g.next;
+    thoughts = g.thoughts;
+    asking = g.asking;
+    turns = λ j l. g.turns j l ∙ ap Some (turn_same st (moved st (Draw f b) Finished) (at k.slots j) (λ h e. refl));
+    agents = g.agents;
+    places = g.places;
+  }

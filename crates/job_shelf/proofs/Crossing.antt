@@ -8,7 +8,6 @@ use Rattle.job_shelf.specs.contracts.done.Done as Done
 use Rattle.job_shelf.specs.contracts.shown.Shown as Shown
 use Rattle.job_shelf.specs.contracts.asking.Asking as Asking
 use Rattle.job_shelf.specs.contracts.thoughts.Thoughts as Thoughts
-use Rattle.job_shelf.specs.contracts.drawn.Drawn as Drawn
 use Rattle.job_shelf.specs.contracts.spent.Spent as Spent
 use Rattle.job_shelf.specs.contracts.shelf.Shelf as Shelf
 
@@ -28,11 +27,8 @@ asking κ = search (session, parked, way, sendable, crosses) depth 40
 thoughts : (κ : NamedLft) → IsSend (Thoughts.the_row κ)
 thoughts κ = search (session, thought, sendable, crosses) depth 40
 
-drawn : (κ : NamedLft) → IsSend (Drawn.the_row κ)
-drawn κ = search (session, turn, band_mark, sendable, crosses) depth 40
-
 spent : (κ : NamedLft) → IsSend (Spent.the_row κ)
 spent κ = search (params, asking, sendable, crosses) depth 40
 
 pub shelf : (κ : NamedLft) → IsSend (Shelf.the_row κ)
-shelf κ = search (session, params, slots, asking, thoughts, drawn, spent, sendable, crosses) depth 40
+shelf κ = search (session, params, slots, asking, thoughts, turn, spent, sendable, crosses) depth 40

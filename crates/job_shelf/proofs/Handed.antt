@@ -1,12 +1,10 @@
 -- What is handed in has its place on the shelf, and what is parked is stored by the step at which its Think runs.
-use Rattle.std.proofs.Common.{◌≡◌, ◌≤◌, ◌<◌, ◌%◌, ℕ, false, Option, Some, None, length, slice_get, slice_set, sym, ap₂, ◌∙◌, arith}
-use Rattle.std.specs.Option.{IsSomeAnd}
+use Rattle.std.proofs.Common.{◌≡◌, ◌≤◌, ℕ, false, Some, slice_set, sym, ap₂, ◌∙◌, arith}
 use Rattle.job_core.specs.declared.names.JobName.TheVariants.{Think}
 use Rattle.job_core.specs.declared.names.Event.TheVariants.{Ask, Finish}
 use Rattle.job_core.specs.Core.{Setup, State, IsJob, step_of}
 use Rattle.board_law.specs.Stored.{asked}
-use Rattle.board_law.specs.Needed.{IsMissing, IsThere}
-use Rattle.frame_params.specs.Contents.{bands_in}
+use Rattle.board_law.specs.Needed.{IsThere}
 use Rattle.job_shelf.specs.Shelf.{Shelved, Stores, IsWanted, IsBeforeLast, sizes}
 use Rattle.job_shelf.specs.Dones.{job_done}
 use Rattle.job_shelf.specs.declared.done.Done.{Done}
@@ -17,18 +15,12 @@ pub parked_stores : (old new : Shelved) (st : State) (w f a i agent : ℕ) → a
 parked_stores old new st w f a i agent e p s =
     s ∙ ap₂ {C = Shelved} (λ x y. record old { stored = record old.stored { asking = slice_set old.stored.asking x (Some (asked f x y false)) } }) e (sym p)
 
-some_more : {X : Type 0} (o : Option X) (P Q : X → Type 0) → ((x : X) → P x → Q x) → IsSomeAnd o P → IsSomeAnd o Q
-some_more None P Q f h = h
-some_more (Some x) P Q f h = f x h
-
 -- what a job came to has its place
 pub wanted : (k : Shelved) (st : State) (w : ℕ) (done : Done) → IsThere (sizes k) st k.stored (Finish w (job_done done)) → IsWanted k done
 wanted k st w (Turned t) h = h
 wanted k st w (Thought t) h = h.1
 wanted k st w (Way q) h = h
-wanted k st w (Drawn b) h =
-    some_more (slice_get k.stored.drawn (b.frame % length k.stored.slots)) (λ d. (d.turn ≡ Some b.frame) × (IsMissing b.number d.bands × (length d.bands < bands_in k.game)))
-    (λ d. length d.bands < bands_in k.game) (λ d p. p.1.1) h
+wanted k st w (Drawn b) h = tt
 
 -- the frame of a run's job isn't the last that a number names
 pub before_last : (s : Setup) (done : Done) → s.frames ≤ 9999 → IsJob s (job_done done) → IsBeforeLast done

@@ -3,11 +3,11 @@ use Rattle.std.proofs.Common.{rules, ◌≡◌, ◌<◌, ◌%◌, ◌==◌, ℕ,
 use Rattle.std.specs.List.{All}
 use Rattle.game_rules.specs.Game.{Game}
 use Rattle.frame_params.specs.Names.{FrameOf, frame_of}
-use Rattle.board_law.specs.Stored.{Asked, Drawn, nothing, stored_first}
+use Rattle.board_law.specs.Stored.{Asked, stored_first}
 use Rattle.board_law.proofs.Places.{length_replicate}
 use Rattle.frame_params.specs.Slots.{cleared, slot_of, in_place, held_at}
 use Rattle.std.specs.Prelude.{IfSome, Bool, false, option_and_then, if◌then◌else◌}
-use Rattle.job_shelf.specs.Shelf.{AskedOf, PartsOf, DrawnOf, Shelved, IsOfGame, frame_name, stored_as, sizes}
+use Rattle.job_shelf.specs.Shelf.{AskedOf, PartsOf, Shelved, IsOfGame, frame_name, stored_as, sizes}
 
 -- ---- lists under names
 
@@ -63,57 +63,43 @@ get_index [] i d l = absurd (omega (arith, l))
 get_index (x ∷ xs) zero d l = refl
 get_index (x ∷ xs) (suc i) d l = get_index xs i d (omega (arith, l))
 
-pub get_named : {X Y : Type 0} (name : X → Y) (xs : List X) (i : ℕ) (d : X) → i < length xs → slice_get (map name xs) i ≡ Some (name (slice_index_or xs i d))
-get_named name [] i d l = absurd (omega (arith, l))
-get_named name (x ∷ xs) zero d l = refl
-get_named name (x ∷ xs) (suc i) d l = get_named name xs i d (omega (arith, l))
-
-pub all_index : {X : Type 0} (P : X → Type 0) (xs : List X) (i : ℕ) (d : X) → i < length xs → All P xs → P (slice_index_or xs i d)
-all_index P [] i d l h = absurd (omega (arith, l))
-all_index P (x ∷ xs) zero d l h = h 0 x (omega arith)
-all_index P (x ∷ xs) (suc i) d l h = all_index P xs i d (omega (arith, l)) (λ k e m. h (suc k) e (omega (arith, m)))
-
 -- ---- a shelf with something put in
 
 set_named : {X Y : Type 0} (name : X → Y) (xs : List X) (i k : ℕ) (x : X) (y : Y) → i ≡ k → name x ≡ y → map name (slice_set xs i x) ≡ slice_set (map name xs) k y
 set_named name xs i k x y e h = map_set name xs i x ∙ ap₂ (λ a b. slice_set (map name xs) a b) e h
 
-module _ (g : Game) (next : Option FrameOf) (slots : List (Option FrameOf)) (asking : List AskedOf) (thoughts : PartsOf) (drawn : List DrawnOf) where
+module _ (g : Game) (next : Option FrameOf) (slots : List (Option FrameOf)) (asking : List AskedOf) (thoughts : PartsOf) (turns : List (Option FrameOf)) where
   abbrev pub shelved : Shelved
-  shelved = record { game = g; stored = stored_as next slots asking thoughts drawn }
+  shelved = record { game = g; stored = stored_as next slots asking thoughts turns }
 
   pub with_asked : (i k : ℕ) (x : AskedOf) (y : Option Asked) → i ≡ k → x.asked ≡ y
-      → record { game = g; stored = stored_as next slots (slice_set asking i x) thoughts drawn } ≡ record shelved { stored = record shelved.stored { asking = slice_set shelved.stored.asking k y } }
+      → record { game = g; stored = stored_as next slots (slice_set asking i x) thoughts turns } ≡ record shelved { stored = record shelved.stored { asking = slice_set shelved.stored.asking k y } }
   with_asked i k x y e h = ap (λ l. record shelved { stored = record shelved.stored { asking = l } }) (set_named (λ (a : AskedOf). a.asked) asking i k x y e h)
 
-  pub with_drawn : (i k : ℕ) (x : DrawnOf) (y : Drawn) → i ≡ k → x.drawn ≡ y
-      → record { game = g; stored = stored_as next slots asking thoughts (slice_set drawn i x) } ≡ record shelved { stored = record shelved.stored { drawn = slice_set shelved.stored.drawn k y } }
-  with_drawn i k x y e h = ap (λ l. record shelved { stored = record shelved.stored { drawn = l } }) (set_named (λ (d : DrawnOf). d.drawn) drawn i k x y e h)
-
-  pub with_turn : (later : Option FrameOf) (f i k : ℕ) (x : DrawnOf) (y : Drawn) → frame_name later ≡ Some f → i ≡ k → x.drawn ≡ y
-      → record { game = g; stored = stored_as later slots asking thoughts (slice_set drawn i x) } ≡ record shelved { stored = record shelved.stored { next = Some f; drawn = slice_set shelved.stored.drawn k y } }
-  with_turn later f i k x y n e h = ap₂ (λ m l. record shelved { stored = record shelved.stored { next = m; drawn = l } }) n (set_named (λ (d : DrawnOf). d.drawn) drawn i k x y e h)
+  pub with_turn : (later : Option FrameOf) (f i k : ℕ) (x : Option FrameOf) (y : Option ℕ) → frame_name later ≡ Some f → i ≡ k → frame_name x ≡ y
+      → record { game = g; stored = stored_as later slots asking thoughts (slice_set turns i x) } ≡ record shelved { stored = record shelved.stored { next = Some f; turns = slice_set shelved.stored.turns k y } }
+  with_turn later f i k x y n e h = ap₂ (λ m l. record shelved { stored = record shelved.stored { next = m; turns = l } }) n (set_named frame_name turns i k x y e h)
 
   pub with_frame : (p : FrameOf) (f i k : ℕ) (t : PartsOf) → p.frame ≡ f → i ≡ k → t.parts ≡ []
-      → record { game = g; stored = stored_as None (slice_set slots i (Some p)) asking t drawn } ≡ record shelved { stored = record shelved.stored { next = None; slots = slice_set shelved.stored.slots k (Some f); thoughts = [] } }
+      → record { game = g; stored = stored_as None (slice_set slots i (Some p)) asking t turns } ≡ record shelved { stored = record shelved.stored { next = None; slots = slice_set shelved.stored.slots k (Some f); thoughts = [] } }
   with_frame p f i k t n e h = ap₂ (λ l m. record shelved { stored = record shelved.stored { next = None; slots = l; thoughts = m } }) (set_named frame_name slots i k (Some p) (Some f) e (ap Some n)) h
 
-  pub shown : (i j k : ℕ) (x : DrawnOf) (y : Drawn) → i ≡ k → j ≡ k → x.drawn ≡ y
-      → record { game = g; stored = stored_as next (slice_set slots i None) asking thoughts (slice_set drawn j x) } ≡ record shelved { stored = record shelved.stored { slots = slice_set shelved.stored.slots k None; drawn = slice_set shelved.stored.drawn k y } }
-  shown i j k x y e d h = ap₂ (λ l m. record shelved { stored = record shelved.stored { slots = l; drawn = m } }) (set_named frame_name slots i k None None e refl) (set_named (λ (d : DrawnOf). d.drawn) drawn j k x y d h)
+  pub shown : (i j k : ℕ) → i ≡ k → j ≡ k
+      → record { game = g; stored = stored_as next (slice_set slots i None) asking thoughts (slice_set turns j None) } ≡ record shelved { stored = record shelved.stored { slots = slice_set shelved.stored.slots k None; turns = slice_set shelved.stored.turns k None } }
+  shown i j k e d = ap₂ (λ l m. record shelved { stored = record shelved.stored { slots = l; turns = m } }) (set_named frame_name slots i k None None e refl) (set_named frame_name turns j k None None d refl)
 
 -- ---- the first of all, and a slot that is freed
 
 pub first_is : (g : Game) (slots agents : ℕ) → agents ≡ length g.trees
-    → stored_as (Some (frame_of g 1)) (replicate slots None) (replicate agents (record { game = g; asked = None })) (record { game = g; parts = [] }) (replicate slots (record { game = g; drawn = nothing }))
-    ≡ stored_first (sizes (record { game = g; stored = stored_as (Some (frame_of g 1)) (replicate slots None) (replicate agents (record { game = g; asked = None })) (record { game = g; parts = [] }) (replicate slots (record { game = g; drawn = nothing })) }))
+    → stored_as (Some (frame_of g 1)) (replicate slots None) (replicate agents (record { game = g; asked = None })) (record { game = g; parts = [] }) (replicate slots None)
+    ≡ stored_first (sizes (record { game = g; stored = stored_as (Some (frame_of g 1)) (replicate slots None) (replicate agents (record { game = g; asked = None })) (record { game = g; parts = [] }) (replicate slots None) }))
 first_is g slots agents e =
     let many : length (map frame_name (replicate slots None)) ≡ slots = map_length frame_name (replicate slots None) ∙ length_replicate slots None in
-    ap₂ (λ l (m : List (Option Asked) × List Drawn). record { next = Some 1; slots = l; asking = m.0; thoughts = []; drawn = m.1 })
+    ap₂ (λ l (m : List (Option Asked) × List (Option ℕ)). record { next = Some 1; slots = l; asking = m.0; thoughts = []; turns = m.1 })
     (map_replicate frame_name slots None ∙ ap (λ n. replicate n None) (sym many))
     (ap₂ (λ x y. (x, y))
     (map_replicate (λ (a : AskedOf). a.asked) agents (record { game = g; asked = None }) ∙ ap (λ n. replicate n None) e)
-    (map_replicate (λ (d : DrawnOf). d.drawn) slots (record { game = g; drawn = nothing }) ∙ ap (λ n. replicate n nothing) (sym many)))
+    (map_replicate frame_name slots None ∙ ap (λ n. replicate n None) (sym many)))
 
 pub cleared_is : (xs : List (Option FrameOf)) (g : Game) (f : ℕ) → All (IsOfGame g) xs → slice_get (map frame_name xs) (f % length (map frame_name xs)) ≡ Some (Some f) → cleared xs f ≡ slice_set xs (f % length xs) None
 cleared_is xs g f h e =

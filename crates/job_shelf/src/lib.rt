@@ -3,7 +3,6 @@
 
 mod asking;
 mod done;
-mod drawn;
 mod shelf;
 mod shown;
 mod spent;

@@ -2,22 +2,20 @@ ghost use Rattle.std.specs.Prelude.{◌≡◌, ◌<◌, ◌≤◌, ◌%◌, ◌+
 ghost use Rattle.std.specs.Option.{IsSomeAnd};
 ghost use Rattle.job_core.specs.Core.{State};
 ghost use Rattle.job_core.specs.declared.names.Event.TheVariants.{Spread, Finish, Emit};
-ghost use Rattle.job_core.specs.declared.names.JobName.TheVariants.{Logic, Path, Draw};
-ghost use Rattle.board_law.specs.Stored.{stored_first, asked, nothing, turned, parts};
-ghost use Rattle.board_law.specs.Needed.{HasParts, IsInSlot, IsAsked};
+ghost use Rattle.job_core.specs.declared.names.JobName.TheVariants.{Logic, Path};
+ghost use Rattle.board_law.specs.Stored.{stored_first, asked};
+ghost use Rattle.board_law.specs.Needed.{HasParts, HasTurn, IsInSlot, IsAsked};
 ghost use Rattle.frame_params.specs.Names.{frame_of};
-ghost use Rattle.frame_params.specs.Contents.{bands_in};
 ghost use Rattle.frame_tasks.specs.Tasks.{IsTaskAt};
 ghost use Rattle.job_shelf.specs.Shelf.{Stores, IsWanted, IsBeforeLast, next_done, sizes};
 ghost use Rattle.job_shelf.specs.Dones.{game_done, job_done};
 
 use super::asking::Asking;
 use super::done::Done;
-use super::drawn::Drawn;
 use super::shown::Shown;
 use super::spent::Spent;
 use super::thoughts::Thoughts;
-use frame_params::{BandMark, FrameParams, LogicTask, Slots, Turn, Way};
+use frame_params::{DrawTask, FrameParams, LogicTask, Slots, Turn, Way};
 use frame_tasks::{Parked, PathTask, Task, ThinkTask};
 use game_session::Session;
 use job_core::names::JobName;
@@ -35,7 +33,7 @@ pub struct Shelf<'t> {
     asking: Vec<Asking<'t>>,
     thoughts: Thoughts<'t>,
     // Of the frames in the slots.
-    drawn: Vec<Drawn<'t>>,
+    turns: Vec<Option<Turn<'t>>>,
     // What is left over of the last events, until somebody takes it.
     spent: Spent<'t>,
 }
@@ -48,7 +46,7 @@ impl<'t> Drop for Shelf<'t> {
             slots: _,
             asking: _,
             thoughts: _,
-            drawn: _,
+            turns: _,
             spent: _,
         } = self;
     }
@@ -62,9 +60,9 @@ impl<'t> Model for Shelf<'t> {
 
     ghost coded = { shelved_code };
 
-    ghost view = { λ s. record { game = s.session.now; stored = stored_as s.next s.slots s.asking.items s.thoughts s.drawn.items } };
+    ghost view = { λ s. record { game = s.session.now; stored = stored_as s.next s.slots s.asking.items s.thoughts s.turns.items } };
 
-    ghost invariant = { λ s. IsShelf s.session.now s.next s.slots s.asking.items s.thoughts s.drawn.items };
+    ghost invariant = { λ s. IsShelf s.session.now s.next s.slots s.asking.items s.thoughts s.turns.items };
 }
 
 fn no_questions<'t>(
@@ -81,20 +79,14 @@ fn no_questions<'t>(
     Ok(asking)
 }
 
-fn nothing_drawn<'t>(
-    alloc: Global,
-    session: &'t Session,
-    slots: u32,
-    bands: u32,
-) -> Result<Vec<Drawn<'t>>, AllocError>
-    requires { bands ≡ bands_in session.now }
-    ensures { IfOk result (λ drawn. drawn.items ≡ replicate slots (record { game = session.now; drawn = nothing })) }
+fn no_turns<'t>(alloc: Global, slots: u32) -> Result<Vec<Option<Turn<'t>>>, AllocError>
+    ensures { IfOk result (λ turns. turns.items ≡ replicate slots None) }
 {
-    let mut drawn = Vec::with_capacity(alloc, slots as usize)?;
+    let mut turns = Vec::with_capacity(alloc, slots as usize)?;
     'slots: for _slot in 0..slots {
-        drawn.push(Drawn::new(alloc, session, bands)?)?;
+        turns.push(None)?;
     }
-    Ok(drawn)
+    Ok(turns)
 }
 
 /// The parameters of the frame after a turn's, where a job came to a turn.
@@ -109,17 +101,15 @@ pub fn next_of<'t>(alloc: Global, done: &Done<'t>) -> Result<Option<FrameParams<
 }
 
 impl<'t> Shelf<'t> {
-    /// A shelf of nothing but the parameters of the first frame, with room for each slot, agent and band of a frame.
+    /// A shelf of nothing but the parameters of the first frame, with room for each slot and agent.
     pub fn new(
         alloc: Global,
         session: &'t Session,
         slots: u32,
         agents: u32,
-        bands: u32,
     ) -> Result<Shelf<'t>, AllocError>
         requires slots { 1 ≤ slots }
         requires agents { agents ≡ length session.now.trees }
-        requires bands { bands ≡ bands_in session.now }
         ensures game { IfOk result (λ shelf. shelf.game ≡ session.now) }
         ensures slots { IfOk result (λ shelf. (sizes shelf).slots ≡ slots) }
         ensures first { IfOk result (λ shelf. shelf.stored ≡ stored_first (sizes shelf)) }
@@ -130,7 +120,7 @@ impl<'t> Shelf<'t> {
             slots: Slots::new(alloc, slots)?,
             asking: no_questions(alloc, session, agents)?,
             thoughts: Thoughts::new(alloc, session, agents)?,
-            drawn: nothing_drawn(alloc, session, slots, bands)?,
+            turns: no_turns(alloc, slots)?,
             spent: Spent::nothing(),
         })
     }
@@ -154,11 +144,15 @@ impl<'t> Shelf<'t> {
         &self.asking[agent as usize]
     }
 
-    // What came of the frame in a frame's slot.
-    fn drawn_of(&self, frame: u32) -> &Drawn<'t>
-        ensures { (result.now.game ≡ self.now.game) × (slice_get self.now.stored.drawn (frame % length self.now.stored.slots) ≡ Some result.now.drawn) }
+    // The turn of a frame that is not shown yet.
+    fn turn_of(&self, frame: u32) -> &Turn<'t>
+        requires { HasTurn (sizes self.now) self.now.stored frame }
+        ensures { result.now ≡ frame_of self.now.game frame }
     {
-        &self.drawn[frame as usize % self.drawn.len()]
+        match &self.turns[frame as usize % self.turns.len()] {
+            Some(turn) => turn,
+            None => unreachable!(),
+        }
     }
 
     // The task of a frame's logic that stands at this step.
@@ -215,7 +209,7 @@ impl<'t> Shelf<'t> {
                 self.asking_of(agent).parked(),
             )?)),
             JobName::Draw { frame, band } => {
-                Ok(Task::Draw(self.drawn_of(frame).draw(alloc, frame, band)?))
+                Ok(Task::Draw(DrawTask::of(alloc, self.turn_of(frame), band)?))
             }
         }
     }
@@ -265,18 +259,19 @@ impl<'t> Shelf<'t> {
                 self.learn(alloc, &way);
                 self.answer(way);
             }
-            Done::Drawn(mark) => self.mark(mark),
+            // That a frame is drawn is known from its jobs.
+            Done::Drawn(_) => {}
         }
     }
 
     fn turned(&mut self, turn: Turn<'t>, next: Option<FrameParams<'t>>)
         requires game { turn.game ≡ self.old.game }
-        requires nothing { slice_get self.old.stored.drawn (turn.frame % length self.old.stored.slots) ≡ Some nothing }
+        requires free { slice_get self.old.stored.turns (turn.frame % length self.old.stored.slots) ≡ Some None }
         requires next { next ≡ Some (frame_of turn.game (turn.frame + 1)) }
         ensures { (st : State) (w : ℕ) → Stores self.old self.new st (Finish w (Logic turn.entry.frame)) }
     {
-        let at = turn.frame() as usize % self.drawn.len();
-        self.drawn[at].turned(turn);
+        let at = turn.frame() as usize % self.turns.len();
+        self.turns[at] = Some(turn);
         self.next = next;
     }
 
@@ -297,24 +292,19 @@ impl<'t> Shelf<'t> {
         self.asking[agent as usize].answer(way);
     }
 
-    fn mark(&mut self, mark: BandMark<'t>)
-        requires { IsSomeAnd (slice_get self.old.stored.drawn (mark.frame % length self.old.stored.slots)) (λ d. length d.bands < bands_in self.old.game) }
-        ensures { (st : State) (w : ℕ) → Stores self.old self.new st (Finish w (Draw mark.entry.frame mark.entry.number)) }
-    {
-        let at = mark.frame() as usize % self.drawn.len();
-        self.drawn[at].keep(mark);
-    }
-
     /// Takes out a frame that is shown; nothing stands in its place.
     pub fn show(&mut self, frame: u32) -> Shown<'t>
         requires slot { IsInSlot (sizes self.old) self.old.stored frame }
-        requires drawn { slice_get self.old.stored.drawn (frame % length self.old.stored.slots) ≡ Some (turned frame (parts frame (bands_in self.old.game))) }
+        requires turn { HasTurn (sizes self.old) self.old.stored frame }
         ensures shown { result ≡ frame_of self.old.game frame }
         ensures stored { (st : State) → Stores self.old self.new st (Emit frame) }
     {
         let params = self.slots.take(frame);
-        let at = frame as usize % self.drawn.len();
+        let at = frame as usize % self.turns.len();
         self.spent.params = params;
-        self.drawn[at].show(frame)
+        match self.turns[at].take() {
+            Some(turn) => Shown { turn },
+            None => unreachable!(),
+        }
     }
 }

@@ -16,8 +16,8 @@ emit-requires c = next c.self.inside.session.now c.self.inside.jobs c.self.insid
 pub show-requires-clause-slot : goal.show-requires-clause-slot
 show-requires-clause-slot c = (there_for c.self.inside.session.now c.self.inside.jobs c.self.inside.shelf c.self.invariant (Emit c.in-Ok.frame) (known c.self.inside.session.now c.self.inside.jobs c.self.inside.shelf c.self.invariant (IsToShow (Ok c.in-Ok.frame)) c.in-Ok.ensures)).0
 
-pub show-requires-clause-drawn : goal.show-requires-clause-drawn
-show-requires-clause-drawn c = (there_for c.self.inside.session.now c.self.inside.jobs c.self.inside.shelf c.self.invariant (Emit c.in-Ok.frame) (known c.self.inside.session.now c.self.inside.jobs c.self.inside.shelf c.self.invariant (IsToShow (Ok c.in-Ok.frame)) c.in-Ok.ensures)).1
+pub show-requires-clause-turn : goal.show-requires-clause-turn
+show-requires-clause-turn c = (there_for c.self.inside.session.now c.self.inside.jobs c.self.inside.shelf c.self.invariant (Emit c.in-Ok.frame) (known c.self.inside.session.now c.self.inside.jobs c.self.inside.shelf c.self.invariant (IsToShow (Ok c.in-Ok.frame)) c.in-Ok.ensures)).1
 
 pub returns-in_default-clause-refused : goal.returns-in_default-clause-refused
 returns-in_default-clause-refused c = subst (λ b. IsEmitRefused b OutOfMemory) c.self.view_is (c.in-Ok.frame, (known c.self.inside.session.now c.self.inside.jobs c.self.inside.shelf c.self.invariant (IsToShow (Ok c.in-Ok.frame)) c.in-Ok.ensures))
