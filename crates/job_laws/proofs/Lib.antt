@@ -1,0 +1,4 @@
+mod Picks
+mod Sorted
+mod Priorities
+mod Draws
