@@ -42,28 +42,36 @@ fn pops_frames<A: Allocator>(stack: &mut Stack<'_, Global, A>, numbers: &[u16]) 
     stack.top().is_none() && popped(stack).is_none()
 }
 
-const NINE_FRAMES: [u16; 9] = [8, 7, 6, 5, 4, 3, 2, 1, 0];
-
-// How deep a stack's copy in an arena is, and whether it has the nine frames.
-fn copied_into_an_arena(alloc: Global, stack: &Stack<'_, Global, Global>) -> Option<(u32, bool)> {
+// How deep a stack's copy in an arena is, and whether it has these frames.
+fn copied_into_an_arena(
+    alloc: Global,
+    stack: &Stack<'_, Global, Global>,
+    numbers: &[u16],
+) -> Option<(u32, bool)> {
     let arena = Bump::new(alloc);
     let mut copy = stack.copy_in(&arena).ok()?;
     let depth = copy.depth();
-    Some((depth, pops_frames(&mut copy, &NINE_FRAMES)))
+    Some((depth, pops_frames(&mut copy, numbers)))
 }
 
-// The same of the copy, and then of the stack itself.
-fn nine_frames_twice(alloc: Global) -> Option<[(u32, bool); 2]> {
+// The same of the copy of a stack of so many frames, and then of the stack itself.
+fn frames_twice(alloc: Global, count: u64, numbers: &[u16]) -> Option<[(u32, bool); 2]> {
     let node = Node::Wait(1);
-    let mut stack = stacked(alloc, &node, 9)?;
-    let copy = copied_into_an_arena(alloc, &stack)?;
+    let mut stack = stacked(alloc, &node, count)?;
+    let copy = copied_into_an_arena(alloc, &stack, numbers)?;
     let depth = stack.depth();
-    Some([copy, (depth, pops_frames(&mut stack, &NINE_FRAMES))])
+    Some([copy, (depth, pops_frames(&mut stack, numbers))])
 }
+
+// Depths, and the numbers of the frames from the top.
+const STACKS: [(u32, &[u16]); 3] = [(0, &[]), (2, &[1, 0]), (9, &[8, 7, 6, 5, 4, 3, 2, 1, 0])];
 
 #[test]
-fn nine_frames_are_copied_into_an_arena(rt: HostRuntime) {
-    assert!(rt; nine_frames_twice(rt.alloc()) == Some([(9, true), (9, true)]));
+fn frames_are_copied_into_an_arena(rt: HostRuntime) {
+    for (depth, numbers) in STACKS {
+        let found = frames_twice(rt.alloc(), u64::from(depth), numbers);
+        assert!(rt; found == Some([(depth, true); 2]), "{depth} frames");
+    }
 }
 
 // Takes all that is left of a heap.
