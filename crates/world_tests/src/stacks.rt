@@ -109,25 +109,27 @@ fn pops<A: Allocator>(pile: &mut Pile<u64, A>, numbers: &[u64]) -> bool {
 
 const NINE: [u64; 9] = [8, 7, 6, 5, 4, 3, 2, 1, 0];
 
-// What nine pushes answer where all memory is taken after the first, the depth then, what the ninth answers once the
-// memory is given back, and whether the nine are taken off.
-fn pushes_without_memory(alloc: Global) -> Option<([Result<(), u64>; 4], u32, bool)> {
+// What nine pushes answer where all memory is taken after the first, the depth and the top then, what the ninth answers once
+// the memory is given back, and whether the nine are taken off.
+fn pushes_without_memory(
+    alloc: Global,
+) -> Option<([Result<(), u64>; 4], (u32, Option<u64>), bool)> {
     let heap = LocalHeap::new(alloc, 400).ok()?;
     let mut pile = Pile::empty(&heap);
     let first = push_all(&mut pile, &[0]);
     let filled = fill(alloc, &heap)?;
     let others = push_all(&mut pile, &[1, 2, 3, 4, 5, 6, 7]);
     let ninth = push_all(&mut pile, &[8]);
-    let depth = pile.depth();
+    let left = (pile.depth(), pile.top().copied());
     drop(filled);
     let again = push_all(&mut pile, &[8]);
-    Some(([first, others, ninth, again], depth, pops(&mut pile, &NINE)))
+    Some(([first, others, ninth, again], left, pops(&mut pile, &NINE)))
 }
 
 #[test]
 fn the_ninth_push_needs_memory(rt: HostRuntime) {
     let answers = [Ok(()), Ok(()), Err(8), Ok(())];
-    assert!(rt; pushes_without_memory(rt.alloc()) == Some((answers, 8, true)));
+    assert!(rt; pushes_without_memory(rt.alloc()) == Some((answers, (8, Some(7)), true)));
 }
 
 // What is replaced on top of nothing and of 1 and 2, and whether those that are there then are taken off.
