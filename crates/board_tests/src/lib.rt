@@ -6,6 +6,8 @@ mod by_calls;
 #[cfg(test)]
 mod by_tasks;
 #[cfg(test)]
+mod frame_slots;
+#[cfg(test)]
 mod refusals;
 #[cfg(test)]
 mod sessions;
