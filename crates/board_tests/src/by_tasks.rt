@@ -23,13 +23,15 @@ fn asks<'t>(alloc: Global, params: &FrameParams<'t>) -> Option<Parked<'t>>
     requires { length params.now.game.trees ≡ 1 }
     ensures { IfSome result (λ parked. parked ≡ question_of params.now.game params.now.frame 0 0) }
 {
-    let task = ThinkTask::start(alloc, params, 0).ok()?;
+    let Ok(task) = ThinkTask::start(alloc, params, 0) else {
+        return None;
+    };
     if task.name() != THINK {
         return None;
     }
-    match task.work(alloc).ok()? {
-        ThinkStep::Asks(parked) => Some(parked),
-        ThinkStep::Ended(_) => None,
+    match task.work(alloc) {
+        Ok(ThinkStep::Asks(parked)) => Some(parked),
+        Ok(ThinkStep::Ended(_)) | Err(_) => None,
     }
 }
 
