@@ -1,5 +1,5 @@
 use game_session::Script;
-use grid_world::{Signal, Signals};
+use grid_world::{Signal, Signals, World};
 use level_text::read_script;
 use std::alloc::Global;
 
@@ -31,6 +31,23 @@ fn signals_change_in_their_frames(rt: HostRuntime) {
         assert!(rt; found == Some(true), "in frame {frame}");
     }
     assert!(rt; Script::empty(rt.alloc()).signals(1) == Signals::off());
+}
+
+// How the door beside an agent is drawn with the signals of a frame of a script.
+fn door_in(alloc: Global, script: &[u8], frame: u32) -> Option<u8> {
+    let mut rows = Vec::new(alloc);
+    rows.push(String::from_str(alloc, "Aa").ok()?).ok()?;
+    let world = World::from_rows(alloc, &rows).ok()?;
+    let signals = script_of(alloc, script)?.signals(frame);
+    world.glyph_at(signals, 1, 0)
+}
+
+#[test]
+fn a_door_is_drawn_open_and_shut(rt: HostRuntime) {
+    for (frame, glyph) in [(1, b'/'), (3, b'a')] {
+        let found = door_in(rt.alloc(), b"1 on a\n3 off a\n", frame);
+        assert!(rt; found == Some(glyph), "in frame {frame}");
+    }
 }
 
 fn are_same(one: Option<Script>, other: Option<Script>) -> Option<bool> {

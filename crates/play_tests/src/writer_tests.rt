@@ -9,11 +9,24 @@ use std::test::Fail;
 use std::thread::Threads;
 use task_board::Settings;
 
-/// Takes one byte a call, so many in all.
+/// Takes one byte a call, so many in all. A call too many fails, or takes none.
 #[derive(Drop)]
 struct Narrow {
     bytes: Vec<u8>,
     room: usize,
+    takes_none: bool,
+    flush_fails: bool,
+}
+
+impl Narrow {
+    fn new(alloc: Global, room: usize) -> Narrow {
+        Narrow {
+            bytes: Vec::new(alloc),
+            room,
+            takes_none: false,
+            flush_fails: false,
+        }
+    }
 }
 
 impl Write for Narrow {
@@ -22,6 +35,9 @@ impl Write for Narrow {
             return Ok(0);
         }
         if self.bytes.len() >= self.room {
+            if self.takes_none {
+                return Ok(0);
+            }
             return Err(io::Error::from(io::ErrorKind::Other));
         }
         self.bytes.push(buf[0])?;
@@ -29,6 +45,9 @@ impl Write for Narrow {
     }
 
     fn flush(&mut self) -> io::Result<()> {
+        if self.flush_fails {
+            return Err(io::Error::from(io::ErrorKind::Other));
+        }
         Ok(())
     }
 }
@@ -59,14 +78,35 @@ fn the_first_bytes_are_written(rt: HostRuntime) -> Result<(), Fail> {
     let alloc = rt.alloc();
     for workers in [1, 2, 16] {
         for room in 0..66usize {
-            let mut out = Narrow {
-                bytes: Vec::new(alloc),
-                room,
-            };
+            let mut out = Narrow::new(alloc, room);
             let frames = failed_after(&rt, alloc, workers, &mut out)?;
             assert_eq!(rt; frames as usize, room / 22, "{room}");
             assert_eq!(rt; out.bytes.as_slice(), &WALK_TEXT[..room], "{room}");
         }
+    }
+    Ok(())
+}
+
+#[test]
+fn a_flush_fails_behind_all_frames(rt: HostRuntime) -> Result<(), Fail> {
+    let alloc = rt.alloc();
+    for workers in [1, 2, 16] {
+        let mut out = Narrow::new(alloc, 66);
+        out.flush_fails = true;
+        assert_eq!(rt; failed_after(&rt, alloc, workers, &mut out)?, 3);
+        assert_eq!(rt; out.bytes.as_slice(), WALK_TEXT);
+    }
+    Ok(())
+}
+
+#[test]
+fn nothing_is_taken_at_the_first_call(rt: HostRuntime) -> Result<(), Fail> {
+    let alloc = rt.alloc();
+    for workers in [1, 2, 16] {
+        let mut out = Narrow::new(alloc, 0);
+        out.takes_none = true;
+        assert_eq!(rt; failed_after(&rt, alloc, workers, &mut out)?, 0);
+        assert!(rt; out.bytes.is_empty());
     }
     Ok(())
 }

@@ -42,28 +42,36 @@ fn pops_frames<A: Allocator>(stack: &mut Stack<'_, Global, A>, numbers: &[u16]) 
     stack.top().is_none() && popped(stack).is_none()
 }
 
-const NINE_FRAMES: [u16; 9] = [8, 7, 6, 5, 4, 3, 2, 1, 0];
-
-// How deep a stack's copy in an arena is, and whether it has the nine frames.
-fn copied_into_an_arena(alloc: Global, stack: &Stack<'_, Global, Global>) -> Option<(u32, bool)> {
+// How deep a stack's copy in an arena is, and whether it has these frames.
+fn copied_into_an_arena(
+    alloc: Global,
+    stack: &Stack<'_, Global, Global>,
+    numbers: &[u16],
+) -> Option<(u32, bool)> {
     let arena = Bump::new(alloc);
     let mut copy = stack.copy_in(&arena).ok()?;
     let depth = copy.depth();
-    Some((depth, pops_frames(&mut copy, &NINE_FRAMES)))
+    Some((depth, pops_frames(&mut copy, numbers)))
 }
 
-// The same of the copy, and then of the stack itself.
-fn nine_frames_twice(alloc: Global) -> Option<[(u32, bool); 2]> {
+// The same of the copy of a stack of so many frames, and then of the stack itself.
+fn frames_twice(alloc: Global, count: u64, numbers: &[u16]) -> Option<[(u32, bool); 2]> {
     let node = Node::Wait(1);
-    let mut stack = stacked(alloc, &node, 9)?;
-    let copy = copied_into_an_arena(alloc, &stack)?;
+    let mut stack = stacked(alloc, &node, count)?;
+    let copy = copied_into_an_arena(alloc, &stack, numbers)?;
     let depth = stack.depth();
-    Some([copy, (depth, pops_frames(&mut stack, &NINE_FRAMES))])
+    Some([copy, (depth, pops_frames(&mut stack, numbers))])
 }
+
+// Depths, and the numbers of the frames from the top.
+const STACKS: [(u32, &[u16]); 3] = [(0, &[]), (2, &[1, 0]), (9, &[8, 7, 6, 5, 4, 3, 2, 1, 0])];
 
 #[test]
-fn nine_frames_are_copied_into_an_arena(rt: HostRuntime) {
-    assert!(rt; nine_frames_twice(rt.alloc()) == Some([(9, true), (9, true)]));
+fn frames_are_copied_into_an_arena(rt: HostRuntime) {
+    for (depth, numbers) in STACKS {
+        let found = frames_twice(rt.alloc(), u64::from(depth), numbers);
+        assert!(rt; found == Some([(depth, true); 2]), "{depth} frames");
+    }
 }
 
 // Takes all that is left of a heap.
@@ -101,25 +109,27 @@ fn pops<A: Allocator>(pile: &mut Pile<u64, A>, numbers: &[u64]) -> bool {
 
 const NINE: [u64; 9] = [8, 7, 6, 5, 4, 3, 2, 1, 0];
 
-// What nine pushes answer where all memory is taken after the first, the depth then, what the ninth answers once the
-// memory is given back, and whether the nine are taken off.
-fn pushes_without_memory(alloc: Global) -> Option<([Result<(), u64>; 4], u32, bool)> {
+// What nine pushes answer where all memory is taken after the first, the depth and the top then, what the ninth answers once
+// the memory is given back, and whether the nine are taken off.
+fn pushes_without_memory(
+    alloc: Global,
+) -> Option<([Result<(), u64>; 4], (u32, Option<u64>), bool)> {
     let heap = LocalHeap::new(alloc, 400).ok()?;
     let mut pile = Pile::empty(&heap);
     let first = push_all(&mut pile, &[0]);
     let filled = fill(alloc, &heap)?;
     let others = push_all(&mut pile, &[1, 2, 3, 4, 5, 6, 7]);
     let ninth = push_all(&mut pile, &[8]);
-    let depth = pile.depth();
+    let left = (pile.depth(), pile.top().copied());
     drop(filled);
     let again = push_all(&mut pile, &[8]);
-    Some(([first, others, ninth, again], depth, pops(&mut pile, &NINE)))
+    Some(([first, others, ninth, again], left, pops(&mut pile, &NINE)))
 }
 
 #[test]
 fn the_ninth_push_needs_memory(rt: HostRuntime) {
     let answers = [Ok(()), Ok(()), Err(8), Ok(())];
-    assert!(rt; pushes_without_memory(rt.alloc()) == Some((answers, 8, true)));
+    assert!(rt; pushes_without_memory(rt.alloc()) == Some((answers, (8, Some(7)), true)));
 }
 
 // What is replaced on top of nothing and of 1 and 2, and whether those that are there then are taken off.

@@ -1,0 +1,54 @@
+// What no clause says: that there are slots for frames where there is memory.
+use crate::walk::walk;
+use frame_params::{FrameParams, Slots};
+use game_session::Session;
+use std::alloc::Global;
+
+// The frame of what stands in a frame's slot for it.
+fn frame_at(slots: &Slots, frame: u32) -> Option<u32> {
+    match slots.at(frame) {
+        Some(params) => Some(params.frame()),
+        None => None,
+    }
+}
+
+// Which of the frames 1 to 3 stand in their slots.
+fn filled(slots: &Slots) -> [Option<u32>; 3] {
+    [frame_at(slots, 1), frame_at(slots, 2), frame_at(slots, 3)]
+}
+
+// Takes the frame of a slot out.
+fn taken(slots: &mut Slots, frame: u32) -> Option<u32> {
+    match slots.take(frame) {
+        Some(params) => Some(params.frame()),
+        None => None,
+    }
+}
+
+// What two slots hold when they are new, once the first frame is put in, once the third is looked for in the same slot, and
+// once the first is taken out.
+fn steps(alloc: Global, session: &Session) -> Option<[[Option<u32>; 3]; 4]> {
+    let params = FrameParams::first(alloc, session).ok()?;
+    let mut slots = Slots::new(alloc, 2).ok()?;
+    let free = filled(&slots);
+    slots.fill(params);
+    let full = filled(&slots);
+    let third = taken(&mut slots, 3);
+    let kept = filled(&slots);
+    let first = taken(&mut slots, 1);
+    if third.is_some() || first != Some(1) {
+        return None;
+    }
+    Some([free, full, kept, filled(&slots)])
+}
+
+fn all_steps(alloc: Global) -> Option<[[Option<u32>; 3]; 4]> {
+    let session = walk(alloc)?;
+    steps(alloc, &session)
+}
+
+#[test]
+fn slots_hold_the_frames_under_way(rt: HostRuntime) {
+    let (free, full) = ([None; 3], [Some(1), None, None]);
+    assert!(rt; all_steps(rt.alloc()) == Some([free, full, full, free]));
+}

@@ -1,0 +1,5 @@
+//! Words of the program by example: tests alone.
+#![tactic(auto)]
+
+#[cfg(test)]
+mod readings;
