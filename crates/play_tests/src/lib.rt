@@ -1,5 +1,5 @@
-//! What no clause of play_run says, in tests alone: that jobs are under way at once, and when the gate is asked. There are no
-//! contracts here, and so no wrong bodies.
+//! What no clause of a run says, in tests alone: that jobs are under way at once, when the gate is asked, and which words are
+//! taken. There are no contracts here, and so no wrong bodies.
 #![tactic(auto)]
 
 #[cfg(test)]
@@ -12,5 +12,7 @@ mod meeting_tests;
 mod recording_tests;
 #[cfg(test)]
 mod sharing_tests;
+#[cfg(test)]
+mod words_tests;
 #[cfg(test)]
 mod writer_tests;

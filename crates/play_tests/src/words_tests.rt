@@ -1,6 +1,6 @@
 // What no clause says: that right words are taken, and words that lack a number are refused.
-use job_machine::Settings;
 use std::alloc::Global;
+use task_board::Settings;
 use words::{Words, WordsFault, read_words};
 
 fn read(alloc: Global, words: &[&str]) -> Option<Result<Words, WordsFault>> {
