@@ -6,7 +6,7 @@ ghost use Rattle.btworld_c.specs.Readings.{IsText, IsTooLong, IsAgent, IsBeyondA
 
 use crate::buffer::fill;
 use crate::game::{Agent, Game, put, take};
-use crate::status::{CLOSED, NO_AGENT, NO_FRAME, NO_MEMORY, OK};
+use crate::status::{CLOSED, NO_AGENT, NO_FRAME, NO_MEMORY, OK, SHORT};
 use bt_nodes::Status;
 use std::alloc::Global;
 use stepping::{AgentState, Stepping};
@@ -23,7 +23,11 @@ fn write_text(alloc: Global, held: &Stepping, text: &mut [u8], size: &mut usize)
     let Ok(written) = held.text(alloc) else {
         return NO_MEMORY;
     };
-    fill(&written, text, size)
+    if fill(&written, text, size) {
+        OK
+    } else {
+        SHORT
+    }
 }
 
 /// The text of the frame, at the start of a buffer, and its length in bytes, which is told also where the buffer is too
