@@ -1,19 +1,15 @@
 -- What a status tells of a level.
-use Rattle.std.proofs.Common.{◌≡◌, ◌∙◌, ◌⊎◌, inl, inr, ℕ, Bool, List, Option, Some, None, true, false, sym, ap, subst, Result, Ok, Err}
-use Rattle.std.specs.Prelude.{is_some, IsOk}
+use Rattle.std.proofs.Common.{◌≡◌, ◌∙◌, ◌⊎◌, inl, inr, ℕ, Bool, List, Option, Some, None, true, false, sym, ap, Result, Ok, Err}
+use Rattle.std.specs.Prelude.{is_some}
 use Rattle.std.proofs.lemmas.Bool.{both_ways}
 use Rattle.game_session.specs.Parts.{Parts}
 use Rattle.game_session.specs.Faults.{Fault}
 use Rattle.level_text.specs.Levels.{spelled, fault_view, Names, IsFaultOf}
 use Rattle.level_text.specs.Scripts.{script_of}
 use Rattle.level_text.specs.declared.level_fault.LevelFault.{LevelFault}
-use Rattle.level_text.specs.declared.level_fault.LevelFault.TheVariants as levels
 use Rattle.level_text.specs.declared.script_file.ScriptFault.{ScriptFault}
 use Rattle.level_text.specs.declared.script_file.ScriptFault.TheVariants.{OutOfMemory}
 use Rattle.game_rules.specs.declared.change.Change.{Change}
-use Rattle.program_fault.specs.declared.fault.Fault.{Fault as Said}
-use Rattle.program_fault.specs.declared.fault.Fault.TheVariants as said_of
-use Rattle.program_fault.specs.Faults.{IsOfLevel, IsOfScript}
 use Rattle.stepping.specs.Played.{Played}
 use Rattle.btworld_c.specs.Statuses.{no_memory, taken, fault_status, spelled_status, script_status, session_status, IsLevelStatus, IsSessionStatus}
 use Rattle.btworld_c.specs.Games.{IsOpenStatus, IsOpenBesideStatus}
@@ -64,27 +60,3 @@ pub beside_taken_told : (level script : List ℕ) (held : Option Played) (is_ope
     → IsOpenBesideStatus level script held status
 beside_taken_told level script None is_open status says open_now e = absurd (both_ways is_open says open_now)
 beside_taken_told level script (Some game) is_open status says open_now e = e
-
--- ---- no fault
-
-no_err : {V E : Type 0} (right : Result V E) (e : E) → IsOk right → right ≡ Err e → ⊥
-no_err right e ok is = subst (λ r. IsOk r) is ok
-
--- what is said of a level without fault is that memory was refused
-pub level_well : (right : Result Parts Fault) (f : LevelFault) (said : Said) → IsOk right → IsFaultOf right f → IsOfLevel f said → said ≡ said_of.OutOfMemory
-level_well right levels.OutOfMemory said ok is e = e
-level_well right levels.Json said ok is e = absurd (no_err right _ ok is)
-level_well right levels.Shape said ok is e = absurd (no_err right _ ok is)
-level_well right levels.MapSize said ok is e = absurd (no_err right _ ok is)
-level_well right (levels.MapChar x y) said ok is e = absurd (no_err right _ ok is)
-level_well right levels.Letters said ok is e = absurd (no_err right _ ok is)
-level_well right levels.AgentCount said ok is e = absurd (no_err right _ ok is)
-level_well right (levels.BadTree name why) said ok is e = absurd (no_err right _ ok is)
-level_well right (levels.NoTree agent) said ok is e = absurd (no_err right _ ok is)
-level_well right (levels.NoPlace name) said ok is e = absurd (no_err right _ ok is)
-level_well right (levels.NoAgent name) said ok is e = absurd (no_err right _ ok is)
-
-pub script_well : (right : Result (List Change) ScriptFault) (f : ScriptFault) (said : Said) → IsOk right → (f ≡ OutOfMemory) ⊎ (right ≡ Err f) → IsOfScript f said
-    → said ≡ said_of.OutOfMemory
-script_well right f said ok (inl none) e = subst (λ (g : ScriptFault). IsOfScript g said) none e
-script_well right f said ok (inr is) e = absurd (no_err right f ok is)

@@ -13,7 +13,6 @@ use program_fault::Fault;
 use std::alloc::Global;
 
 // None where the bytes spell a level and a script.
-#[tactic(auto, using(crate::proofs::Told::level_well, crate::proofs::Told::script_well))]
 fn first_fault(alloc: Global, level: &[u8], script: &[u8]) -> Option<Fault>
     ensures { IsOk (spelled level.now) → IsOk (script_of script.now) → IfSome result (λ fault. fault ≡ OutOfMemory) }
 {
