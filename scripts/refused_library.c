@@ -1,6 +1,6 @@
 /* Refuses the library each growth of memory in turn, in each call that takes memory, and looks that the game is as it was and that
-   the same call then comes to what it should. refused_library LEVEL FRAMES; scripts/try_library builds it, with -Wl,--wrap=malloc and
-   -Wl,--wrap=realloc, and runs it. */
+   the same call then comes to what it should; and that each call of a script or a log comes to what steps come to. refused_library
+   LEVEL FRAMES; scripts/try_library builds it, with -Wl,--wrap=malloc and -Wl,--wrap=realloc, and runs it. */
 #include "btworld.h"
 #include <stdio.h>
 #include <stdlib.h>
@@ -24,8 +24,65 @@ void *__wrap_realloc(void *block, size_t size) { return is_refused() ? NULL : __
 #define LOOK(fact) do { if (!(fact)) { fprintf(stderr, "line %d: not so: %s\n", __LINE__, #fact); exit(1); } } while (0)
 #define REFUSING(status, call) for (long nth = 0; to_go = nth, status = (call), to_go = -1, status == BTWORLD_NO_MEMORY; nth++)
 
-enum { ROOM = 1 << 16 };
-static uint8_t level[1 << 20], text[ROOM], kept[ROOM], other[ROOM];
+enum { ROOM = 1 << 16, LOGS = 1 << 20 };
+static uint8_t level[1 << 20], text[ROOM], kept[ROOM], other[ROOM], all[LOGS], shown[LOGS], whole[LOGS], ones[LOGS];
+static const uint8_t script[] = "2 on a\n2 on b\n4 off a\n", bad[] = "2 on a\n1 on b\n";
+
+/* A game is stepped by its script; its log is completed from the first line and shows the same text. */
+static void look_at_scripts(size_t size, uint32_t frames) {
+    btworld_game game = BTWORLD_CLOSED_GAME, twin = BTWORLD_CLOSED_GAME;
+    char head[80];
+    uint32_t status, count = 7, on = 0;
+    size_t length, joined = 0, logged;
+    bool same;
+    REFUSING(status, btworld_open_script(&game, level, size, bad, sizeof bad - 1)) LOOK(!game.is_open);
+    LOOK(status == BTWORLD_SCRIPT_ORDER && !game.is_open);
+    memset(text, 1, ROOM);
+    memset(other, 1, ROOM);
+    REFUSING(status, btworld_fault_text(level, size, bad, sizeof bad - 1, text, ROOM, &length)) LOOK(!memcmp(text, other, ROOM));
+    LOOK(status == BTWORLD_OK && length == 23 && !memcmp(text, "script: order at line 2\1", 24));
+    LOOK(btworld_fault_text(level, size, bad, sizeof bad - 1, text, 22, &length) == BTWORLD_SHORT && length == 23);
+    REFUSING(status, btworld_fault_text(level, size, script, sizeof script - 1, text, ROOM, &length)) {}
+    LOOK(status == BTWORLD_OK && length == 0);
+    REFUSING(status, btworld_open_script(&game, level, size, script, sizeof script - 1)) LOOK(!game.is_open);
+    LOOK(status == BTWORLD_OK && btworld_open_script(&game, level, size, script, sizeof script - 1) == BTWORLD_OPEN);
+    LOOK(btworld_open(&twin, level, size) == BTWORLD_OK);
+    for (uint32_t f = 1; f <= frames; f++) {
+        on = f == 2 ? 3 : f == 4 ? 2 : on;
+        REFUSING(status, btworld_step_script(&game)) LOOK(btworld_frame(&game, &count) == BTWORLD_OK && count == f - 1);
+        LOOK(status == BTWORLD_OK && btworld_step(&twin, on) == BTWORLD_OK);
+        LOOK(btworld_same(&game, &twin, &same) == BTWORLD_OK && same);
+        LOOK(btworld_text(&game, all + joined, LOGS - joined, &length) == BTWORLD_OK);
+        joined += length;
+    }
+    btworld_close(&game);
+    LOOK(btworld_step_script(&game) == BTWORLD_CLOSED);
+    btworld_close(&twin);
+    sprintf(head, "btworld log 2 frames %u workers 2 small 8 large 8 slots 3\n", (unsigned)frames);
+    memset(whole, 1, LOGS);
+    memset(ones, 1, LOGS);
+    REFUSING(status, btworld_complete(level, size, script, sizeof script - 1, (uint8_t *)head, strlen(head), whole, LOGS, &logged))
+        LOOK(!memcmp(whole, ones, LOGS));
+    LOOK(status == BTWORLD_OK && whole[logged] == 1);
+    LOOK(btworld_complete(level, size, script, sizeof script - 1, (uint8_t *)head, strlen(head), shown, logged - 1, &length) == BTWORLD_SHORT
+         && length == logged && shown[0] == 0);
+    memset(shown, 1, LOGS);
+    count = 7;
+    REFUSING(status, btworld_replay(level, size, script, sizeof script - 1, whole, logged, shown, LOGS, &length, &count))
+        LOOK(!memcmp(shown, ones, LOGS) && count == 7);
+    LOOK(status == BTWORLD_OK && count == frames && length == joined && !memcmp(shown, all, joined) && shown[joined] == 1);
+    count = 7;
+    LOOK(btworld_replay(level, size, script, sizeof script - 1, whole, logged, shown, joined - 1, &length, &count) == BTWORLD_SHORT
+         && length == joined && count == 7);
+    LOOK(btworld_replay(level, size, script, sizeof script - 1, whole, strlen(head), shown, LOGS, &length, &count) == BTWORLD_LOG_INCOMPLETE
+         && length == 0 && count == 0);
+    LOOK(btworld_replay(level, size, script, sizeof script - 1, whole, 3, shown, LOGS, &length, &count) == BTWORLD_LOG_HEAD);
+    LOOK(btworld_replay(level, size, script, sizeof script - 1, whole, logged - 1, shown, LOGS, &length, &count) == BTWORLD_LOG_LINE);
+    memcpy(whole + strlen(head), "emit 1\n", 7);
+    LOOK(btworld_replay(level, size, script, sizeof script - 1, whole, strlen(head) + 7, shown, LOGS, &length, &count) == BTWORLD_LOG_ILLEGAL);
+    memcpy(whole + strlen(head), "stop\n", 5);
+    LOOK(btworld_complete(level, size, script, sizeof script - 1, whole, strlen(head) + 5, shown, LOGS, &length) == BTWORLD_LOG_STOPPED);
+}
 
 int main(int argc, char **argv) {
     btworld_game game = BTWORLD_CLOSED_GAME, twin = BTWORLD_CLOSED_GAME, copy = BTWORLD_CLOSED_GAME;
@@ -71,6 +128,7 @@ int main(int argc, char **argv) {
     }
     btworld_close(&game);
     btworld_close(&twin);
+    look_at_scripts(size, 5);
     printf("%ld refusals\n", refusals);
     return 0;
 }

@@ -4,38 +4,17 @@
  *
  * The script is what the players press. Here both machines are in one process: `here` gets the signals of a frame at once, and
  * `there` some frames later, as over a network. Until they come `there` guesses that nothing changed, and steps on; where a guess
- * was wrong it goes back to a fork that it kept and steps again. Each frame that both have for certain is compared by its digest.
- * The text of `here` is written to standard output: it is what `btworld play LEVEL --script SCRIPT --frames FRAMES` writes.
+ * was wrong it goes back to a fork that it kept and steps again. Each frame that both have for certain is compared by its digest,
+ * also with `shown`, the game of a spectator who has the script. The text of `here` is written to standard output: it is what
+ * `btworld play LEVEL --script SCRIPT --frames FRAMES` writes.
  *
- * Status: 0; 2 where the level is refused, with its number; 3 for want of memory; 4 where the machines came apart. */
-#include "btworld.h"
-#include <inttypes.h>
-#include <stdio.h>
-#include <stdlib.h>
-#include <string.h>
+ * Status: 0; 1 for a file that can't be read; 2 where the level or the script is refused, with the line that btworld writes; 3 for
+ * want of memory; 4 where the machines came apart. */
+#include "reading.h"
 
 enum { LATE = 3, MOST_FRAMES = 100000 };
 
 static uint32_t pressed[MOST_FRAMES + 1]; /* the signals of each frame; frames count from 1 */
-
-static void need(const char *what, uint32_t status) {
-    if (status == BTWORLD_OK) return;
-    fprintf(stderr, "%s: status %" PRIu32 "\n", what, status);
-    exit(status == BTWORLD_NO_MEMORY ? 3 : 4);
-}
-#define NEED(call) need(#call, call)
-
-static uint8_t *read_file(const char *path, size_t *length) {
-    FILE *file = fopen(path, "rb");
-    size_t room = 1 << 16, got;
-    uint8_t *bytes = malloc(room);
-    *length = 0;
-    if (!file || !bytes) { fprintf(stderr, "file: %s\n", path); exit(1); }
-    while ((got = fread(bytes + *length, 1, room - *length, file)) > 0)
-        if ((*length += got) == room && !(bytes = realloc(bytes, room *= 2))) exit(3);
-    fclose(file);
-    return bytes;
-}
 
 /* Lines `FRAME on LETTER` or `FRAME off LETTER`, by frame. */
 static void read_script(const char *path, uint32_t frames) {
@@ -65,20 +44,24 @@ static void write_text(btworld_game *game) {
 }
 
 int main(int argc, char **argv) {
-    btworld_game here = BTWORLD_CLOSED_GAME, there = BTWORLD_CLOSED_GAME, sure = BTWORLD_CLOSED_GAME;
-    uint64_t of_here[LATE + 1], of_sure;
+    btworld_game here = BTWORLD_CLOSED_GAME, there = BTWORLD_CLOSED_GAME, sure = BTWORLD_CLOSED_GAME, shown = BTWORLD_CLOSED_GAME;
+    uint64_t of_here[LATE + 1], of_sure, of_shown;
     uint32_t frames, status, rollbacks = 0;
-    size_t length;
-    uint8_t *level;
+    size_t length, script_length;
+    uint8_t *level, *script;
     bool same;
     if (argc != 4 || (frames = (uint32_t)strtoul(argv[3], NULL, 10)) > MOST_FRAMES) return 64;
     level = read_file(argv[1], &length);
+    script = read_file(argv[2], &script_length);
+    status = btworld_open_script(&shown, level, length, script, script_length);
+    if (status >= BTWORLD_LEVEL_JSON) refuse(level, length, script, script_length);
+    need("btworld_open_script", status);
     if (strcmp(argv[2], "-")) read_script(argv[2], frames);
-    if ((status = btworld_check(level, length))) { fprintf(stderr, "level: %" PRIu32 "\n", status); free(level); return status == BTWORLD_NO_MEMORY ? 3 : 2; }
     NEED(btworld_open(&here, level, length));
     NEED(btworld_open(&there, level, length));
     NEED(btworld_fork(&there, &sure));
-    free(level); /* the games have what they need of it */
+    free(level); /* the games have what they need of both */
+    free(script);
     for (uint32_t frame = 1; frame <= frames + LATE; frame++) {
         uint32_t come = frame > LATE ? frame - LATE : 0, last = frame < frames ? frame : frames;
         if (frame <= frames) {
@@ -90,8 +73,10 @@ int main(int argc, char **argv) {
         if (!come) continue;
         /* what was pressed in this frame has come, so it is sure */
         NEED(btworld_step(&sure, pressed[come]));
+        NEED(btworld_step_script(&shown));
         NEED(btworld_digest(&sure, &of_sure));
-        if (of_sure != of_here[come % (LATE + 1)]) {
+        NEED(btworld_digest(&shown, &of_shown));
+        if (of_sure != of_here[come % (LATE + 1)] || of_shown != of_sure) {
             fprintf(stderr, "frame %" PRIu32 ": the machines have come apart\n", come);
             return 4;
         }
@@ -103,6 +88,7 @@ int main(int argc, char **argv) {
         for (uint32_t guessed = come + 1; guessed <= last; guessed++) NEED(btworld_step(&there, pressed[come]));
     }
     NEED(btworld_same(&here, &there, &same));
+    if (same) NEED(btworld_same(&here, &shown, &same));
     if (!same) {
         fprintf(stderr, "the machines ended in different states\n");
         return 4;
@@ -111,5 +97,6 @@ int main(int argc, char **argv) {
     btworld_close(&here);
     btworld_close(&there);
     btworld_close(&sure);
+    btworld_close(&shown);
     return 0;
 }

@@ -5,10 +5,14 @@ use Rattle.std.proofs.lemmas.Bool.{both_ways}
 use Rattle.game_session.specs.Parts.{Parts}
 use Rattle.game_session.specs.Faults.{Fault}
 use Rattle.level_text.specs.Levels.{spelled, fault_view, Names, IsFaultOf}
+use Rattle.level_text.specs.Scripts.{script_of}
 use Rattle.level_text.specs.declared.level_fault.LevelFault.{LevelFault}
+use Rattle.level_text.specs.declared.script_file.ScriptFault.{ScriptFault}
+use Rattle.level_text.specs.declared.script_file.ScriptFault.TheVariants.{OutOfMemory}
+use Rattle.game_rules.specs.declared.change.Change.{Change}
 use Rattle.stepping.specs.Played.{Played}
-use Rattle.btworld_c.specs.Statuses.{no_memory, taken, fault_status, spelled_status, IsLevelStatus}
-use Rattle.btworld_c.specs.Games.{IsOpenStatus}
+use Rattle.btworld_c.specs.Statuses.{no_memory, taken, fault_status, spelled_status, script_status, session_status, IsLevelStatus, IsSessionStatus}
+use Rattle.btworld_c.specs.Games.{IsOpenStatus, IsOpenBesideStatus}
 
 named_told : (right : Result Parts Fault) (f : Option Fault) (status : ℕ) → Names f right → status ≡ fault_status f → (status ≡ no_memory) ⊎ (status ≡ spelled_status right)
 named_told right None status n e = inl e
@@ -24,3 +28,35 @@ open_told bytes (Some game) is_open status says closed told = absurd (both_ways 
 pub taken_told : (bytes : List ℕ) (held : Option Played) (is_open : Bool) (status : ℕ) → is_open ≡ is_some held → is_open ≡ true → status ≡ taken → IsOpenStatus bytes held status
 taken_told bytes None is_open status says open_now e = absurd (both_ways is_open says open_now)
 taken_told bytes (Some game) is_open status says open_now e = e
+
+-- ---- a level and a script
+
+named_first : (right : Result Parts Fault) (script : Result (List Change) ScriptFault) (f : Option Fault) (status : ℕ) → Names f right → status ≡ fault_status f
+    → (status ≡ no_memory) ⊎ (status ≡ session_status right script)
+named_first right script None status n e = inl e
+named_first right script (Some fault) status n e = inr (e ∙ sym (ap (λ r. session_status r script) n))
+
+pub level_first_told : (level script : List ℕ) (fault : LevelFault) (status : ℕ) → IsFaultOf (spelled level) fault → status ≡ fault_status (fault_view fault)
+    → IsSessionStatus level script status
+level_first_told level script fault status is e = named_first (spelled level) (script_of script) (fault_view fault) status is e
+
+pub script_told : (level script : List ℕ) (parts : Parts) (fault : ScriptFault) (status : ℕ) → spelled level ≡ Ok parts
+    → (fault ≡ OutOfMemory) ⊎ (script_of script ≡ Err fault) → status ≡ script_status fault → IsSessionStatus level script status
+script_told level script parts fault status spells (inl none) e = inl (e ∙ ap script_status none)
+script_told level script parts fault status spells (inr is) e =
+    inr (e ∙ sym (ap (λ r. session_status r (script_of script)) spells ∙ ap (session_status (Ok parts)) is))
+
+pub both_told : (level script : List ℕ) (parts : Parts) (changes : List Change) (status : ℕ) → spelled level ≡ Ok parts → script_of script ≡ Ok changes
+    → status ≡ 0 → IsSessionStatus level script status
+both_told level script parts changes status spells spells_script e =
+    inr (e ∙ sym (ap (λ r. session_status r (script_of script)) spells ∙ ap (session_status (Ok parts)) spells_script))
+
+pub beside_told : (level script : List ℕ) (held : Option Played) (is_open : Bool) (status : ℕ) → is_open ≡ is_some held → is_open ≡ false
+    → IsSessionStatus level script status → IsOpenBesideStatus level script held status
+beside_told level script None is_open status says closed told = told
+beside_told level script (Some game) is_open status says closed told = absurd (both_ways is_open closed says)
+
+pub beside_taken_told : (level script : List ℕ) (held : Option Played) (is_open : Bool) (status : ℕ) → is_open ≡ is_some held → is_open ≡ true → status ≡ taken
+    → IsOpenBesideStatus level script held status
+beside_taken_told level script None is_open status says open_now e = absurd (both_ways is_open says open_now)
+beside_taken_told level script (Some game) is_open status says open_now e = e

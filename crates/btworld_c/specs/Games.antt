@@ -1,26 +1,45 @@
 -- What the calls do to the game of a handle.
 use Rattle.std.specs.Prelude.{ℕ, ◌≡◌, List, [], Option, Some, None, Ok}
+use Rattle.game_rules.specs.declared.change.Change.{Change}
 use Rattle.game_session.specs.Parts.{Parts}
 use Rattle.game_session.specs.Sessions.{game_of}
 use Rattle.level_text.specs.Levels.{spelled}
-use Rattle.stepping.specs.Played.{Played, played_of, IsOnBy, IsStepped}
-use Rattle.btworld_c.specs.Statuses.{taken, IsLevelStatus}
+use Rattle.level_text.specs.Scripts.{script_of}
+use Rattle.stepping.specs.Played.{Played, played_of, bits, scripted_signals, IsOnBy, IsStepped}
+use Rattle.btworld_c.specs.Statuses.{taken, IsLevelStatus, IsSessionStatus}
 
--- it is the game of the level that bytes spell, before the first frame
+-- it is the game of the level that bytes spell, before the first frame, with an empty script beside it
 pub record IsOpened (bytes : List ℕ) (held : Option Played) : Type 0 where
   pub level : Parts
   pub spells : spelled bytes ≡ Ok level
-  pub is : held ≡ Some (played_of (game_of level []) 0)
+  pub is : held ≡ Some (played_of (game_of level []) 0 [])
 
 -- what opening answers: that a game is there already, or how the bytes are as a level
 abbrev pub IsOpenStatus : List ℕ → Option Played → ℕ → Type 0
 IsOpenStatus bytes None status = IsLevelStatus bytes status
 IsOpenStatus bytes (Some game) status = status ≡ taken
 
--- a game was held, and is a frame on, in which these signals were on
+-- it is the level's game before the first frame, with the script beside it that bytes spell
+pub record IsOpenedBeside (bytes script : List ℕ) (held : Option Played) : Type 0 where
+  pub level : Parts
+  pub changes : List Change
+  pub spells : spelled bytes ≡ Ok level
+  pub spells_script : script_of script ≡ Ok changes
+  pub is : held ≡ Some (played_of (game_of level []) 0 changes)
+
+abbrev pub IsOpenBesideStatus : (level script : List ℕ) → Option Played → ℕ → Type 0
+IsOpenBesideStatus level script None status = IsSessionStatus level script status
+IsOpenBesideStatus level script (Some game) status = status ≡ taken
+
+-- a game was held, and is a frame on, in which the signals were on whose bits are
 abbrev pub IsSteppedIn : ℕ → Option Played → Option Played → Type 0
-IsSteppedIn mask (Some before) (Some after) = IsStepped mask before after
+IsSteppedIn mask (Some before) (Some after) = IsStepped (bits 26 mask) before after
 IsSteppedIn mask before after = ⊥
+
+-- a game was held, and is a frame on, in which its script's signals were on
+abbrev pub IsSteppedByScript : Option Played → Option Played → Type 0
+IsSteppedByScript (Some before) (Some after) = IsStepped (scripted_signals before) before after
+IsSteppedByScript before after = ⊥
 
 -- no frame was stepped; signals may have been handed in
 abbrev pub IsNotStepped : Option Played → Option Played → Type 0

@@ -1,5 +1,5 @@
 -- What is read of the game of a handle.
-use Rattle.std.specs.Prelude.{ℕ, zero, suc, ◌≡◌, ◌<◌, ◌≤◌, ◌≢◌, ◌++◌, Bool, true, false, List, length, drop, Option, Some, None, slice_index_or}
+use Rattle.std.specs.Prelude.{ℕ, zero, suc, ◌≡◌, ◌<◌, ◌≤◌, ◌≢◌, Bool, true, false, List, length, Option, Some, None, slice_index_or}
 use Rattle.grid_world.specs.Grid.{agent_of}
 use Rattle.grid_world.specs.declared.cell.Agent.{Agent as Body}
 use Rattle.bt_nodes.specs.declared.node.Status.{Status}
@@ -8,6 +8,7 @@ use Rattle.game_rules.specs.Play.{play}
 use Rattle.game_rules.specs.Text.{frame_text}
 use Rattle.stepping.specs.Played.{Played, State, state_of, statuses_at}
 use Rattle.stepping.specs.Digest.{digest_of}
+use Rattle.btworld_c.specs.Buffers.{IsFilled, IsShort}
 use Rattle.btworld_c.specs.declared.game.Agent.{Agent}
 
 abbrev pub text_of : Played → List ℕ
@@ -16,12 +17,12 @@ text_of p = frame_text p.game p.frame
 -- the text of the held game's frame stands at the start of a buffer, which is kept behind it
 abbrev pub IsText : Option Played → ℕ → (old new : List ℕ) → Type 0
 IsText None size old new = ⊥
-IsText (Some p) size old new = (size ≡ length (text_of p)) × (new ≡ text_of p ++ drop size old)
+IsText (Some p) size old new = IsFilled (text_of p) size old new
 
 -- the text of the held game's frame is so long, and longer than a buffer
 abbrev pub IsTooLong : Option Played → ℕ → List ℕ → Type 0
 IsTooLong None size buffer = ⊥
-IsTooLong (Some p) size buffer = (size ≡ length (text_of p)) × (length buffer < size)
+IsTooLong (Some p) size buffer = IsShort (text_of p) size buffer
 
 abbrev pub status_number : Status → ℕ
 status_number Success = 0

@@ -1,8 +1,14 @@
 -- The statuses that calls answer, by their numbers in btworld.h.
-use Rattle.std.specs.Prelude.{ℕ, ◌≡◌, ◌⊎◌, List, Option, Some, None, Result, Ok, Err}
+use Rattle.std.specs.Prelude.{ℕ, ◌≡◌, ◌≢◌, ◌⊎◌, List, Option, Some, None, Result, Ok, Err}
+use Rattle.game_rules.specs.declared.change.Change.{Change}
 use Rattle.game_session.specs.Parts.{Parts}
 use Rattle.game_session.specs.Faults.{Fault, json, shape, map_size, map_char, letters, agent_count, bad_tree, no_tree, no_place, no_agent}
 use Rattle.level_text.specs.Levels.{spelled}
+use Rattle.level_text.specs.Scripts.{script_of}
+use Rattle.level_text.specs.declared.script_file.ScriptFault.{ScriptFault}
+use Rattle.level_text.specs.declared.script_file.ScriptFault.TheVariants.{OutOfMemory, Line, Order}
+use Rattle.log_text.specs.declared.fault.LogFault.{LogFault}
+use Rattle.log_text.specs.declared.fault.LogFault.TheVariants as logs
 
 -- ---- any call
 
@@ -61,3 +67,40 @@ spelled_status (Err fault) = level_status fault
 -- want of memory, or what bytes come to as a level
 abbrev pub IsLevelStatus : List ℕ → ℕ → Type 0
 IsLevelStatus bytes status = (status ≡ no_memory) ⊎ (status ≡ spelled_status (spelled bytes))
+
+-- ---- scripts and logs
+
+abbrev pub script_status : ScriptFault → ℕ
+script_status OutOfMemory = no_memory
+script_status (Line n) = 32
+script_status (Order n) = 33
+
+-- what bytes come to as a level and a script; a level's fault comes first
+abbrev pub session_status : Result Parts Fault → Result (List Change) ScriptFault → ℕ
+session_status (Err fault) script = level_status fault
+session_status (Ok level) (Err fault) = script_status fault
+session_status (Ok level) (Ok changes) = done
+
+-- want of memory, or what bytes come to as a level and a script
+abbrev pub IsSessionStatus : (level script : List ℕ) → ℕ → Type 0
+IsSessionStatus level script status = (status ≡ no_memory) ⊎ (status ≡ session_status (spelled level) (script_of script))
+
+abbrev pub log_status : LogFault → ℕ
+log_status logs.OutOfMemory = no_memory
+log_status logs.Head = 48
+log_status (logs.Line n) = 49
+
+abbrev pub illegal_event : ℕ
+illegal_event = 50
+
+-- a log shows fewer frames than it is of
+abbrev pub incomplete : ℕ
+incomplete = 51
+
+-- a log ends with a stop
+abbrev pub stopped : ℕ
+stopped = 52
+
+-- it says why nothing was written
+abbrev pub IsRefusal : ℕ → Type 0
+IsRefusal status = (status ≢ done) × (status ≢ short) × (status ≢ incomplete)

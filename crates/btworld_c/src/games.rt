@@ -2,21 +2,21 @@
 ghost use Rattle.std.specs.Prelude.{◌≡◌, ◌≢◌, ◌⊎◌, Some, None, IfOk, []};
 ghost use Rattle.game_session.specs.Levels.{value_of};
 ghost use Rattle.game_session.specs.Sessions.{game_of};
-ghost use Rattle.stepping.specs.Played.{played_of, IsOnBy, IsStepped};
+ghost use Rattle.stepping.specs.Played.{played_of, bits, scripted_signals, IsOnBy, IsStepped};
 ghost use Rattle.btworld_c.specs.Statuses.{done, closed, no_memory};
-ghost use Rattle.btworld_c.specs.Games.{IsOpened, IsOpenStatus, IsSteppedIn, IsNotStepped};
+ghost use Rattle.btworld_c.specs.Games.{IsOpened, IsOpenStatus, IsOpenedBeside, IsOpenBesideStatus, IsSteppedIn, IsSteppedByScript, IsNotStepped};
 
 use crate::game::{Game, put, take};
-use crate::status::{CLOSED, LAST_FRAME, NO_MEMORY, OK, OPEN, level_status};
-use game_session::Level;
-use level_text::read_level;
+use crate::status::{CLOSED, LAST_FRAME, NO_MEMORY, OK, OPEN, level_status, script_status};
+use game_session::{Level, Script};
+use level_text::{read_level, read_script};
 use std::alloc::{AllocError, Global};
-use stepping::{Stepping, step_by};
+use stepping::{Stepping, signals_of, step_by, step_by_script};
 
-fn opened(alloc: Global, level: Level) -> Result<Box<Stepping>, AllocError>
-    ensures { IfOk result (λ b. b.value ≡ played_of (game_of (value_of level) []) 0) }
+fn opened(alloc: Global, level: Level, script: Script) -> Result<Box<Stepping>, AllocError>
+    ensures { IfOk result (λ b. b.value ≡ played_of (game_of (value_of level) []) 0 script) }
 {
-    let game = Stepping::open(alloc, level)?;
+    let game = Stepping::open(alloc, level, script)?;
     Ok(Box::new(alloc, game)?)
 }
 
@@ -33,7 +33,7 @@ pub extern "C" fn btworld_open(alloc: Global, game: &mut Game, level: &[u8]) -> 
         return OPEN;
     }
     match read_level(alloc, level) {
-        Ok(read) => match opened(alloc, read) {
+        Ok(read) => match opened(alloc, read, Script::empty(alloc)) {
             Ok(held) => {
                 put(game, held);
                 OK
@@ -44,15 +44,49 @@ pub extern "C" fn btworld_open(alloc: Global, game: &mut Game, level: &[u8]) -> 
     }
 }
 
+#[tactic(auto, using(crate::proofs::Told::level_first_told, crate::proofs::Told::script_told, crate::proofs::Told::both_told, crate::proofs::Told::beside_told, crate::proofs::Told::beside_taken_told))]
+/// As `btworld_open`, with a script beside the game, whose signals `btworld_step_script` takes. The fault of a level comes
+/// before that of a script.
+#[unsafe(no_mangle)]
+pub extern "C" fn btworld_open_script(
+    alloc: Global,
+    game: &mut Game,
+    level: &[u8],
+    script: &[u8],
+) -> u32
+    ensures ok { result ≡ done → IsOpenedBeside level.now script.now game.new.handle.value }
+    ensures status { IsOpenBesideStatus level.now script.now game.old.handle.value result }
+    ensures refused { result ≢ done → game.new.handle.value ≡ game.old.handle.value }
+{
+    if game.is_open {
+        return OPEN;
+    }
+    let read = match read_level(alloc, level) {
+        Ok(read) => read,
+        Err(fault) => return level_status(&fault),
+    };
+    let changes = match read_script(alloc, script) {
+        Ok(changes) => changes,
+        Err(fault) => return script_status(fault),
+    };
+    match opened(alloc, read, changes) {
+        Ok(held) => {
+            put(game, held);
+            OK
+        }
+        Err(_) => NO_MEMORY,
+    }
+}
+
 fn step_held(alloc: Global, held: &mut Stepping, mask: u32) -> u32
-    ensures ok { result ≡ done → IsStepped mask held.old held.new }
+    ensures ok { result ≡ done → IsStepped (bits 26 mask) held.old held.new }
     ensures refused { result ≢ done → IsOnBy 0 held.old held.new }
     ensures held { result ≢ closed }
 {
     if held.frame() == u32::MAX {
         return LAST_FRAME;
     }
-    match step_by(held, alloc, mask) {
+    match step_by(held, alloc, signals_of(mask)) {
         Ok(()) => OK,
         Err(_) => NO_MEMORY,
     }
@@ -77,6 +111,39 @@ pub extern "C" fn btworld_step(alloc: Global, game: &mut Game, mask: u32) -> u32
     status
 }
 
+fn step_held_by_script(alloc: Global, held: &mut Stepping) -> u32
+    ensures ok { result ≡ done → IsStepped (scripted_signals held.old) held.old held.new }
+    ensures refused { result ≢ done → IsOnBy 0 held.old held.new }
+    ensures held { result ≢ closed }
+{
+    if held.frame() == u32::MAX {
+        return LAST_FRAME;
+    }
+    match step_by_script(held, alloc) {
+        Ok(()) => OK,
+        Err(_) => NO_MEMORY,
+    }
+}
+
+/// The next frame, in which the signals of the script are on beside which the game was opened, all off where there is none. A
+/// game that is stepped so from its first frame on shows the frames of the level's and the script's game. It refuses as
+/// `btworld_step`.
+#[unsafe(no_mangle)]
+pub extern "C" fn btworld_step_script(alloc: Global, game: &mut Game) -> u32
+    ensures ok { result ≡ done → IsSteppedByScript game.old.handle.value game.new.handle.value }
+    ensures refused { result ≢ done → IsNotStepped game.old.handle.value game.new.handle.value }
+    ensures closed { game.old.handle.value ≡ None → result ≡ closed }
+    ensures held { result ≡ closed → game.old.handle.value ≡ None }
+{
+    let Some(held) = take(alloc, game) else {
+        return CLOSED;
+    };
+    let mut held = held;
+    let status = step_held_by_script(alloc, &mut held);
+    put(game, held);
+    status
+}
+
 fn forked(alloc: Global, held: &Stepping) -> Result<Box<Stepping>, AllocError>
     ensures { IfOk result (λ b. b.value ≡ held.now) }
 {
@@ -86,7 +153,7 @@ fn forked(alloc: Global, held: &Stepping) -> Result<Box<Stepping>, AllocError>
 
 /// The same game at the same frame in another handle, which is closed before; both go on by themselves. 3 comes where the
 /// other handle holds a game, 2 where this one holds none. Where the status is not 0 both are as they were. It copies agents,
-/// memories and the changes of signals; the level, its ground and the known distances are shared.
+/// memories and the changes of signals; the level, its ground, the script and the known distances are shared.
 #[unsafe(no_mangle)]
 pub extern "C" fn btworld_fork(alloc: Global, game: &mut Game, copy: &mut Game) -> u32
     ensures ok { result ≡ done → (copy.old.handle.value ≡ None) × (copy.new.handle.value ≡ game.old.handle.value) }

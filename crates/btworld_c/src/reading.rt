@@ -1,22 +1,15 @@
 // What a caller reads of a game. No reading changes it.
-ghost use Rattle.std.specs.Prelude.{◌≡◌, ◌≢◌, ◌⊎◌, ◌≤◌, ◌<◌, ◌++◌, Some, None, IsTrue, length, drop};
+ghost use Rattle.std.specs.Prelude.{◌≡◌, ◌≢◌, ◌⊎◌, Some, None};
 ghost use Rattle.stepping.specs.Played.{state_of};
 ghost use Rattle.btworld_c.specs.Statuses.{done, closed, no_memory, no_frame, short, beyond_agents};
 ghost use Rattle.btworld_c.specs.Readings.{IsText, IsTooLong, IsAgent, IsBeyondAgents, IsFrame, IsDigest, TellsSame, agent_told, status_number, text_of};
 
+use crate::buffer::fill;
 use crate::game::{Agent, Game, put, take};
 use crate::status::{CLOSED, NO_AGENT, NO_FRAME, NO_MEMORY, OK, SHORT};
 use bt_nodes::Status;
 use std::alloc::Global;
 use stepping::{AgentState, Stepping};
-
-// The text of a frame, copied to the start of a buffer that has room for it.
-fn copy_text(written: &[u8], text: &mut [u8])
-    requires { length written.now ≤ length text.old }
-    ensures { text.new ≡ written.now ++ drop (length written.now) text.old }
-{
-    text[..written.len()].copy_from_slice(written);
-}
 
 fn write_text(alloc: Global, held: &Stepping, text: &mut [u8], size: &mut usize) -> u32
     ensures ok { result ≡ done → IsText (Some held.now) size.new text.old text.new }
@@ -30,12 +23,11 @@ fn write_text(alloc: Global, held: &Stepping, text: &mut [u8], size: &mut usize)
     let Ok(written) = held.text(alloc) else {
         return NO_MEMORY;
     };
-    *size = written.len();
-    if text.len() < written.len() {
-        return SHORT;
+    if fill(&written, text, size) {
+        OK
+    } else {
+        SHORT
     }
-    copy_text(&written, text);
-    OK
 }
 
 /// The text of the frame, at the start of a buffer, and its length in bytes, which is told also where the buffer is too

@@ -1,9 +1,10 @@
 // The statuses that calls answer, by their numbers in btworld.h.
 ghost use Rattle.std.specs.Prelude.{◌≡◌, ◌≢◌};
 ghost use Rattle.level_text.specs.Levels.{fault_view};
-ghost use Rattle.btworld_c.specs.Statuses.{fault_status, done, closed, taken};
+ghost use Rattle.btworld_c.specs.Statuses.{fault_status, script_status, log_status, done, closed, IsRefusal};
 
-use level_text::LevelFault;
+use level_text::{LevelFault, ScriptFault};
+use replay_log::LogFault;
 
 pub(crate) const OK: u32 = 0;
 
@@ -21,11 +22,18 @@ pub(crate) const NO_AGENT: u32 = 6;
 
 pub(crate) const LAST_FRAME: u32 = 7;
 
+pub(crate) const ILLEGAL_EVENT: u32 = 50;
+
+pub(crate) const INCOMPLETE: u32 = 51;
+
+pub(crate) const STOPPED: u32 = 52;
+
 // The number of a level's fault.
 pub(crate) fn level_status(fault: &LevelFault) -> u32
     ensures value { result ≡ fault_status (fault_view fault.now) }
     ensures fault { result ≢ done }
     ensures level { result ≢ closed }
+    ensures refusal { IsRefusal result }
 {
     match fault {
         LevelFault::OutOfMemory => NO_MEMORY,
@@ -39,5 +47,30 @@ pub(crate) fn level_status(fault: &LevelFault) -> u32
         LevelFault::NoTree { agent: _ } => 23,
         LevelFault::NoPlace { name: _ } => 24,
         LevelFault::NoAgent { name: _ } => 25,
+    }
+}
+
+// The number of a script's fault.
+pub(crate) fn script_status(fault: ScriptFault) -> u32
+    ensures value { result ≡ script_status fault }
+    ensures fault { result ≢ done }
+    ensures refusal { IsRefusal result }
+{
+    match fault {
+        ScriptFault::OutOfMemory => NO_MEMORY,
+        ScriptFault::Line { n: _ } => 32,
+        ScriptFault::Order { n: _ } => 33,
+    }
+}
+
+// The number of a log's fault.
+pub(crate) fn log_status(fault: LogFault) -> u32
+    ensures value { result ≡ log_status fault }
+    ensures refusal { IsRefusal result }
+{
+    match fault {
+        LogFault::OutOfMemory => NO_MEMORY,
+        LogFault::Head => 48,
+        LogFault::Line { n: _ } => 49,
     }
 }

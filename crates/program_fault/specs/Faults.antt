@@ -1,10 +1,14 @@
 -- Which fault a program reports, and the status with which it ends.
-use Rattle.std.specs.Prelude.{⊤, ℕ, ◌≡◌, ◌⊎◌, List, Result, Ok, Err, string_bytes}
+use Rattle.std.specs.Prelude.{⊤, ℕ, ◌≡◌, ◌<◌, ◌+◌, ◌⊎◌, List, Result, Ok, Err, string_bytes}
+use Rattle.level_text.specs.declared.level_fault.LevelFault.{LevelFault}
+use Rattle.level_text.specs.declared.level_fault.LevelFault.TheVariants as levels
+use Rattle.level_text.specs.declared.script_file.ScriptFault.{ScriptFault}
+use Rattle.level_text.specs.declared.script_file.ScriptFault.TheVariants as scripts
 use Rattle.log_text.specs.declared.fault.LogFault.{LogFault}
 use Rattle.log_text.specs.declared.fault.LogFault.TheVariants as logs
 use Rattle.log_text.specs.Readings.{IsFirstFault}
 use Rattle.program_fault.specs.declared.fault.Fault.{Fault}
-use Rattle.program_fault.specs.declared.fault.Fault.TheVariants.{File, StandardInput, LogHead, LogLine, Write, Spawn, GateClosed, Stranger, OutOfMemory}
+use Rattle.program_fault.specs.declared.fault.Fault.TheVariants.{File, StandardInput, Json, Shape, MapSize, MapChar, Letters, AgentCount, BadTree, NoTree, NoPlace, NoAgent, ScriptLine, ScriptOrder, LogHead, LogLine, Write, Spawn, GateClosed, Stranger, OutOfMemory}
 
 -- a file or a write failed; refused words or files; want of memory, or the run failed otherwise
 abbrev pub status_of : Fault → ℕ
@@ -20,6 +24,27 @@ status_of _ = 2
 abbrev pub status_in : Result (⊤) Fault → ℕ
 status_in (Ok _) = 0
 status_in (Err fault) = status_of fault
+
+-- each fault of a level has its own report
+abbrev pub IsOfLevel : LevelFault → Fault → Type 0
+IsOfLevel levels.OutOfMemory fault = fault ≡ OutOfMemory
+IsOfLevel levels.Json fault = fault ≡ Json
+IsOfLevel levels.Shape fault = fault ≡ Shape
+IsOfLevel levels.MapSize fault = fault ≡ MapSize
+IsOfLevel (levels.MapChar x y) fault = fault ≡ MapChar x y
+IsOfLevel levels.Letters fault = fault ≡ Letters
+IsOfLevel levels.AgentCount fault = fault ≡ AgentCount
+IsOfLevel (levels.BadTree name why) (BadTree n limit) = n ≡ name
+IsOfLevel (levels.BadTree name why) _ = ⊥
+IsOfLevel (levels.NoTree agent) (NoTree letter) = agent < 26 → letter ≡ agent + 65
+IsOfLevel (levels.NoTree agent) _ = ⊥
+IsOfLevel (levels.NoPlace name) fault = fault ≡ NoPlace name
+IsOfLevel (levels.NoAgent name) fault = fault ≡ NoAgent name
+
+abbrev pub IsOfScript : ScriptFault → Fault → Type 0
+IsOfScript scripts.OutOfMemory fault = fault ≡ OutOfMemory
+IsOfScript (scripts.Line n) fault = fault ≡ ScriptLine n
+IsOfScript (scripts.Order n) fault = fault ≡ ScriptOrder n
 
 abbrev pub IsOfLog : LogFault → Fault → Type 0
 IsOfLog logs.OutOfMemory fault = fault ≡ OutOfMemory

@@ -4,7 +4,9 @@
 mod ending;
 mod fault;
 mod files;
+mod level_fault;
 mod log_fault;
+mod script_fault;
 mod unread;
 
 pub use ending::{end_with, refuse_words};

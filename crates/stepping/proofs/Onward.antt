@@ -1,6 +1,7 @@
 -- What a game's changes leave as it was, and what a step comes to.
-use Rattle.std.proofs.Common.{◌≡◌, ◌<◌, ◌≤◌, ℕ, zero, suc, ◌+◌, List, [], ◌∷◌, ◌++◌, map, Bool, false, if◌then◌else◌, refl, sym, ap, ◌∙◌, subst, arith, append_assoc, append-nil}
+use Rattle.std.proofs.Common.{◌≡◌, ◌<◌, ◌≤◌, ℕ, zero, suc, ◌+◌, List, [], ◌∷◌, ◌++◌, map, Bool, false, if◌then◌else◌, refl, sym, ap, ◌∙◌, subst, arith, ⊎_elim, append_assoc, append-nil}
 use Rattle.std.specs.Prelude.{nat_le, slice_set, All, replicate}
+use Rattle.std.proofs.lemmas.Bool.{cases_lt}
 use Rattle.std.proofs.lemmas.List.Elements.{All-append}
 use Rattle.grid_world.specs.Grid.{Grid}
 use Rattle.grid_world.specs.Intents.{apply_all}
@@ -10,7 +11,7 @@ use Rattle.game_rules.specs.declared.change.Change.{Change}
 use Rattle.game_rules.specs.Game.{Game, signals, changed_by}
 use Rattle.game_rules.specs.Play.{Position, play, thoughts_from}
 use Rattle.game_rules.specs.Text.{text, texts, frame_text}
-use Rattle.stepping.specs.Played.{Played, played_of, changed_game, next_signals, bits, IsOnBy, IsStepped, State, state_of}
+use Rattle.stepping.specs.Played.{Played, played_of, changed_game, next_signals, IsOnBy, IsStepped, State, state_of, IsByScript, scripted_game, scripted_signals}
 
 -- ---- changes that come later
 
@@ -53,7 +54,7 @@ play_zero g = refl
 record IsSameBy (g h : Game) (f : ℕ) : Type 0 where
   world : h.world ≡ g.world
   trees : h.trees ≡ g.trees
-  signals_are : (k : ℕ) → k ≤ f → signals h.changes k ≡ signals g.changes k
+  signals_are : (k : ℕ) → suc k ≤ f → signals h.changes (suc k) ≡ signals g.changes (suc k)
 
 module _ (g h : Game) (f : ℕ) (same : IsSameBy g h f) where
   play_by : (n : ℕ) → n ≤ f → play h n ≡ play g n
@@ -61,7 +62,7 @@ module _ (g h : Game) (f : ℕ) (same : IsSameBy g h f) where
   play_by (suc n) l =
       play_suc h n
       ∙ ap (λ ts. turn_by ts (signals h.changes (suc n)) (play h n)) same.trees
-      ∙ ap (λ on. turn_by g.trees on (play h n)) (same.signals_are (suc n) l)
+      ∙ ap (λ on. turn_by g.trees on (play h n)) (same.signals_are n l)
       ∙ ap (turn_by g.trees (signals g.changes (suc n))) (play_by n (omega (arith, l)))
       ∙ sym (play_suc g n)
 
@@ -70,7 +71,7 @@ module _ (g h : Game) (f : ℕ) (same : IsSameBy g h f) where
   text_as (suc n) l =
       text_suc h n
       ∙ ap (λ ts. text_by (suc n) ts (signals h.changes (suc n)) (play h n)) same.trees
-      ∙ ap (λ on. text_by (suc n) g.trees on (play h n)) (same.signals_are (suc n) l)
+      ∙ ap (λ on. text_by (suc n) g.trees on (play h n)) (same.signals_are n l)
       ∙ ap (text_by (suc n) g.trees (signals g.changes (suc n))) (play_by n (omega (arith, l)))
       ∙ sym (text_suc g n)
 
@@ -85,16 +86,18 @@ pub stays_on : (p : Played) → IsOnBy 0 p p
 stays_on p = record {
   world = refl;
   trees = refl;
+  script = refl;
   frame = omega arith;
   added = [];
   changes = sym (append-nil p.game.changes);
   now = λ k d l. absurd (omega (arith, l));
 }
 
-pub handed_on : (p : Played) (c : Change) → c.frame ≡ p.frame + 1 → IsOnBy 0 p (played_of (changed_game p.game c) p.frame)
+pub handed_on : (p : Played) (c : Change) → c.frame ≡ p.frame + 1 → IsOnBy 0 p (played_of (changed_game p.game c) p.frame p.script)
 handed_on p c e = record {
   world = refl;
   trees = refl;
+  script = refl;
   frame = omega arith;
   added = c ∷ [];
   changes = refl;
@@ -112,16 +115,18 @@ on_again p q r n a b =
     record {
       world = b.world ∙ a.world;
       trees = b.trees ∙ a.trees;
+      script = b.script ∙ a.script;
       frame = b.frame ∙ ap (λ k. k + n) e;
       added = a.added ++ b.added;
       changes = b.changes ∙ ap (λ l. l ++ b.added) a.changes ∙ append_assoc p.game.changes a.added b.added;
       now = All-append (λ (c : Change). c.frame ≡ p.frame + 1) a.added b.added a.now later;
     }
 
-pub one_on : (p : Played) → IsOnBy 1 p (played_of p.game (p.frame + 1))
+pub one_on : (p : Played) → IsOnBy 1 p (played_of p.game (p.frame + 1) p.script)
 one_on p = record {
   world = refl;
   trees = refl;
+  script = refl;
   frame = refl;
   added = [];
   changes = sym (append-nil p.game.changes);
@@ -163,13 +168,13 @@ module _ (p q : Played) where
 abbrev position_of : State → Position
 position_of s = record { world = s.world; memories = s.memories }
 
-next_state : ℕ → State → State
-next_state mask s = state_as (suc s.frame) s.trees (bits 26 mask) (turn_by s.trees (bits 26 mask) (position_of s))
+next_state : List Bool → State → State
+next_state on s = state_as (suc s.frame) s.trees on (turn_by s.trees on (position_of s))
 
-next_text : ℕ → State → List ℕ
-next_text mask s = text_by (suc s.frame) s.trees (bits 26 mask) (position_of s)
+next_text : List Bool → State → List ℕ
+next_text on s = text_by (suc s.frame) s.trees on (position_of s)
 
-module _ (mask : ℕ) (p q : Played) (step : IsStepped mask p q) where
+module _ (signals_now : List Bool) (p q : Played) (step : IsStepped signals_now p q) where
   number : q.frame ≡ suc p.frame
   number = let e = step.on.frame in omega (arith, e)
 
@@ -177,35 +182,35 @@ module _ (mask : ℕ) (p q : Played) (step : IsStepped mask p q) where
   before = record {
     world = step.on.world;
     trees = step.on.trees;
-    signals_are = λ k l. ap (λ cs. signals cs k) step.on.changes
-        ∙ none_more p.game.changes step.on.added k (replicate 26 false) (λ i d h. let e = step.on.now i d h in omega (arith, e, l));
+    signals_are = λ k l. ap (λ cs. signals cs (suc k)) step.on.changes
+        ∙ none_more p.game.changes step.on.added (suc k) (replicate 26 false) (λ i d h. let e = step.on.now i d h in omega (arith, e, l));
   }
 
-  signals_then : signals q.game.changes (suc p.frame) ≡ bits 26 mask
+  signals_then : signals q.game.changes (suc p.frame) ≡ signals_now
   signals_then = ap (signals q.game.changes) (sym number) ∙ step.signals_are
 
-  played_on : play q.game q.frame ≡ turn_by p.game.trees (bits 26 mask) (play p.game p.frame)
+  played_on : play q.game q.frame ≡ turn_by p.game.trees signals_now (play p.game p.frame)
   played_on =
       ap (play q.game) number ∙ play_suc q.game p.frame
       ∙ ap (λ ts. turn_by ts (signals q.game.changes (suc p.frame)) (play q.game p.frame)) step.on.trees
       ∙ ap (λ on. turn_by p.game.trees on (play q.game p.frame)) signals_then
-      ∙ ap (turn_by p.game.trees (bits 26 mask)) (play_by p.game q.game p.frame before p.frame (omega arith))
+      ∙ ap (turn_by p.game.trees signals_now) (play_by p.game q.game p.frame before p.frame (omega arith))
 
-  stepped_state : state_of q ≡ next_state mask (state_of p)
+  stepped_state : state_of q ≡ next_state signals_now (state_of p)
   unfolding next_state
   stepped_state =
       ap (λ f. state_as f q.game.trees (next_signals q) (play q.game q.frame)) number
       ∙ ap (λ ts. state_as (suc p.frame) ts (next_signals q) (play q.game q.frame)) step.on.trees
       ∙ ap (λ on. state_as (suc p.frame) p.game.trees on (play q.game q.frame)) step.stay
-      ∙ ap (state_as (suc p.frame) p.game.trees (bits 26 mask)) played_on
+      ∙ ap (state_as (suc p.frame) p.game.trees signals_now) played_on
 
-  stepped_text : frame_text q.game q.frame ≡ next_text mask (state_of p)
+  stepped_text : frame_text q.game q.frame ≡ next_text signals_now (state_of p)
   unfolding next_text
   stepped_text =
       ap (frame_text q.game) number ∙ text_suc q.game p.frame
       ∙ ap (λ ts. text_by (suc p.frame) ts (signals q.game.changes (suc p.frame)) (play q.game p.frame)) step.on.trees
       ∙ ap (λ on. text_by (suc p.frame) p.game.trees on (play q.game p.frame)) signals_then
-      ∙ ap (text_by (suc p.frame) p.game.trees (bits 26 mask)) (play_by p.game q.game p.frame before p.frame (omega arith))
+      ∙ ap (text_by (suc p.frame) p.game.trees signals_now) (play_by p.game q.game p.frame before p.frame (omega arith))
 
   pub texts_more : texts q.game q.frame ≡ texts p.game p.frame ++ frame_text q.game q.frame
   texts_more =
@@ -213,9 +218,39 @@ module _ (mask : ℕ) (p q : Played) (step : IsStepped mask p q) where
       ∙ ap (λ t. t ++ frame_text q.game (suc p.frame)) (texts_as p.game q.game p.frame before p.frame (omega arith))
       ∙ ap (λ k. texts p.game p.frame ++ frame_text q.game k) (sym number)
 
-pub alike : (mask : ℕ) (p q next_p next_q : Played) → state_of p ≡ state_of q → IsStepped mask p next_p → IsStepped mask q next_q
+pub alike : (on : List Bool) (p q next_p next_q : Played) → state_of p ≡ state_of q → IsStepped on p next_p → IsStepped on q next_q
     → (state_of next_p ≡ state_of next_q) × (frame_text next_p.game next_p.frame ≡ frame_text next_q.game next_q.frame)
-alike mask p q next_p next_q same a b = (
-  stepped_state mask p next_p a ∙ ap (next_state mask) same ∙ sym (stepped_state mask q next_q b),
-  stepped_text mask p next_p a ∙ ap (next_text mask) same ∙ sym (stepped_text mask q next_q b),
+alike on p q next_p next_q same a b = (
+  stepped_state on p next_p a ∙ ap (next_state on) same ∙ sym (stepped_state on q next_q b),
+  stepped_text on p next_p a ∙ ap (next_text on) same ∙ sym (stepped_text on q next_q b),
 )
+
+-- ---- scripts
+
+module _ (p : Played) (by : IsByScript p) where
+  as_scripted : IsSameBy (scripted_game p) p.game p.frame
+  as_scripted = record {
+    world = refl;
+    trees = refl;
+    signals_are = λ k l. by (suc k) (omega arith) l;
+  }
+
+  pub scripted_position : play p.game p.frame ≡ play (scripted_game p) p.frame
+  scripted_position = play_by (scripted_game p) p.game p.frame as_scripted p.frame (omega arith)
+
+  pub scripted_texts : texts p.game p.frame ≡ texts (scripted_game p) p.frame
+  scripted_texts = texts_as (scripted_game p) p.game p.frame as_scripted p.frame (omega arith)
+
+  -- the signals of the frames so far stay, and those of the next are the script's
+  pub scripted_on : (q : Played) → IsStepped (scripted_signals p) p q → IsByScript q
+  scripted_on q step k some within =
+      let number : q.frame ≡ p.frame + 1 = step.on.frame in
+      ⊎_elim
+      (λ earlier.
+      ap (λ cs. signals cs k) step.on.changes
+      ∙ none_more p.game.changes step.on.added k (replicate 26 false) (λ i d h. let e = step.on.now i d h in omega (arith, e, earlier))
+      ∙ by k some (omega (arith, earlier)) ∙ sym (ap (λ cs. signals cs k) step.on.script))
+      (λ now.
+      let at : k ≡ q.frame = omega (arith, now, within, number) in
+      ap (signals q.game.changes) at ∙ step.signals_are ∙ ap (signals p.script) (sym (at ∙ number)) ∙ sym (ap (λ cs. signals cs k) step.on.script))
+      (cases_lt k (p.frame + 1))

@@ -1,18 +1,29 @@
 // What steps come to, whatever led to them.
-ghost use Rattle.std.specs.Prelude.{◌≡◌, ℕ, ◌++◌};
+ghost use Rattle.std.specs.Prelude.{◌≡◌, ℕ, ◌++◌, List, Bool};
+ghost use Rattle.game_rules.specs.declared.change.Change.{Change};
+ghost use Rattle.game_rules.specs.Game.{Game};
+ghost use Rattle.game_rules.specs.Play.{play};
 ghost use Rattle.game_rules.specs.Text.{frame_text, texts};
-ghost use Rattle.stepping.specs.Played.{Played, IsStepped, state_of};
+ghost use Rattle.stepping.specs.Played.{Played, played_of, IsStepped, IsByScript, scripted_game, scripted_signals, state_of};
 
 /// Games in the same state that are stepped with the same signals are in the same state again, and show the same frame. So
 /// whoever compares states once, as two machines in lockstep, knows all that comes of the same signals.
 pub fn same_states_step_alike()
-    ensures { (mask : ℕ) (p q next_p next_q : Played) → state_of p ≡ state_of q → IsStepped mask p next_p → IsStepped mask q next_q
+    ensures { (on : List Bool) (p q next_p next_q : Played) → state_of p ≡ state_of q → IsStepped on p next_p → IsStepped on q next_q
         → (state_of next_p ≡ state_of next_q) × (frame_text next_p.game next_p.frame ≡ frame_text next_q.game next_q.frame) }
 {}
 
 /// A step puts its frame's text behind those of the frames before, so the texts since a game was opened, joined, are those
 /// of the game's first frames.
 pub fn texts_grow_by_steps()
-    ensures { (mask : ℕ) (p next : Played) → IsStepped mask p next
+    ensures { (on : List Bool) (p next : Played) → IsStepped on p next
         → texts next.game next.frame ≡ texts p.game p.frame ++ frame_text next.game next.frame }
+{}
+
+/// A game each of whose steps took the script's signals is where the script's game is, and its texts are those of that game.
+pub fn scripted_steps_play_the_script()
+    ensures begins { (g : Game) (script : List Change) → IsByScript (played_of g 0 script) }
+    ensures goes_on { (p next : Played) → IsByScript p → IsStepped (scripted_signals p) p next → IsByScript next }
+    ensures position { (p : Played) → IsByScript p → play p.game p.frame ≡ play (scripted_game p) p.frame }
+    ensures texts { (p : Played) → IsByScript p → texts p.game p.frame ≡ texts (scripted_game p) p.frame }
 {}

@@ -2,4 +2,4 @@ use Rattle.stepping.proofs.Onward.{alike}
 use Rattle.stepping.proofs.laws.same_states_step_alike.Goals as goal
 
 pub returns : goal.returns
-returns c mask p q next_p next_q same a b = alike mask p q next_p next_q same a b
+returns c on p q next_p next_q same a b = alike on p q next_p next_q same a b

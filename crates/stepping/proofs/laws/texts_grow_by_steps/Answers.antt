@@ -2,4 +2,4 @@ use Rattle.stepping.proofs.Onward.{texts_more}
 use Rattle.stepping.proofs.laws.texts_grow_by_steps.Goals as goal
 
 pub returns : goal.returns
-returns c mask p next step = texts_more mask p next step
+returns c on p next step = texts_more on p next step
