@@ -6,6 +6,6 @@ mod reading;
 mod slice;
 mod span;
 
-pub use reading::slices_of;
+pub use reading::{begun_at, slices_of};
 pub use slice::Slice;
 pub use span::{FrameSpan, frame_of};

@@ -1,0 +1,4 @@
+pub mod Plain
+pub mod Rows
+pub mod Lines
+pub mod Films

@@ -1,0 +1,4 @@
+pub mod Escapes
+pub mod Emits
+pub mod Slices
+pub mod Pages
