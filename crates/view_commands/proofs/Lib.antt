@@ -1,2 +1,6 @@
 pub mod Entered
+pub mod Asked
 pub mod Traced
+pub mod Paged
+pub mod Playable
+pub mod Done

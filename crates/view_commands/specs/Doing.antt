@@ -10,8 +10,9 @@ use Rattle.trace_text.specs.Trace.{trace_of}
 use Rattle.program_fault.specs.declared.fault.Fault.{Fault}
 use Rattle.program_fault.specs.declared.fault.Fault.TheVariants.{Write}
 use Rattle.program_fault.specs.Faults.{IsReadingFault}
+use Rattle.view_commands.specs.Paging.{PagesSome, PagesSomePart}
 use Rattle.view_commands.specs.declared.request.View.{View}
-use Rattle.view_commands.specs.declared.request.View.TheVariants.{Trace}
+use Rattle.view_commands.specs.declared.request.View.TheVariants.{Trace, Page}
 
 -- the trace of the settings and events was written that the log's bytes spell
 abbrev pub Traces : (old new : Option (List ℕ)) → FrameSpan → (log : List ℕ) → Type 0
@@ -36,7 +37,9 @@ TracesSomePart old new frames = Keeps old new ⊎ ((log : List ℕ) × TracesPar
 -- what the words ask for is done
 abbrev pub IsDone : (old new : Option (List ℕ)) → View → Type 0
 IsDone old new (Trace log frames) = TracesSome old new frames
+IsDone old new (Page level log script frames) = PagesSome old new frames
 
 -- or a part of it
 abbrev pub IsPartDone : (old new : Option (List ℕ)) → View → Type 0
 IsPartDone old new (Trace log frames) = TracesSomePart old new frames
+IsPartDone old new (Page level log script frames) = PagesSomePart old new frames

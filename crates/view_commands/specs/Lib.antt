@@ -1,2 +1,5 @@
 pub mod Program
+pub mod Games
+pub mod Sessions
+pub mod Paging
 pub mod Doing

@@ -1,5 +1,5 @@
 -- The viewer's words, and what they ask for.
-use Rattle.std.specs.Prelude.{◌≡◌, ◌≢◌, ℕ, List, [], Some, codes, true}
+use Rattle.std.specs.Prelude.{◌≡◌, ◌≢◌, List, [], Some, codes, true}
 use Rattle.clap.specs.Words.{App, IsAmong, Row, Text, fault_of, first_of, new_app, subcommand_of, subcommand_rows_of, with_rule, with_subcommand}
 use Rattle.clap.specs.declared.error.kind.ErrorKind.TheVariants as kinds
 use Rattle.clap.specs.declared.parser.matches.ArgMatches.{ArgMatches}
@@ -7,9 +7,9 @@ use Rattle.clap.specs.Simple.{on_top}
 use Rattle.event_slices.specs.declared.span.FrameSpan.{FrameSpan}
 use Rattle.words.specs.declared.fault.WordsFault.{WordsFault}
 use Rattle.words.specs.declared.fault.WordsFault.TheVariants.{Help}
-use Rattle.words.specs.Program.{default_rule, word_rule, IsNumber, IsText}
+use Rattle.words.specs.Program.{default_rule, path_rule, word_rule, IsNumber, IsOptional, IsText}
 use Rattle.view_commands.specs.declared.request.View.{View}
-use Rattle.view_commands.specs.declared.request.View.TheVariants.{Trace}
+use Rattle.view_commands.specs.declared.request.View.TheVariants.{Trace, Page}
 
 -- `[--from F] [--to T]`
 abbrev pub with_frames : App → App
@@ -19,8 +19,18 @@ with_frames a = with_rule (with_rule a (default_rule (codes "from") 1 9999 (code
 abbrev pub trace : App
 trace = with_frames (with_rule (new_app (codes "trace")) (word_rule (codes "log")))
 
+-- `page LEVEL LOG [--script FILE] [--from F] [--to T]`
+abbrev pub page : App
+page =
+    with_frames
+    (with_rule (with_rule (with_rule (new_app (codes "page")) (word_rule (codes "level"))) (word_rule (codes "log"))) (path_rule (codes "script")))
+
+-- the viewer with its first command, and with both
+abbrev pub with_trace : App
+with_trace = with_subcommand (on_top (λ s. record s { no_binary_name = true }) (new_app (codes "btview"))) trace.top
+
 abbrev pub program : App
-program = with_subcommand (on_top (λ s. record s { no_binary_name = true }) (new_app (codes "btview"))) trace.top
+program = with_subcommand with_trace page.top
 
 -- clap finds no fault in the words, and its reading is this subcommand with these entries
 abbrev pub Enters : List Text → Text → List Row → Type 0
@@ -38,9 +48,15 @@ AreFrames rows frames = IsNumber (first_of (codes "from") rows) frames.first × 
 abbrev pub AsksToTrace : List Text → FrameSpan → Type 0
 AsksToTrace words frames = (rows : List Row) × Enters words (codes "trace") rows × AreFrames rows frames
 
+-- the words are taken for `page` of these frames
+abbrev pub AsksForPage : List Text → FrameSpan → Type 0
+AsksForPage words frames = (rows : List Row) × Enters words (codes "page") rows × AreFrames rows frames
+
 -- the subcommand and the entries of clap's reading
 abbrev pub IsReading : List Text → View → Type 0
 IsReading words (Trace log frames) = (rows : List Row) × Enters words (codes "trace") rows × IsText rows (codes "log") log × AreFrames rows frames
+IsReading words (Page level log script frames) = (rows : List Row) × Enters words (codes "page") rows × IsText rows (codes "level") level
+    × IsText rows (codes "log") log × IsOptional rows (codes "script") script × AreFrames rows frames
 
 -- help is answered only where clap finds that the words ask for it
 abbrev pub IsAskedFor : List Text → WordsFault → Type 0

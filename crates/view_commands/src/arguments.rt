@@ -8,10 +8,11 @@ use clap::Command;
 use std::alloc::{AllocError, Global};
 use words::{Argument, Form, Subcommand, new_command, with_subcommands};
 
-const ABOUT: &str = "Shows runs of btworld: what its workers did, event by event.";
+const ABOUT: &str =
+    "Shows runs of btworld: their frames, and what their workers did, event by event.";
 
 const STATUSES: &str =
-    "Status: 0 done; 1 a file can't be read, or a write failed; 2 words or log are refused; 3 want of memory.\nA fault is one line on standard error. Logs are written by `btworld play --log FILE`.";
+    "Status: 0 done; 1 a file can't be read, or a write failed; 2 words, level, script or log are refused; 3 want of memory.\nA fault is one line on standard error. Logs are written by `btworld play --log FILE`.";
 
 const FROM: Argument = Argument {
     name: "from",
@@ -33,20 +34,46 @@ const TO: Argument = Argument {
     },
 };
 
-pub static SUBCOMMANDS: [Subcommand; 1] = [Subcommand {
-    name: "trace",
-    about: "Writes a log as JSON of Chrome's trace format, for ui.perfetto.dev or chrome://tracing: a lane for each worker and one for the printer, a slice for each stretch in which a worker runs a job, arrows from a Think to the Paths that it asks and back. Time counts events. Any log that can be read is shown, legal or not. Browsers like up to some 100,000 slices: --from and --to take a part of a longer run.",
-    usage: "btview trace LOG [--from F] [--to T]",
-    arguments: &[
-        Argument {
-            name: "log",
-            help: "The log file, as `btworld play --log` writes it",
-            form: Form::Place,
-        },
-        FROM,
-        TO,
-    ],
-}];
+pub static SUBCOMMANDS: [Subcommand; 2] = [
+    Subcommand {
+        name: "trace",
+        about: "Writes a log as JSON of Chrome's trace format, for ui.perfetto.dev or chrome://tracing: a lane for each worker and one for the printer, a slice for each stretch in which a worker runs a job, arrows from a Think to the Paths that it asks and back. Time counts events. Any log that can be read is shown, legal or not. Browsers like up to some 100,000 slices: --from and --to take a part of a longer run.",
+        usage: "btview trace LOG [--from F] [--to T]",
+        arguments: &[
+            Argument {
+                name: "log",
+                help: "The log file, as `btworld play --log` writes it",
+                form: Form::Place,
+            },
+            FROM,
+            TO,
+        ],
+    },
+    Subcommand {
+        name: "page",
+        about: "Writes a page that shows a run: the map frame by frame, the agents with answer, cell, load and tree, what changed, an overview of all frames, and the jobs around the frame shown, lane by lane. One HTML file, which needs no network; any browser opens it, and ? lists its keys. An incomplete log shows the frames that it has; one with an illegal event those before it, and the event is marked: the page is there then, and status and fault are those of `btworld replay`. All frames are shown; --from and --to say of which the jobs are.",
+        usage: "btview page LEVEL LOG [--script FILE] [--from F] [--to T]",
+        arguments: &[
+            Argument {
+                name: "level",
+                help: "The level's file",
+                form: Form::Place,
+            },
+            Argument {
+                name: "log",
+                help: "The log file, as `btworld play --log` writes it",
+                form: Form::Place,
+            },
+            Argument {
+                name: "script",
+                help: "The script with which the run was played",
+                form: Form::Path,
+            },
+            FROM,
+            TO,
+        ],
+    },
+];
 
 fn top_command<'a>(alloc: Global) -> Command<'a>
     ensures { app_of result ≡ on_top (λ s. record s { no_binary_name = true }) (new_app (codes "btview")) }

@@ -2,11 +2,15 @@
 #![tactic(auto)]
 
 mod arguments;
+pub mod laws;
+mod paging;
 mod program;
 mod reading;
 mod request;
+mod session;
 mod tracing;
 
+pub use paging::page_bytes;
 pub use program::view_command;
 pub use program_fault::refuse_unread_words;
 pub use reading::read_view_words;

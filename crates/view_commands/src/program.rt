@@ -2,8 +2,10 @@
 ghost use Rattle.std.specs.Prelude.{◌≡◌, map, string_bytes, OnOk, OnErr};
 ghost use Rattle.event_slices.specs.declared.span.FrameSpan.{FrameSpan};
 ghost use Rattle.view_commands.specs.Doing.{TracesSome, TracesSomePart, IsDone, IsPartDone};
-ghost use Rattle.view_commands.specs.Program.{AsksToTrace};
+ghost use Rattle.view_commands.specs.Paging.{PagesSome, PagesSomePart};
+ghost use Rattle.view_commands.specs.Program.{AsksForPage, AsksToTrace};
 
+use crate::paging::page_files;
 use crate::reading::read_view_words;
 use crate::request::View;
 use crate::tracing::trace_file;
@@ -19,13 +21,20 @@ fn act<H: Files, W: Write>(rt: &H, alloc: Global, view: View, out: &mut W) -> Re
 {
     match view {
         View::Trace { log, frames } => trace_file(rt, alloc, log, frames, out),
+        View::Page {
+            level,
+            log,
+            script,
+            frames,
+        } => page_files(rt, alloc, level, log, script, frames, out),
     }
 }
 
 /// Does what the words after the viewer's name ask for, and gives the status with which the program ends: 0 done, 1 a file
-/// or a write failed, 2 refused words or log, 3 want of memory. A fault is one line on `err`.
+/// or a write failed, 2 refused words, level, script or log, 3 want of memory. A fault is one line on `err`.
 ///
-/// The clauses say that there is a log of which the text is the trace; that it is what the file holds is tested.
+/// The clauses say that there is a log of which the text is the trace, and that there are a level, a script and a log of
+/// which it is the page; that these are what the files hold is tested.
 pub fn view_command<H: Files, W: Write, E: Write>(
     rt: &H,
     alloc: Global,
@@ -37,6 +46,10 @@ pub fn view_command<H: Files, W: Write, E: Write>(
         → TracesSome (W.contents out.old) (W.contents out.new) frames }
     ensures traced_part { (frames : FrameSpan) → AsksToTrace (map string_bytes words.now) frames
         → TracesSomePart (W.contents out.old) (W.contents out.new) frames }
+    ensures paged { (frames : FrameSpan) → AsksForPage (map string_bytes words.now) frames → result ≡ 0
+        → PagesSome (W.contents out.old) (W.contents out.new) frames }
+    ensures paged_part { (frames : FrameSpan) → AsksForPage (map string_bytes words.now) frames
+        → PagesSomePart (W.contents out.old) (W.contents out.new) frames }
 {
     match read_view_words(alloc, words) {
         Ok(view) => {

@@ -8,7 +8,7 @@ use crate::request::View;
 use clap::ArgMatches;
 use event_slices::FrameSpan;
 use std::alloc::Global;
-use words::{WordsFault, fault_of, missing, number_entry, text_entry};
+use words::{WordsFault, fault_of, missing, number_entry, optional_entry, text_entry};
 
 fn frames_entry(alloc: Global, matches: &ArgMatches<'_>) -> Result<FrameSpan, WordsFault>
     ensures frames { IfOk result (AreFrames (rows_of (found_of matches.now))) }
@@ -30,6 +30,19 @@ fn trace_words(alloc: Global, matches: &ArgMatches<'_>) -> Result<View, WordsFau
     })
 }
 
+fn page_words(alloc: Global, matches: &ArgMatches<'_>) -> Result<View, WordsFault>
+    ensures reading { IfOk result (λ v. (ws : List (List ℕ))
+        → Enters ws (codes "page") (rows_of (found_of matches.now)) → IsReading ws v) }
+    ensures fault { IfErr result IsNoHelp }
+{
+    Ok(View::Page {
+        level: text_entry(alloc, matches, "level")?,
+        log: text_entry(alloc, matches, "log")?,
+        script: optional_entry(alloc, matches, "script")?,
+        frames: frames_entry(alloc, matches)?,
+    })
+}
+
 /// What the command asks for that clap's matches have entered.
 fn command_words(alloc: Global, matches: &ArgMatches<'_>) -> Result<View, WordsFault>
     ensures reading { IfOk result (λ v. (ws : List (List ℕ)) → IsEntered ws matches.now → IsReading ws v) }
@@ -37,6 +50,7 @@ fn command_words(alloc: Global, matches: &ArgMatches<'_>) -> Result<View, WordsF
 {
     match matches.subcommand() {
         Some(("trace", trace)) => trace_words(alloc, trace),
+        Some(("page", page)) => page_words(alloc, page),
         _ => Err(missing(alloc, "command")),
     }
 }

@@ -4,5 +4,15 @@ use event_slices::FrameSpan;
 #[derive(Debug, Drop)]
 pub enum View {
     /// Write what workers did in these frames of a log, for a viewer of traces.
-    Trace { log: String, frames: FrameSpan },
+    Trace {
+        log: String,
+        frames: FrameSpan,
+    },
+    /// Write a page that shows a level's run, and what workers did in these of its frames.
+    Page {
+        level: String,
+        log: String,
+        script: Option<String>,
+        frames: FrameSpan,
+    },
 }

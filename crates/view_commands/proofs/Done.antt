@@ -1,0 +1,44 @@
+-- What the viewer has written, by its words.
+use Rattle.std.proofs.Common.{ℕ, List, Option}
+use Rattle.std.specs.Prelude.{⊤, Result, Ok, Err, OnOk, OnErr}
+use Rattle.clap.specs.Words.{Text}
+use Rattle.event_slices.specs.declared.span.FrameSpan.{FrameSpan}
+use Rattle.program_fault.specs.declared.fault.Fault.{Fault}
+use Rattle.view_commands.specs.declared.request.View.{View}
+use Rattle.view_commands.specs.declared.request.View.TheVariants.{Trace, Page}
+use Rattle.view_commands.specs.Doing.{IsDone, IsPartDone, TracesSome, TracesSomePart}
+use Rattle.view_commands.specs.Paging.{PagesSome, PagesSomePart}
+use Rattle.view_commands.specs.Program.{AsksForPage, AsksToTrace, IsReading}
+use Rattle.view_commands.proofs.Asked.{read_as_page, read_as_trace}
+use Rattle.view_commands.proofs.Paged.{pages_some_part}
+use Rattle.view_commands.proofs.Traced.{traces_some_part}
+
+done_in_part : (old new : Option (List ℕ)) (v : View) → IsDone old new v → IsPartDone old new v
+done_in_part old new (Trace log frames) h = traces_some_part old new frames h
+done_in_part old new (Page level log script frames) h = pages_some_part old new frames h
+
+-- done or not, it is a part
+pub part_of : (r : Result (⊤) Fault) (old new : Option (List ℕ)) (v : View) → OnOk r (IsDone old new v) → OnErr r (IsPartDone old new v)
+    → IsPartDone old new v
+part_of (Ok x) old new v done part = done_in_part old new v done
+part_of (Err f) old new v done part = part
+
+pub traced : (old new : Option (List ℕ)) (words : List Text) (v : View) (frames : FrameSpan) → IsReading words v → AsksToTrace words frames
+    → IsDone old new v → TracesSome old new frames
+traced old new words v frames reading asks done =
+    read_as_trace words v frames (IsDone old new) (TracesSome old new) reading asks (λ log span h. h) done
+
+pub traced_in_part : (old new : Option (List ℕ)) (words : List Text) (v : View) (frames : FrameSpan) → IsReading words v → AsksToTrace words frames
+    → IsPartDone old new v → TracesSomePart old new frames
+traced_in_part old new words v frames reading asks done =
+    read_as_trace words v frames (IsPartDone old new) (TracesSomePart old new) reading asks (λ log span h. h) done
+
+pub paged : (old new : Option (List ℕ)) (words : List Text) (v : View) (frames : FrameSpan) → IsReading words v → AsksForPage words frames
+    → IsDone old new v → PagesSome old new frames
+paged old new words v frames reading asks done =
+    read_as_page words v frames (IsDone old new) (PagesSome old new) reading asks (λ level log script span h. h) done
+
+pub paged_in_part : (old new : Option (List ℕ)) (words : List Text) (v : View) (frames : FrameSpan) → IsReading words v → AsksForPage words frames
+    → IsPartDone old new v → PagesSomePart old new frames
+paged_in_part old new words v frames reading asks done =
+    read_as_page words v frames (IsPartDone old new) (PagesSomePart old new) reading asks (λ level log script span h. h) done

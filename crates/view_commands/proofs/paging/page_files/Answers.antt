@@ -1,0 +1,11 @@
+use Rattle.program_fault.proofs.Statuses.{on_err_map}
+use Rattle.view_commands.specs.Paging.{sources_of}
+use Rattle.view_commands.proofs.Paged.{page_of_some}
+use Rattle.view_commands.proofs.paging.page_files.Goals as goal
+
+pub returns-clause-part : goal.returns-clause-part
+returns-clause-part g c =
+    on_err_map c.page_bytes.result _ _
+    (page_of_some (g.W.Write.contents c.args.out.now) (g.W.Write.contents c.page_bytes.new.out)
+    (sources_of c.as_bytes.result.now c.deref.result.now c.deref-2.result.now) c.args.frames c.deref-3.result.now)
+    c.page_bytes.ensures.part
