@@ -12,6 +12,9 @@ use task_board::{JobName, Settings};
 // How often a held job looks for others that come.
 const LOOKS: u64 = 1_000_000_000;
 
+// What a gate looks that nobody opens: it comes to the same, and takes a tenth of the time.
+const FEWER_LOOKS: u64 = 100_000_000;
+
 // Two jobs of a level, of which the first is held until the second has come.
 struct Meeting {
     level: &'static [u8],
@@ -124,7 +127,7 @@ fn two_workers_work_two_jobs_at_once(rt: HostRuntime) -> Result<(), Fail> {
 #[test]
 fn one_worker_works_one_job_at_a_time(rt: HostRuntime) -> Result<(), Fail> {
     for meeting in &MEETINGS {
-        let gate = meeting.gate(LOOKS);
+        let gate = meeting.gate(FEWER_LOOKS);
         let ended = written(&rt, rt.alloc(), meeting.level, meeting.frames, 1, &gate)?;
         assert_eq!(rt; ended, None);
     }
@@ -146,7 +149,7 @@ fn four_workers_work_four_jobs_at_once(rt: HostRuntime) -> Result<(), Fail> {
 #[test]
 fn three_workers_work_three_jobs_at_once(rt: HostRuntime) -> Result<(), Fail> {
     for (level, draws) in [(FOUR_NEIGHBOURS, false), (FOUR_BANDS, true)] {
-        let gate = Four::new(draws, LOOKS);
+        let gate = Four::new(draws, FEWER_LOOKS);
         let ended = written(&rt, rt.alloc(), level, 2, 3, &gate)?;
         assert_eq!(rt; ended, None);
     }
