@@ -163,7 +163,8 @@ fn refuses(board: &mut Board) -> [bool; 5] {
 // The way that a Path's task comes to.
 fn way_by<'t>(alloc: Global, task: &Task<'t>) -> Option<Way<'t>> {
     let step = task.work(alloc).ok()?;
-    match step.deliver().0 {
+    let (told, _band) = step.deliver();
+    match told {
         BoardStep::Path(way) => Some(way),
         BoardStep::Logic(_) | BoardStep::Think(_) | BoardStep::Draw(_) => None,
     }

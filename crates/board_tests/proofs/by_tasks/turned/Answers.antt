@@ -5,6 +5,7 @@ use Rattle.board_tests.proofs.by_tasks.turned.Goals as goal
 
 -- one agent, so one thought
 pub turns-requires : goal.turns-requires
+unfolding count_up
 turns-requires c =
     let g = c.args.params.now.game in
     let f = c.args.params.now.frame in
