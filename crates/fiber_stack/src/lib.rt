@@ -2,7 +2,9 @@
 #![tactic(auto)]
 
 mod frame;
+mod link;
 mod pile;
+mod slots;
 
 pub use frame::Frame;
 pub use pile::{Pile, Stack};

@@ -1,29 +1,35 @@
 ghost use Rattle.std.specs.Prelude.{◌≡◌, ◌≢◌, ◌-◌, ◌<◌, ◌^◌, ◌%◌, List, [], ◌∷◌, length, MatchResult, MatchOption, IfOk, IsOk};
 
 use crate::frame::Frame;
+use crate::link::Link;
+use crate::slots::Slots;
 use std::alloc::{AllocError, Allocator};
 use std::marker::Model;
 
-/// A stack of plain values in one block, which grows by at least eight values. Contracts see it as the list of them, the
-/// top one first.
+/// A stack of plain values in a chain of boxed chunks, each of which has room for eight. Contracts see it as the list of
+/// them, the top one first.
 #[derive(Drop)]
 pub struct Pile<F: Copy, A: Allocator> {
-    values: Vec<F, A>,
+    top: Link<F, A>,
+    // How many slots of the first chunk are free, the first ones.
+    free: u32,
+    depth: u32,
+    alloc: A,
 }
 
-/// A stack of open nodes: `T` holds the tree's nodes, and `A` the stack's block.
+/// A stack of open nodes: `T` holds the tree's nodes, and `A` the stack's chunks.
 pub type Stack<'t, T, A> = Pile<Frame<'t, T>, A>;
 
 impl<F: Copy, A: Allocator> Model for Pile<F, A> {
-    ghost use Rattle.std.specs.Prelude.{◌<◌, ◌≤◌, ◌^◌, List, reverse};
-    ghost use Rattle.std.specs.Vec.{vec_len, vec_capacity};
-    ghost use Rattle.fiber_stack.specs.Room.{room_of};
+    ghost use Rattle.std.specs.Prelude.{◌≡◌, ◌+◌, ◌*◌, ◌<◌, List, length};
+    ghost use Rattle.fiber_stack.specs.Links.{chunks};
+    ghost use Rattle.fiber_stack.specs.Chunks.{values};
 
     ghost Value = { List F };
 
-    ghost view = { λ s. reverse s.values.items };
+    ghost view = { λ s. values s.free (chunks s.top) };
 
-    ghost invariant = { λ s. (vec_len s.values < 2 ^ 32) × (room_of (vec_len s.values) ≤ vec_capacity s.values) };
+    ghost invariant = { λ s. (s.free < 8) × (s.depth + s.free ≡ 8 * length (chunks s.top)) };
 }
 
 impl<F: Copy, A: Allocator> Pile<F, A> {
@@ -32,7 +38,10 @@ impl<F: Copy, A: Allocator> Pile<F, A> {
         ensures { result ≡ [] }
     {
         Pile {
-            values: Vec::new(alloc),
+            top: Link::End,
+            free: 0,
+            depth: 0,
+            alloc,
         }
     }
 
@@ -40,7 +49,7 @@ impl<F: Copy, A: Allocator> Pile<F, A> {
     pub fn depth(&self) -> u32
         ensures { result ≡ length self.now }
     {
-        self.values.len() as u32
+        self.depth
     }
 
     /// The value on the top.
@@ -48,15 +57,29 @@ impl<F: Copy, A: Allocator> Pile<F, A> {
     pub fn top(&self) -> Option<&F>
         ensures { MatchOption result (self.now ≡ []) (λ top. (below : List F) × (self.now ≡ top.now ∷ below)) }
     {
-        self.values.last()
+        match &self.top {
+            Link::End => None,
+            Link::More(chunk) => Some(chunk.slots.at(self.free)),
+        }
     }
 
-    /// Takes the value on the top off. Its room is kept.
+    /// Takes the value on the top off. A chunk is given back when its last value goes.
     #[inline(always)]
     pub fn pop(&mut self) -> Option<F>
         ensures { MatchOption result ((self.old ≡ []) × (self.new ≡ [])) (λ top. self.old ≡ top ∷ self.new) }
     {
-        self.values.pop()
+        let value = match &self.top {
+            Link::End => return None,
+            Link::More(chunk) => *chunk.slots.at(self.free),
+        };
+        self.depth -= 1;
+        if self.free < 7 {
+            self.free += 1;
+            return Some(value);
+        }
+        self.top.pop();
+        self.free = 0;
+        Some(value)
     }
 
     /// Puts a value in place of the one on the top, and hands that one out.
@@ -65,11 +88,18 @@ impl<F: Copy, A: Allocator> Pile<F, A> {
         ensures { MatchOption result ((self.old ≡ []) × (self.new ≡ []))
             (λ top. (below : List F) × (self.old ≡ top ∷ below) × (self.new ≡ element ∷ below)) }
     {
-        let top = self.values.pop()?;
-        self.values.push_reserved(element);
-        Some(top)
+        match &mut self.top {
+            Link::End => None,
+            Link::More(chunk) => {
+                let value = *chunk.slots.at(self.free);
+                chunk.slots.set(self.free, element);
+                Some(value)
+            }
+        }
     }
+}
 
+impl<F: Copy, A: Allocator + Clone> Pile<F, A> {
     /// Puts a value on the top. Where memory is refused it is handed back, and the stack is unchanged. It takes memory
     /// only where the depth is a multiple of eight.
     #[inline(always)]
@@ -79,20 +109,39 @@ impl<F: Copy, A: Allocator> Pile<F, A> {
             (λ refused. (refused ≡ element) × (self.new ≡ self.old)) }
         ensures room { length self.old % 8 ≢ 0 → IsOk result }
     {
-        if self.values.len() % 8 == 0 && self.values.reserve(8).is_err() {
-            return Err(element);
+        if self.free > 0 {
+            self.depth += 1;
+            self.free -= 1;
+            if let Link::More(chunk) = &mut self.top {
+                chunk.slots.set(self.free, element);
+            }
+            return Ok(());
         }
-        self.values.push_reserved(element);
-        Ok(())
+        let Ok(alloc) = self.alloc.clone() else {
+            return Err(element);
+        };
+        match self.top.push(alloc, Slots::of(element)) {
+            Ok(()) => {
+                self.free = 7;
+                self.depth += 1;
+                Ok(())
+            }
+            Err(_) => Err(element),
+        }
     }
+}
 
-    /// A copy whose block lies in `alloc`.
-    pub fn copy_in<B: Allocator>(&self, alloc: B) -> Result<Pile<F, B>, AllocError>
+impl<F: Copy, A: Allocator> Pile<F, A> {
+    /// A copy whose chunks lie in `alloc`.
+    pub fn copy_in<B: Allocator + Clone>(&self, alloc: B) -> Result<Pile<F, B>, AllocError>
         ensures { IfOk result (λ copy. copy ≡ self.now) }
     {
-        let room = self.values.len().next_multiple_of(8);
-        let mut values = Vec::with_capacity(alloc, room)?;
-        values.extend_from_slice(&self.values)?;
-        Ok(Pile { values })
+        let top = self.top.copy_in(&alloc)?;
+        Ok(Pile {
+            top,
+            free: self.free,
+            depth: self.depth,
+            alloc,
+        })
     }
 }

@@ -1,0 +1,121 @@
+ghost use Rattle.std.specs.Prelude.{◌≡◌, ◌<◌, ◌≤◌, replicate, slice_index_or, slice_set};
+ghost use Rattle.fiber_stack.specs.Chunks.{two, four, slots};
+
+/// Room for two values.
+#[derive(Clone, Copy)]
+struct Two<F: Copy> {
+    a: F,
+    b: F,
+}
+
+impl<F: Copy> Two<F> {
+    #[inline(always)]
+    fn at(&self, index: u32) -> &F
+        requires { index < 2 }
+        ensures { result.now ≡ slice_index_or (two self.now) index result.now }
+    {
+        if index < 1 { &self.a } else { &self.b }
+    }
+
+    #[inline(always)]
+    fn set(&mut self, index: u32, value: F)
+        requires { index < 2 }
+        ensures { two self.new ≡ slice_set (two self.old) index value }
+    {
+        if index < 1 {
+            self.a = value;
+        } else {
+            self.b = value;
+        }
+    }
+}
+
+/// Room for four values.
+#[derive(Clone, Copy)]
+struct Four<F: Copy> {
+    low: Two<F>,
+    high: Two<F>,
+}
+
+impl<F: Copy> Four<F> {
+    #[inline(always)]
+    fn half(&self, index: u32) -> &Two<F>
+        ensures low { index < 2 → result.now ≡ self.now.low }
+        ensures high { 2 ≤ index → result.now ≡ self.now.high }
+    {
+        if index < 2 { &self.low } else { &self.high }
+    }
+
+    #[inline(always)]
+    fn at(&self, index: u32) -> &F
+        requires { index < 4 }
+        ensures { result.now ≡ slice_index_or (four self.now) index result.now }
+    {
+        self.half(index).at(index % 2)
+    }
+
+    #[inline(always)]
+    fn set(&mut self, index: u32, value: F)
+        requires { index < 4 }
+        ensures { four self.new ≡ slice_set (four self.old) index value }
+    {
+        if index < 2 {
+            self.low.set(index, value);
+        } else {
+            self.high.set(index - 2, value);
+        }
+    }
+}
+
+/// Room for eight values. It is cut into halves, so that a slot's address comes of three choices with no branch: an array of
+/// a type parameter would owe that its size is small.
+#[derive(Clone, Copy)]
+pub(crate) struct Slots<F: Copy> {
+    low: Four<F>,
+    high: Four<F>,
+}
+
+impl<F: Copy> Slots<F> {
+    /// The value in each slot.
+    pub(crate) fn of(value: F) -> Slots<F>
+        ensures { slots result ≡ replicate 8 value }
+    {
+        let pair = Two { a: value, b: value };
+        let half = Four {
+            low: pair,
+            high: pair,
+        };
+        Slots {
+            low: half,
+            high: half,
+        }
+    }
+
+    #[inline(always)]
+    fn half(&self, index: u32) -> &Four<F>
+        ensures low { index < 4 → result.now ≡ self.now.low }
+        ensures high { 4 ≤ index → result.now ≡ self.now.high }
+    {
+        if index < 4 { &self.low } else { &self.high }
+    }
+
+    #[inline(always)]
+    pub(crate) fn at(&self, index: u32) -> &F
+        requires { index < 8 }
+        ensures { result.now ≡ slice_index_or (slots self.now) index result.now }
+    {
+        self.half(index).at(index % 4)
+    }
+
+    #[inline(always)]
+    pub(crate) fn set(&mut self, index: u32, value: F)
+        requires { index < 8 }
+        ensures { slots self.new ≡ slice_set (slots self.old) index value }
+    {
+        if index < 4 {
+            self.low.set(index, value);
+        } else {
+            self.high.set(index - 4, value);
+        }
+    }
+}
