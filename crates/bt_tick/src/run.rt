@@ -130,7 +130,7 @@ fn run<'t, T: Allocator, A: Allocator + Clone>(
 }
 
 /// Begins a tick of an agent's tree. The memory fits the tree, and the agent is in the view's world. The tick's own
-/// memory is taken from `alloc`: a block with a frame for each open node, and the list of wants.
+/// memory is taken from `alloc`: a chunk for each eight open nodes, and the list of wants.
 pub fn begin<'t, T: Allocator, A: Allocator + Clone>(
     alloc: A,
     tree: &'t Tree<T>,

@@ -86,13 +86,13 @@ fn fill<'a>(alloc: Global, heap: &'a LocalHeap) -> Option<Vec<Box<[u64; 2], &'a 
     Some(all)
 }
 
-// Pushes these numbers in order, up to the first that has no room.
-fn push_all<A: Allocator + Clone>(pile: &mut Pile<u64, A>, numbers: &[u64]) -> Result<(), u64> {
-    for number in numbers {
+// Pushes the numbers from one on up to another, or up to the first that has no room.
+fn push_from<A: Allocator + Clone>(pile: &mut Pile<u64, A>, from: u64, to: u64) -> Result<(), u64> {
+    for number in from..to {
         if pile.depth() == u32::MAX {
-            return Err(*number);
+            return Err(number);
         }
-        pile.push(*number)?;
+        pile.push(number)?;
     }
     Ok(())
 }
@@ -107,36 +107,62 @@ fn pops<A: Allocator>(pile: &mut Pile<u64, A>, numbers: &[u64]) -> bool {
     pile.pop().is_none()
 }
 
-const NINE: [u64; 9] = [8, 7, 6, 5, 4, 3, 2, 1, 0];
-
-// What nine pushes answer where all memory is taken after the first, the depth and the top then, what the ninth answers once
-// the memory is given back, and whether the nine are taken off.
-fn pushes_without_memory(
-    alloc: Global,
-) -> Option<([Result<(), u64>; 4], (u32, Option<u64>), bool)> {
-    let heap = LocalHeap::new(alloc, 400).ok()?;
-    let mut pile = Pile::empty(&heap);
-    let first = push_all(&mut pile, &[0]);
-    let filled = fill(alloc, &heap)?;
-    let others = push_all(&mut pile, &[1, 2, 3, 4, 5, 6, 7]);
-    let ninth = push_all(&mut pile, &[8]);
-    let left = (pile.depth(), pile.top().copied());
-    drop(filled);
-    let again = push_all(&mut pile, &[8]);
-    Some(([first, others, ninth, again], left, pops(&mut pile, &NINE)))
+// Whether the numbers below this one, and no others, are taken off, the greatest first.
+fn pops_down<A: Allocator>(pile: &mut Pile<u64, A>, count: u64) -> bool {
+    for number in (0..count).rev() {
+        if pile.pop() != Some(number) {
+            return false;
+        }
+    }
+    pile.pop().is_none()
 }
 
+// Fills so many chunks, takes all memory that is left, and says whether a push is refused then and changes nothing, and whether
+// a copy is refused; then, with memory for one chunk more, whether eight pushes have room and the next has none, and whether
+// all is taken off.
+fn fills_chunks(alloc: Global, chunks: u64) -> Option<[bool; 5]>
+    requires { chunks < 4 }
+{
+    let heap = LocalHeap::new(alloc, 1_000).ok()?;
+    let mut pile = Pile::empty(&heap);
+    let depth = 8 * chunks;
+    push_from(&mut pile, 0, depth).ok()?;
+    let filled = fill(alloc, &heap)?;
+    let refused = push_from(&mut pile, depth, depth + 1) == Err(depth);
+    let unchanged = pile.depth() as u64 == depth && pile.top().copied() == depth.checked_sub(1);
+    let not_copied = pile.copy_in(&heap).is_err();
+    drop(filled);
+    let first = push_from(&mut pile, depth, depth + 1);
+    let filled = fill(alloc, &heap)?;
+    let others = push_from(&mut pile, depth + 1, depth + 8);
+    let ninth = push_from(&mut pile, depth + 8, depth + 9);
+    drop(filled);
+    Some([
+        refused && unchanged,
+        not_copied,
+        first.is_ok() && others.is_ok(),
+        ninth == Err(depth + 8),
+        pops_down(&mut pile, depth + 8),
+    ])
+}
+
+// Of an empty stack alone a copy takes no memory.
 #[test]
-fn the_ninth_push_needs_memory(rt: HostRuntime) {
-    let answers = [Ok(()), Ok(()), Err(8), Ok(())];
-    assert!(rt; pushes_without_memory(rt.alloc()) == Some((answers, (8, Some(7)), true)));
+fn each_growth_of_a_stack_is_refused(rt: HostRuntime) {
+    for chunks in 0..4u64 {
+        let found = fills_chunks(rt.alloc(), chunks);
+        assert!(rt;
+            found == Some([true, chunks > 0, true, true, true]),
+            "{chunks} chunks"
+        );
+    }
 }
 
 // What is replaced on top of nothing and of 1 and 2, and whether those that are there then are taken off.
 fn replaced(alloc: Global) -> Option<([Option<u64>; 2], u32, bool)> {
     let mut pile = Pile::empty(alloc);
     let none = pile.replace_top(7);
-    push_all(&mut pile, &[1, 2]).ok()?;
+    push_from(&mut pile, 1, 3).ok()?;
     let two = pile.replace_top(3);
     Some(([none, two], pile.depth(), pops(&mut pile, &[3, 1])))
 }
