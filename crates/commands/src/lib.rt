@@ -18,3 +18,4 @@ pub use faults::Fault;
 pub use program::command;
 pub use replaying::replay_bytes;
 pub use unread::refuse_unread_words;
+pub use words::{Words, WordsFault, read_words};

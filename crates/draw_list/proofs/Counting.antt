@@ -1,7 +1,7 @@
 -- Numbers counted up, and what is joined along them.
-use Rattle.std.proofs.Common.{◌≡◌, ◌<◌, ◌≤◌, ℕ, zero, suc, ◌+◌, ◌-◌, ◌*◌, List, [], ◌∷◌, ◌++◌, length, refl, sym, ap, ◌∙◌, arith, append_assoc, append-nil}
+use Rattle.std.proofs.Common.{◌≡◌, ◌<◌, ◌≤◌, ℕ, zero, suc, ◌+◌, ◌-◌, ◌*◌, List, [], ◌∷◌, ◌++◌, length, get_or, refl, sym, ap, ◌∙◌, arith, append_assoc, append-nil}
 use Rattle.std.specs.List.{flat_map}
-use Rattle.std.proofs.lemmas.List.{length-append}
+use Rattle.std.proofs.lemmas.List.{length-append, get_or_append_left, get_or-append-add}
 use Rattle.grid_world.specs.Map.{count_up}
 
 pub count_up-zero : (i : ℕ) → count_up i 0 ≡ []
@@ -31,6 +31,22 @@ length-flat_map-count_up f k i (suc n) h =
     let rest = length-flat_map-count_up f k (suc i) n h in
     let more : k * suc n ≡ k + k * n = omega arith in
     rw (count_up-suc, length-append (f i) (flat_map f (count_up (suc i) n)), h i, rest, more) refl
+
+-- an element of one of them
+pub piece_at : (f : ℕ → List ℕ) (k i n row x d : ℕ) → ((j : ℕ) → length (f j) ≡ k) → row < n → x < k
+    → get_or (flat_map f (count_up i n)) (k * row + x) d ≡ get_or (f (i + row)) x d
+piece_at f k i zero row x d all r c = absurd (omega arith)
+piece_at f k i (suc n) zero x d all r c =
+    let len = all i in
+    let e : k * zero + x ≡ x = omega arith in
+    let g : i + zero ≡ i = omega arith in
+    rw (count_up-suc, e, g) (get_or_append_left (f i) (flat_map f (count_up (suc i) n)) d x (omega (arith, len)))
+piece_at f k i (suc n) (suc row) x d all r c =
+    let len = all i in
+    let e : k * suc row + x ≡ length (f i) + (k * row + x) = omega (arith, len) in
+    let g : i + suc row ≡ suc i + row = omega arith in
+    rw (count_up-suc, e, g) (get_or-append-add (f i) (flat_map f (count_up (suc i) n)) (k * row + x) d
+    ∙ piece_at f k (suc i) n row x d all (omega arith) c)
 
 -- what is left to count, one number on and at the end
 count_up-left : (i n : ℕ) → i < n → count_up i (n - i) ≡ i ∷ count_up (i + 1) (n - (i + 1))

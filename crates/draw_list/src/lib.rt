@@ -6,6 +6,7 @@ mod draw;
 mod fault;
 mod frame;
 mod gap;
+mod item;
 mod lines;
 
 pub use band::{BAND_ROWS, Band, Rows};
@@ -13,3 +14,4 @@ pub use draw::draw_band;
 pub use fault::DrawFault;
 pub use frame::frame_text;
 pub use gap::band_count;
+pub use item::DrawItem;

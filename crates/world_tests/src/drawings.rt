@@ -1,5 +1,5 @@
 use crate::maps::world_of;
-use draw_list::{Band, DrawFault, draw_band, frame_text};
+use draw_list::{Band, DrawFault, DrawItem, draw_band, frame_text};
 use grid_world::{Signals, World};
 use std::alloc::Global;
 
@@ -65,6 +65,18 @@ fn twenty_rows_are_three_bands(rt: HostRuntime) {
     assert!(rt; is_band(alloc, 2, b".\n.\n.\n.\n"));
     assert!(rt; band_fault(alloc, 3) == Some(DrawFault::NoBand));
     assert!(rt; is_text(alloc, 9999, text));
+}
+
+// A cell of the second band of twenty rows of one cell.
+fn cell(alloc: Global, x: u32, row: u32) -> Option<DrawItem> {
+    drawn(alloc, 1)?.ok()?.item(x, row)
+}
+
+#[test]
+fn a_band_has_cells(rt: HostRuntime) {
+    let (x, y, glyph) = (0, 11, b'.');
+    assert!(rt; cell(rt.alloc(), 0, 3) == Some(DrawItem { x, y, glyph }));
+    assert!(rt; cell(rt.alloc(), 1, 3).is_none() && cell(rt.alloc(), 0, 8).is_none());
 }
 
 fn fault_of(alloc: Global, row: &str, numbers: &[u32]) -> Option<DrawFault> {
