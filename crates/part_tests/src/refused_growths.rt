@@ -4,7 +4,7 @@ ghost use Rattle.bt_nodes.specs.Bounds.{Fits};
 ghost use Rattle.bt_nodes.specs.Trees.{plain_of};
 ghost use Rattle.bt_tick.specs.Views.{IsInWorld};
 
-use crate::ticks::{first_view, goes_on, tree, world};
+use crate::arenas::{first_view, goes_on, tree, world};
 use bt_nodes::Tree;
 use bt_tick::{Memory, Outcome, View, begin};
 use linked_list_allocator::LocalHeap;

@@ -2,6 +2,7 @@
 ghost use Rattle.std.specs.Prelude.{IfSome};
 ghost use Rattle.bt_tick.specs.Views.{IsInWorld};
 
+use crate::maps::world_of;
 use bt_nodes::{Node, Status, Tree};
 use bt_tick::{Memory, Outcome, Pending, View, begin, resume};
 use bumpalo::Bump;
@@ -9,9 +10,7 @@ use grid_world::{Answer, Dir, Intent, Place, Signals, World};
 use std::alloc::{Allocator, Global};
 
 pub fn world(alloc: Global) -> Option<World> {
-    let mut map = Vec::new(alloc);
-    map.push(String::from_str(alloc, "A.0").ok()?).ok()?;
-    World::from_rows(alloc, &map).ok()
+    world_of(alloc, &["A.0"])
 }
 
 /// What the world's first agent sees while all signals are off.

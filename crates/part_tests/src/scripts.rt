@@ -1,5 +1,6 @@
+use crate::maps::world_of;
 use game_session::Script;
-use grid_world::{Signal, Signals, World};
+use grid_world::{Signal, Signals};
 use level_text::read_script;
 use std::alloc::Global;
 
@@ -35,9 +36,7 @@ fn signals_change_in_their_frames(rt: HostRuntime) {
 
 // How the door beside an agent is drawn with the signals of a frame of a script.
 fn door_in(alloc: Global, script: &[u8], frame: u32) -> Option<u8> {
-    let mut rows = Vec::new(alloc);
-    rows.push(String::from_str(alloc, "Aa").ok()?).ok()?;
-    let world = World::from_rows(alloc, &rows).ok()?;
+    let world = world_of(alloc, &["Aa"])?;
     let signals = script_of(alloc, script)?.signals(frame);
     world.glyph_at(signals, 1, 0)
 }
