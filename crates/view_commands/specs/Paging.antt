@@ -11,7 +11,7 @@ use Rattle.task_board.specs.Setups.{setup_for}
 use Rattle.replay_log.specs.Replays.{IsIllegalAt, emits}
 use Rattle.event_slices.specs.declared.span.FrameSpan.{FrameSpan}
 use Rattle.frame_changes.specs.Films.{film_of}
-use Rattle.game_film.specs.Frames.{frames_to}
+use Rattle.log_film.specs.Frames.{frames_to}
 use Rattle.log_film.specs.declared.filmed.Filmed.{Filmed}
 use Rattle.page_text.specs.Pages.{page_of}
 use Rattle.program_fault.specs.declared.fault.Fault.{Fault}

@@ -17,8 +17,8 @@ use Rattle.game_rules.specs.Game.{Game, signals}
 use Rattle.game_rules.specs.Play.{play}
 use Rattle.frame_params.proofs.Ground.{play_ground}
 use Rattle.frame_changes.specs.Films.{feeds_of}
-use Rattle.game_film.specs.Frames.{IsPlayable, rows_at, size_of}
-use Rattle.game_film.proofs.Plain.{ArePlain, IsPlain, plain}
+use Rattle.log_film.specs.Frames.{IsPlayable, rows_at, size_of}
+use Rattle.log_film.proofs.Plain.{ArePlain, IsPlain, plain}
 
 -- ---- glyphs
 

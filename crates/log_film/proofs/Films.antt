@@ -12,9 +12,9 @@ use Rattle.game_rules.specs.Text.{texts}
 use Rattle.frame_changes.specs.Films.{Frame, HasNoMark, IsFrameOf, IsWithoutMark, feeds_of, film_after, film_of, frames_in, kept_frame}
 use Rattle.frame_changes.proofs.Unrolled.{back, feeds_length}
 use Rattle.frame_changes.proofs.NoMark.{no_mark}
-use Rattle.game_film.specs.Frames.{IsPlayable, frame_at, frames_to, last_rows, rows_at, size_of, texts_from, told}
-use Rattle.game_film.proofs.Lines.{lines_are, lines_unmarked}
-use Rattle.game_film.proofs.Rows.{feeds_for, length-rows, rows_fed, rows_unmarked}
+use Rattle.log_film.specs.Frames.{IsPlayable, frame_at, frames_to, last_rows, rows_at, size_of, texts_from, told}
+use Rattle.log_film.proofs.Lines.{lines_are, lines_unmarked}
+use Rattle.log_film.proofs.Rows.{feeds_for, length-rows, rows_fed, rows_unmarked}
 
 -- ---- one frame more
 

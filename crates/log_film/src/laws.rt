@@ -3,7 +3,7 @@ ghost use Rattle.std.specs.Prelude.{◌≡◌, ℕ, length};
 ghost use Rattle.game_rules.specs.Game.{Game};
 ghost use Rattle.game_rules.specs.Text.{texts};
 ghost use Rattle.frame_changes.specs.Films.{HasNoMark, film_of, frames_in};
-ghost use Rattle.game_film.specs.Frames.{IsPlayable, frames_to, size_of, texts_from};
+ghost use Rattle.log_film.specs.Frames.{IsPlayable, frames_to, size_of, texts_from};
 
 /// The film of a game's first frames is read as these very frames, and their text is that of the game.
 pub fn films_unroll()
