@@ -19,7 +19,7 @@ use Rattle.log_film.specs.Filming.{IsFilmOf}
 use Rattle.page_text.specs.Pages.{page_of}
 use Rattle.program_fault.specs.declared.fault.Fault.{Fault}
 use Rattle.program_fault.specs.declared.fault.Fault.TheVariants.{Incomplete}
-use Rattle.view_commands.specs.Games.{spelled_game}
+use Rattle.level_text.specs.Games.{spelled_game}
 use Rattle.view_commands.specs.Paging.{IsDoneLog, IsPageFault, IsShort, IsShowingFault, IsWhole, Pages, PagesPart, PagesSome, PagesSomePart, Sources, page_for}
 
 -- ---- the page of what is filmed

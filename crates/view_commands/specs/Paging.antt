@@ -17,7 +17,7 @@ use Rattle.page_text.specs.Pages.{page_of}
 use Rattle.program_fault.specs.declared.fault.Fault.{Fault}
 use Rattle.program_fault.specs.declared.fault.Fault.TheVariants.{IllegalEvent, Incomplete, OutOfMemory, Write}
 use Rattle.program_fault.specs.Faults.{IsReadingFault}
-use Rattle.view_commands.specs.Games.{spelled_game}
+use Rattle.level_text.specs.Games.{spelled_game}
 
 -- what the files of a level and a script hold, and what the level is called
 pub record Sources : Type 0 where

@@ -7,7 +7,6 @@ mod paging;
 mod program;
 mod reading;
 mod request;
-mod session;
 mod tracing;
 
 pub use paging::page_bytes;

@@ -1,8 +1,8 @@
 ghost use Rattle.std.specs.Prelude.{◌≡◌, Some, IfOk, IfErr};
-ghost use Rattle.play_run.specs.Games.{spelled_game};
-ghost use Rattle.commands.specs.Faults.{IsSessionFault};
+ghost use Rattle.program_fault.specs.Sessions.{IsSessionFault};
+ghost use Rattle.level_text.specs.Games.{spelled_game};
 
-use crate::faults::Fault;
+use crate::fault::Fault;
 use game_session::Session;
 use level_text::{read_level, read_script};
 use std::alloc::Global;
