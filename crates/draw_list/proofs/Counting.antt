@@ -1,5 +1,5 @@
 -- Numbers counted up, and what is joined along them.
-use Rattle.std.proofs.Common.{◌≡◌, ◌<◌, ◌≤◌, ℕ, zero, suc, ◌+◌, ◌-◌, ◌*◌, List, [], ◌∷◌, ◌++◌, length, get_or, refl, sym, ap, ◌∙◌, arith, append_assoc, append-nil}
+use Rattle.std.proofs.Common.{◌≡◌, ◌<◌, ◌≤◌, ℕ, zero, suc, ◌+◌, ◌-◌, ◌*◌, List, [], ◌∷◌, ◌++◌, map, length, get_or, refl, sym, ap, ◌∙◌, arith, append_assoc, append-nil}
 use Rattle.std.specs.List.{flat_map}
 use Rattle.std.proofs.lemmas.List.{length-append, get_or_append_left, get_or-append-add}
 use Rattle.grid_world.specs.Map.{count_up}
@@ -67,3 +67,14 @@ pieces_more f done after whole i n h e w =
 
 pub pieces_end : (f : ℕ → List ℕ) (done whole : List ℕ) (i n : ℕ) → n ≤ i → done ++ flat_map f (count_up i (n - i)) ≡ whole → done ≡ whole
 pieces_end f done whole i n h w = sym (append-nil done) ∙ ap (λ l. done ++ flat_map f l) (sym (count_up-end i n h)) ∙ w
+
+-- what is made of the numbers that are left: one more, and the last
+pub one_more : {X : Type 0} (make : ℕ → X) (i n : ℕ) (done longer whole : List X) → i < n → longer ≡ done ++ make i ∷ []
+    → done ++ map make (count_up i (n - i)) ≡ whole → longer ++ map make (count_up (i + 1) (n - (i + 1))) ≡ whole
+one_more make i n done longer whole h e w =
+    ap (λ l. l ++ map make (count_up (i + 1) (n - (i + 1)))) e
+    ∙ append_assoc done (make i ∷ []) (map make (count_up (i + 1) (n - (i + 1))))
+    ∙ ap (λ l. done ++ map make l) (sym (count_up-left i n h)) ∙ w
+
+pub all_made : {X : Type 0} (make : ℕ → X) (i n : ℕ) (done whole : List X) → n ≤ i → done ++ map make (count_up i (n - i)) ≡ whole → done ≡ whole
+all_made make i n done whole h w = sym (append-nil done) ∙ ap (λ l. done ++ map make l) (sym (count_up-end i n h)) ∙ w
