@@ -14,4 +14,4 @@ pub use ending::{end_with, refuse_words};
 pub use fault::Fault;
 pub use files::{put, read_file, read_optional_file, write_file};
 pub use session::session_of;
-pub use unread::refuse_unread_words;
+pub use unread::{refuse_unread_words, words_given};
