@@ -3,19 +3,7 @@
 
 use std::alloc::Alloc;
 use std::process::ExitCode;
-use std::{env, io};
-use view_commands::{refuse_unread_words, view_command};
-
-/// The words after the program's name.
-fn words_given(rt: &HostRuntime) -> io::Result<Vec<String>> {
-    let mut words = Vec::new(rt.alloc());
-    let mut given = env::args(rt)?;
-    let _name = given.next();
-    for word in given {
-        words.push(word)?;
-    }
-    Ok(words)
-}
+use view_commands::{refuse_unread_words, view_command, words_given};
 
 fn main(rt: HostRuntime) -> ExitCode {
     let mut err = rt.stderr();

@@ -1,21 +1,9 @@
 // The program: hands its words, its input and its outputs to `command`.
 #![tactic(auto)]
 
-use commands::{command, refuse_unread_words};
+use commands::{command, refuse_unread_words, words_given};
 use std::alloc::Alloc;
 use std::process::ExitCode;
-use std::{env, io};
-
-/// The words after the program's name.
-fn words_given(rt: &HostRuntime) -> io::Result<Vec<String>> {
-    let mut words = Vec::new(rt.alloc());
-    let mut given = env::args(rt)?;
-    let _name = given.next();
-    for word in given {
-        words.push(word)?;
-    }
-    Ok(words)
-}
 
 fn main(rt: HostRuntime) -> ExitCode {
     let mut err = rt.stderr();

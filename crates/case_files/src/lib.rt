@@ -10,11 +10,15 @@ mod listing;
 mod outcome;
 mod run;
 mod streams;
+mod tallies;
+mod tally;
 
-pub use case::{Act, Case, Completion, Span};
+pub use case::{Act, Case, Completion};
 pub use folder::{take_files, take_made, write_files};
 pub use judging::judge;
 pub use listing::cases_in;
 pub use outcome::Outcome;
-pub use run::Run;
+pub use run::{Run, runs_of};
 pub use streams::{Pieces, Taker};
+pub use tallies::Tallies;
+pub use tally::Tally;

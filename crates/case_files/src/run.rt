@@ -1,5 +1,6 @@
 // One run of a case: what is done, and how much of the files and of standard input there is.
-use crate::case::{Act, Case, Cut, NamedBytes, Unit};
+use crate::case::{Act, Case, Cut, NamedBytes, Span, Unit};
+use std::alloc::{AllocError, Global};
 
 /// What is done in one run, to what length a file or standard input is cut, and how many bytes standard output takes.
 #[derive(Clone, Copy, Drop)]
@@ -7,6 +8,35 @@ pub struct Run<'a> {
     pub act: &'a Act,
     pub cut: Option<usize>,
     pub room: Option<usize>,
+}
+
+fn lengths(span: Option<Span>) -> Span {
+    span.unwrap_or(Span { first: 0, last: 0 })
+}
+
+fn within(span: Option<Span>, at: usize) -> Option<usize> {
+    match span {
+        Some(_) => Some(at),
+        None => None,
+    }
+}
+
+/// The runs of a case: each act, cut to each length, with each room.
+pub fn runs_of(alloc: Global, case: &Case) -> Result<Vec<Run<'_>>, AllocError> {
+    let cuts = case.cuts();
+    let mut runs = Vec::new(alloc);
+    for act in &case.acts {
+        for cut in lengths(cuts).first..=lengths(cuts).last {
+            for room in lengths(case.room).first..=lengths(case.room).last {
+                runs.push(Run {
+                    act,
+                    cut: within(cuts, cut),
+                    room: within(case.room, room),
+                })?;
+            }
+        }
+    }
+    Ok(runs)
 }
 
 /// The first so many lines.

@@ -6,34 +6,21 @@
 
 mod completing;
 mod playing;
-mod tally;
 
 use anyhow::Result;
-use case_files::cases_in;
+use case_files::{Tallies, cases_in};
 use playing::play_case;
 use std::alloc::Alloc;
 use std::fs;
-use tally::Tally;
 
 fn main(rt: HostRuntime) -> Result<()> {
     let names = fs::read_to_string(&rt, "cases.txt")?;
-    let mut cases = 0u64;
-    let mut right = Tally::new();
-    let mut wrong = Tally::new();
+    let mut tallies = Tallies::new();
     for name in names.as_str().lines() {
         for case in &cases_in(&rt, rt.alloc(), name)? {
-            let tally = play_case(&rt, rt.alloc(), case)?;
-            if case.differs.is_some() {
-                wrong.add(tally);
-            } else {
-                cases = cases.saturating_add(1);
-                right.add(tally);
-            }
+            tallies.add(case, play_case(&rt, rt.alloc(), case)?);
         }
     }
-    println!(rt;
-        "{cases} cases, {} runs, {} differ; {} made to differ, {} do",
-        right.runs, right.differ, wrong.runs, wrong.differ
-    )?;
+    tallies.print(&rt)?;
     Ok(())
 }

@@ -1,61 +1,18 @@
 -- What the program has written for words that name files.
-use Rattle.std.proofs.Common.{◌≡◌, ◌<◌, ℕ, List, [], Option, Some, None, inl, inr, refl, sym, subst, append-nil, arith}
+use Rattle.std.proofs.Common.{◌≡◌, ℕ, List, [], Option, Some, None, inl, inr, refl, sym, subst, append-nil}
 use Rattle.std.specs.Prelude.{⊤, MatchOption, IsSomeAnd, Result, Ok, Err, OnOk, OnErr}
 use Rattle.std.specs.Io.KnownBytes.{Appends, Keeps}
 use Rattle.byte_streams.specs.Streams.{AppendsPart}
 use Rattle.game_rules.specs.Game.{Game}
 use Rattle.game_rules.specs.Text.{texts}
-use Rattle.play_run.specs.Games.{spelled_game}
+use Rattle.level_text.specs.Games.{spelled_game}
 use Rattle.words.specs.declared.request.Words.{Words}
 use Rattle.words.specs.declared.request.Words.TheVariants.{Piped, Play, Replay, Check}
 use Rattle.words.specs.Program.{IsReading, AsksToPlay, AsksToReplay}
 use Rattle.words.proofs.Asked.{read_as_play, read_as_replay}
-use Rattle.commands.specs.declared.faults.Fault.{Fault}
-use Rattle.commands.specs.declared.faults.Fault.TheVariants as faults
-use Rattle.commands.specs.Faults.{status_of, status_in}
+use Rattle.program_fault.specs.declared.fault.Fault.{Fault}
 use Rattle.commands.specs.Doing.{PlaysSome, PlaysPart, ReplaysSome, ReplaysPart, IsDone, IsPartDone}
 use Rattle.commands.specs.Replaying.{Shows, ShowsPart}
-
-pub on_err : {T E : Type 0} (r : Result T E) (P : Type 0) → P → OnErr r P
-on_err (Ok x) P p = tt
-on_err (Err e) P p = p
-
-pub on_err_map : {T E : Type 0} (r : Result T E) (P Q : Type 0) → (P → Q) → OnErr r P → OnErr r Q
-on_err_map (Ok x) P Q f p = tt
-on_err_map (Err e) P Q f p = f p
-
--- each fault has a status of its own
-above_zero : (f : Fault) → 0 < status_of f
-above_zero (faults.File path) = omega arith
-above_zero faults.StandardInput = omega arith
-above_zero faults.Json = omega arith
-above_zero faults.Shape = omega arith
-above_zero faults.MapSize = omega arith
-above_zero (faults.MapChar x y) = omega arith
-above_zero faults.Letters = omega arith
-above_zero faults.AgentCount = omega arith
-above_zero (faults.BadTree name limit) = omega arith
-above_zero (faults.NoTree letter) = omega arith
-above_zero (faults.NoPlace name) = omega arith
-above_zero (faults.NoAgent name) = omega arith
-above_zero (faults.ScriptLine n) = omega arith
-above_zero (faults.ScriptOrder n) = omega arith
-above_zero faults.LogHead = omega arith
-above_zero (faults.LogLine n) = omega arith
-above_zero (faults.IllegalEvent n) = omega arith
-above_zero (faults.Incomplete shown frames) = omega arith
-above_zero faults.Write = omega arith
-above_zero faults.Spawn = omega arith
-above_zero faults.GateClosed = omega arith
-above_zero faults.Stranger = omega arith
-above_zero faults.OutOfMemory = omega arith
-
-no_fault : (f : Fault) (n : ℕ) → n ≡ status_of f → n ≡ 0 → 0 < status_of f → ⊥
-no_fault f n e zero above = omega arith
-
-pub ok_at_zero : (r : Result (⊤) Fault) (n : ℕ) (P : Type 0) → n ≡ status_in r → n ≡ 0 → OnOk r P → P
-ok_at_zero (Ok x) n P e zero p = p
-ok_at_zero (Err f) n P e zero p = absurd (no_fault f n e zero (above_zero f))
 
 -- ---- playing
 

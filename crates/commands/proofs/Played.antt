@@ -7,7 +7,7 @@ use Rattle.byte_streams.proofs.Parts.{first_bytes}
 use Rattle.game_rules.specs.Game.{Game}
 use Rattle.game_rules.specs.Text.{texts}
 use Rattle.job_machine.specs.Numbers.{Numbers}
-use Rattle.play_run.specs.Games.{spelled_game}
+use Rattle.level_text.specs.Games.{spelled_game}
 use Rattle.play_run.specs.Plays as plays
 use Rattle.run_shared.specs.Printed.{WrotePart}
 use Rattle.play_run.specs.declared.report.RunReport.{RunReport}

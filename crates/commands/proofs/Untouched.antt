@@ -5,7 +5,7 @@ use Rattle.std.specs.Io.KnownBytes.{Appends, Keeps}
 use Rattle.game_rules.specs.Game.{Game}
 use Rattle.game_rules.specs.Text.{texts}
 use Rattle.byte_streams.specs.Streams.{AppendsPart}
-use Rattle.play_run.specs.Games.{spelled_game}
+use Rattle.level_text.specs.Games.{spelled_game}
 
 kept : (a : Option (List ℕ)) → Keeps a a
 kept None = tt

@@ -3,7 +3,7 @@ use Rattle.std.specs.Prelude.{ℕ, ◌⊎◌, List, Option, IsSomeAnd}
 use Rattle.std.specs.Io.KnownBytes.{Appends, Keeps}
 use Rattle.byte_streams.specs.Streams.{AppendsPart}
 use Rattle.game_rules.specs.Text.{texts}
-use Rattle.play_run.specs.Games.{spelled_game}
+use Rattle.level_text.specs.Games.{spelled_game}
 use Rattle.words.specs.declared.request.Words.{Words}
 use Rattle.words.specs.declared.request.Words.TheVariants.{Piped, Play, Replay, Check}
 use Rattle.commands.specs.Replaying.{Shows, ShowsPart}

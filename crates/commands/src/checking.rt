@@ -2,9 +2,8 @@ ghost use Rattle.std.specs.Prelude.{OnOk, IsOk, IfErr};
 ghost use Rattle.level_text.specs.Levels.{spelled};
 ghost use Rattle.commands.specs.Faults.{IsCheckFault};
 
-use crate::faults::Fault;
-use crate::files::{put, read_file};
 use level_text::read_level;
+use program_fault::{Fault, put, read_file};
 use std::alloc::Global;
 use std::io::Write;
 use std::rt::Files;

@@ -3,7 +3,7 @@ ghost use Rattle.std.specs.Prelude.{OnOk, OnErr, IfErr, IsSomeAnd, MatchOption};
 ghost use Rattle.std.specs.Io.KnownBytes.{Appends, Keeps};
 ghost use Rattle.game_rules.specs.Text.{texts};
 ghost use Rattle.byte_streams.specs.Streams.{AppendsPart};
-ghost use Rattle.play_run.specs.Games.{spelled_game};
+ghost use Rattle.level_text.specs.Games.{spelled_game};
 ghost use Rattle.commands.specs.Faults.{IsPlayFault};
 
 use job_core::names::Event;

@@ -3,17 +3,17 @@ ghost use Rattle.std.specs.Prelude.{◌≡◌, [], None, IfErr, IfSome, IsSomeAn
 ghost use Rattle.std.specs.Io.KnownBytes.{Appends, Keeps};
 ghost use Rattle.game_rules.specs.Text.{texts};
 ghost use Rattle.commands.specs.Doing.{PlaysSome, PlaysPart};
-ghost use Rattle.commands.specs.Faults.{status_of};
-ghost use Rattle.play_run.specs.Games.{spelled_game};
+ghost use Rattle.level_text.specs.Games.{spelled_game};
+ghost use Rattle.program_fault.specs.Faults.{status_of};
 ghost use Rattle.byte_streams.specs.Streams.{AppendsPart};
 
-use crate::faults::Fault;
 use crate::few_frames::few_frames;
-use crate::files::{read_file, read_optional_file, write_file};
 use crate::play::play_bytes;
+use crate::run_fault::play_fault;
 use byte_streams::{ReadFault, read_whole};
 use job_machine::Settings;
 use log_text::write_log;
+use program_fault::{Fault, read_file, read_optional_file, write_file};
 use std::alloc::Global;
 use std::io::{Read, Write};
 use std::rt::Files;
@@ -42,7 +42,7 @@ pub fn play_input<H: Threads + Wait + Sync, R: Read, W: Write>(
     };
     match play_bytes(rt, alloc, &bytes, &[], few_frames(), out) {
         Ok(_) => Ok(()),
-        Err(fault) => Err(Fault::from(fault)),
+        Err(fault) => Err(play_fault(fault)),
     }
 }
 
@@ -64,7 +64,7 @@ pub fn play_files<H: Files + Threads + Wait + Sync, W: Write>(
     let script = read_optional_file(rt, alloc, script)?;
     let events = match play_bytes(rt, alloc, &level, &script, settings, out) {
         Ok(events) => events,
-        Err(fault) => return Err(Fault::from(fault)),
+        Err(fault) => return Err(play_fault(fault)),
     };
     if let Some(path) = log {
         let text = write_log(alloc, settings, &events)?;

@@ -3,23 +3,20 @@ ghost use Rattle.std.specs.Prelude.{◌≡◌, ◌≢◌, ℕ, [], None, map, st
 ghost use Rattle.std.specs.Io.KnownBytes.{Appends, Keeps};
 ghost use Rattle.game_rules.specs.Text.{texts};
 ghost use Rattle.commands.specs.Doing.{PlaysSome, PlaysPart, ReplaysSome, ReplaysPart, IsDone, IsPartDone};
-ghost use Rattle.commands.specs.Faults.{status_in};
-ghost use Rattle.play_run.specs.Games.{spelled_game};
+ghost use Rattle.level_text.specs.Games.{spelled_game};
 ghost use Rattle.byte_streams.specs.Streams.{AppendsPart};
-ghost use Rattle.words.specs.Program.{AsksToPlay, AsksToReplay, IsNoHelp};
+ghost use Rattle.words.specs.Program.{AsksToPlay, AsksToReplay};
 
 use crate::checking::check_file;
-use crate::faults::Fault;
-use crate::files::put;
 use crate::playing::{play_files, play_input};
 use crate::replaying::replay_files;
-use byte_streams::write_whole;
+use program_fault::{Fault, end_with, refuse_words};
 use std::alloc::Global;
 use std::io::{Read, Write};
 use std::rt::Files;
 use std::sync::Wait;
 use std::thread::Threads;
-use words::{Words, WordsFault, read_words};
+use words::{Words, read_words};
 
 /// Does what words ask for that name a level's file.
 fn act<H: Files + Threads + Wait + Sync, W: Write>(
@@ -41,31 +38,6 @@ fn act<H: Files + Threads + Wait + Sync, W: Write>(
         } => play_files(rt, alloc, level, settings, script, log, out),
         Words::Replay { level, log, script } => replay_files(rt, alloc, level, log, script, out),
         Words::Check { level } => check_file(rt, alloc, level, out),
-    }
-}
-
-/// Says why words are not done, on `out` where help was asked for.
-fn refuse<W: Write, E: Write>(fault: WordsFault, out: &mut W, err: &mut E) -> u8
-    ensures refused { IsNoHelp fault → result ≢ 0 }
-    ensures nothing { IsNoHelp fault → W.contents out.new ≡ W.contents out.old }
-{
-    match fault {
-        WordsFault::OutOfMemory => Fault::OutOfMemory.report(err),
-        WordsFault::Help(text) => status_of(put(out, text.as_bytes()), err),
-        WordsFault::Refused(text) => {
-            let _ = write_whole(err, text.as_bytes());
-            2
-        }
-    }
-}
-
-/// The status with which the program ends.
-fn status_of<E: Write>(done: Result<(), Fault>, err: &mut E) -> u8
-    ensures { result ≡ status_in done }
-{
-    match done {
-        Ok(()) => 0,
-        Err(why) => why.report(err),
     }
 }
 
@@ -106,8 +78,8 @@ pub fn command<H: Files + Threads + Wait + Sync, R: Read, W: Write, E: Write>(
         },
         Ok(words) => {
             let done = act(rt, alloc, words, out);
-            status_of(done, err)
+            end_with(done, err)
         }
-        Err(fault) => refuse(fault, out, err),
+        Err(fault) => refuse_words(fault, out, err),
     }
 }

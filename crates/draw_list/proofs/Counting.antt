@@ -1,7 +1,7 @@
 -- Numbers counted up, and what is joined along them.
-use Rattle.std.proofs.Common.{◌≡◌, ◌<◌, ◌≤◌, ℕ, zero, suc, ◌+◌, ◌-◌, ◌*◌, List, [], ◌∷◌, ◌++◌, length, refl, sym, ap, ◌∙◌, arith, append_assoc, append-nil}
+use Rattle.std.proofs.Common.{◌≡◌, ◌<◌, ◌≤◌, ℕ, zero, suc, ◌+◌, ◌-◌, ◌*◌, List, [], ◌∷◌, ◌++◌, map, length, get_or, refl, sym, ap, ◌∙◌, arith, append_assoc, append-nil}
 use Rattle.std.specs.List.{flat_map}
-use Rattle.std.proofs.lemmas.List.{length-append}
+use Rattle.std.proofs.lemmas.List.{length-append, get_or_append_left, get_or-append-add}
 use Rattle.grid_world.specs.Map.{count_up}
 
 pub count_up-zero : (i : ℕ) → count_up i 0 ≡ []
@@ -32,6 +32,22 @@ length-flat_map-count_up f k i (suc n) h =
     let more : k * suc n ≡ k + k * n = omega arith in
     rw (count_up-suc, length-append (f i) (flat_map f (count_up (suc i) n)), h i, rest, more) refl
 
+-- an element of one of them
+pub piece_at : (f : ℕ → List ℕ) (k i n row x d : ℕ) → ((j : ℕ) → length (f j) ≡ k) → row < n → x < k
+    → get_or (flat_map f (count_up i n)) (k * row + x) d ≡ get_or (f (i + row)) x d
+piece_at f k i zero row x d all r c = absurd (omega arith)
+piece_at f k i (suc n) zero x d all r c =
+    let len = all i in
+    let e : k * zero + x ≡ x = omega arith in
+    let g : i + zero ≡ i = omega arith in
+    rw (count_up-suc, e, g) (get_or_append_left (f i) (flat_map f (count_up (suc i) n)) d x (omega (arith, len)))
+piece_at f k i (suc n) (suc row) x d all r c =
+    let len = all i in
+    let e : k * suc row + x ≡ length (f i) + (k * row + x) = omega (arith, len) in
+    let g : i + suc row ≡ suc i + row = omega arith in
+    rw (count_up-suc, e, g) (get_or-append-add (f i) (flat_map f (count_up (suc i) n)) (k * row + x) d
+    ∙ piece_at f k (suc i) n row x d all (omega arith) c)
+
 -- what is left to count, one number on and at the end
 count_up-left : (i n : ℕ) → i < n → count_up i (n - i) ≡ i ∷ count_up (i + 1) (n - (i + 1))
 count_up-left i n h =
@@ -51,3 +67,14 @@ pieces_more f done after whole i n h e w =
 
 pub pieces_end : (f : ℕ → List ℕ) (done whole : List ℕ) (i n : ℕ) → n ≤ i → done ++ flat_map f (count_up i (n - i)) ≡ whole → done ≡ whole
 pieces_end f done whole i n h w = sym (append-nil done) ∙ ap (λ l. done ++ flat_map f l) (sym (count_up-end i n h)) ∙ w
+
+-- what is made of the numbers that are left: one more, and the last
+pub one_more : {X : Type 0} (make : ℕ → X) (i n : ℕ) (done longer whole : List X) → i < n → longer ≡ done ++ make i ∷ []
+    → done ++ map make (count_up i (n - i)) ≡ whole → longer ++ map make (count_up (i + 1) (n - (i + 1))) ≡ whole
+one_more make i n done longer whole h e w =
+    ap (λ l. l ++ map make (count_up (i + 1) (n - (i + 1)))) e
+    ∙ append_assoc done (make i ∷ []) (map make (count_up (i + 1) (n - (i + 1))))
+    ∙ ap (λ l. done ++ map make l) (sym (count_up-left i n h)) ∙ w
+
+pub all_made : {X : Type 0} (make : ℕ → X) (i n : ℕ) (done whole : List X) → n ≤ i → done ++ map make (count_up i (n - i)) ≡ whole → done ≡ whole
+all_made make i n done whole h w = sym (append-nil done) ∙ ap (λ l. done ++ map make l) (sym (count_up-end i n h)) ∙ w

@@ -1,17 +1,18 @@
 -- The bands of a map, joined, are its rows, and have no gap.
-use Rattle.std.proofs.Common.{◌≡◌, ℕ, zero, suc, ◌+◌, ◌-◌, ◌*◌, min, Bool, true, false, ◌==◌, ◌&&◌, nat_lt, List, [], ◌∷◌, ◌++◌, length, map, None, Some, refl, sym, ap, ◌∙◌, arith, ⊎_elim, inl, inr, ◌⊎◌, append-nil}
+use Rattle.std.proofs.Common.{◌≡◌, ◌<◌, ℕ, zero, suc, ◌+◌, ◌-◌, ◌*◌, min, Bool, true, false, ◌==◌, ◌&&◌, nat_lt, List, [], ◌∷◌, ◌++◌, length, get_or, map, None, Some, refl, sym, ap, ◌∙◌, arith, ⊎_elim, inl, inr, ◌⊎◌, append-nil}
 use Rattle.std.specs.List.{flat_map}
 use Rattle.std.proofs.lemmas.Bool.{and_from, eq-eqb, cases_lt, lt-ltb, le-ltb}
-use Rattle.std.proofs.lemmas.List.{length-append, length-map}
+use Rattle.std.proofs.lemmas.List.{length-append, length-map, get_or_append_left}
 use Rattle.std.proofs.lemmas.List.Concat.{flat_map-append}
 use Rattle.std.proofs.lemmas.Grind.{div_ceil_times}
 use Rattle.grid_world.specs.Grid.{Grid}
 use Rattle.grid_world.specs.Map.{count_up}
 use Rattle.grid_world.specs.Glyphs.{glyph}
+use Rattle.grid_world.proofs.CountUp.{get_or-map-count_up, length-map-count_up}
 use Rattle.game_rules.specs.Text.{row_text}
 use Rattle.draw_list.specs.declared.band.Band.{Band}
 use Rattle.draw_list.specs.Bands.{band_count, band_height, band_text, band_of, bands_of, stands_at, gap_from, gap_of}
-use Rattle.draw_list.proofs.Counting.{count_up-zero, count_up-suc, count_up-append, length-count_up, length-flat_map-count_up}
+use Rattle.draw_list.proofs.Counting.{count_up-zero, count_up-suc, count_up-append, length-count_up, length-flat_map-count_up, piece_at}
 
 module _ (w : Grid) (on : List Bool) where
   -- rows in two parts; where the second is empty it may begin anywhere
@@ -48,8 +49,19 @@ module _ (w : Grid) (on : List Bool) where
       let n : length cells ≡ w.width = length-map (count_up 0 w.width) (λ x. glyph w on (record { x = x; y = y })) ∙ length-count_up 0 w.width in
       length-append cells (10 ∷ []) ∙ ap (λ k. k + 1) n ∙ omega arith
 
-  length-band_text : (b : ℕ) → length (band_text w on b) ≡ suc w.width * band_height w.height b
+  pub length-band_text : (b : ℕ) → length (band_text w on b) ≡ suc w.width * band_height w.height b
   length-band_text b = length-flat_map-count_up (row_text w on) (suc w.width) (8 * b) (band_height w.height b) length-row_text
+
+  -- the glyph of a cell of a band
+  pub glyph_in : (b row x d : ℕ) → x < w.width → row < band_height w.height b
+      → get_or (band_text w on b) (suc w.width * row + x) d ≡ glyph w on (record { x = x; y = 8 * b + row })
+  glyph_in b row x d c r =
+      let cell : ℕ → ℕ = λ k. glyph w on (record { x = k; y = 8 * b + row }) in
+      let len = length-map-count_up cell 0 w.width in
+      let same : 0 + x ≡ x = omega arith in
+      piece_at (row_text w on) (suc w.width) (8 * b) (band_height w.height b) row x d length-row_text r (omega (arith, c))
+      ∙ get_or_append_left (map cell (count_up 0 w.width)) (10 ∷ []) d x (omega (arith, c, len))
+      ∙ get_or-map-count_up cell 0 w.width x d c ∙ ap cell same
 
   stands : (b : ℕ) → stands_at w.width w.height b (band_of w on b) ≡ true
   stands b =

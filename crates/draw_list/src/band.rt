@@ -1,5 +1,6 @@
-ghost use Rattle.std.specs.Prelude.{◌≡◌, ℕ, List};
+ghost use Rattle.std.specs.Prelude.{◌≡◌, ◌≤◌, ℕ, Bool, List};
 
+use crate::item::DrawItem;
 use std::marker::Model;
 
 /// How many rows of the map a band has; the last band may have fewer.
@@ -31,6 +32,13 @@ impl Rows {
     {
         &self.text
     }
+
+    /// The same text, which is not copied.
+    pub fn into_vec(self) -> Vec<u8>
+        ensures { result.items ≡ self }
+    {
+        self.text
+    }
 }
 
 /// A band of a map, as drawn: bands are numbered from 0 at the top, and `width` counts columns.
@@ -39,4 +47,24 @@ pub struct Band {
     pub number: u32,
     pub width: u32,
     pub rows: Rows,
+}
+
+impl Band {
+    ghost use Rattle.grid_world.specs.Grid.{Grid};
+    ghost use Rattle.draw_list.specs.Bands.{band_of};
+    ghost use Rattle.draw_list.specs.Items.{item_in};
+
+    /// The cell in a column of one of the band's rows, which are counted from its top, and none outside of it.
+    pub fn item(&self, x: u32, row: u32) -> Option<DrawItem>
+        ensures { (w : Grid) (on : List Bool) → w.height ≤ 128 → self.now ≡ band_of w on self.now.number
+            → result ≡ item_in w on self.now.number x row }
+    {
+        if x >= self.width || row >= BAND_ROWS {
+            return None;
+        }
+        let y = self.number.checked_mul(BAND_ROWS)?.checked_add(row)?;
+        let at = (self.width as usize + 1) * row as usize + x as usize;
+        let glyph = *self.rows.as_bytes().get(at)?;
+        Some(DrawItem { x, y, glyph })
+    }
 }

@@ -4,12 +4,13 @@ ghost use Rattle.game_rules.specs.Text.{agents_text, text};
 ghost use Rattle.draw_list.specs.Bands.{bands_of, gap_of};
 
 use crate::band::Band;
+use crate::draw::draw_bands;
 use crate::fault::DrawFault;
 use crate::gap::first_gap;
 use crate::lines::{push_agent_lines, push_frame_line, push_rows};
 use bt_nodes::Status;
-use grid_world::World;
-use std::alloc::Global;
+use grid_world::{Signals, World};
+use std::alloc::{AllocError, Global};
 
 /// The most bytes of the lines before and after the rows: `frame` with a number of 32 bits, and the lines of 26 agents on a
 /// map of 128 by 128 cells.
@@ -45,4 +46,22 @@ pub fn frame_text(
     push_rows(&mut written, bands)?;
     push_agent_lines(&mut written, world.agents(), statuses)?;
     Ok(written)
+}
+
+/// Draws a frame: its text, with the rows of its world under its signals.
+pub fn draw_frame(
+    alloc: Global,
+    frame: u32,
+    world: &World,
+    signals: Signals,
+    statuses: &[Status],
+) -> Result<Vec<u8>, AllocError>
+    requires { length statuses.now ≡ length world.now.agents }
+    ensures { IfOk result (λ written. written.items ≡ text frame world.now signals statuses.now) }
+{
+    let bands = draw_bands(alloc, world, signals)?;
+    match frame_text(alloc, frame, &bands, world, statuses) {
+        Ok(text) => Ok(text),
+        Err(_) => Err(AllocError),
+    }
 }

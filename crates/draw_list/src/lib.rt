@@ -6,10 +6,12 @@ mod draw;
 mod fault;
 mod frame;
 mod gap;
+mod item;
 mod lines;
 
 pub use band::{BAND_ROWS, Band, Rows};
 pub use draw::draw_band;
 pub use fault::DrawFault;
-pub use frame::frame_text;
+pub use frame::{draw_frame, frame_text};
 pub use gap::band_count;
+pub use item::DrawItem;

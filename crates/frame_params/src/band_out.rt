@@ -4,6 +4,7 @@ ghost use Rattle.frame_params.specs.Contents.{band_in};
 use crate::band_mark::BandMark;
 use draw_list::Band;
 use game_session::Session;
+use job_core::names::JobName;
 use std::marker::Model;
 
 /// A band of a frame, drawn.
@@ -38,6 +39,23 @@ impl<'t> Model for BandOut<'t> {
 }
 
 impl<'t> BandOut<'t> {
+    /// The session itself, as it was lent.
+    pub fn session(&self) -> &'t Session
+        ensures { result.now ≡ self.now.game }
+    {
+        self.session
+    }
+
+    /// The job whose work it is.
+    pub fn name(&self) -> JobName
+        ensures { result ≡ JobName.Draw self.now.frame self.now.number }
+    {
+        JobName::Draw {
+            frame: self.frame,
+            band: self.band.number,
+        }
+    }
+
     /// The frame whose band it is.
     pub fn frame(&self) -> u32
         ensures { result ≡ self.now.frame }
@@ -61,6 +79,13 @@ impl<'t> BandOut<'t> {
             frame: self.frame,
             number: self.band.number,
         }
+    }
+
+    /// The band's rows.
+    pub fn band(&self) -> &Band
+        ensures { result.now ≡ band_in self.now.game self.now.frame self.now.number }
+    {
+        &self.band
     }
 
     /// The band's rows, which are moved and not copied.

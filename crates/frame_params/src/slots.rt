@@ -46,6 +46,13 @@ impl<'t> Slots<'t> {
         Ok(Slots { places })
     }
 
+    /// Whether nothing stands in the place of a frame.
+    pub fn is_free(&self, frame: u32) -> bool
+        ensures { result ≡ is_free self.now frame }
+    {
+        self.places[frame as usize % self.places.len()].is_none()
+    }
+
     /// Puts parameters into the place of their frame.
     pub fn fill(&mut self, params: FrameParams<'t>)
         requires { is_free self.old params.frame ≡ true }
@@ -81,6 +88,13 @@ impl<'t> Slots<'t> {
         }
         let at = frame as usize % self.places.len();
         self.places[at].take()
+    }
+
+    /// Lets go of the parameters of a frame, where they stand in its place.
+    pub fn clear(&mut self, frame: u32)
+        ensures { self.new ≡ cleared self.old frame }
+    {
+        drop(self.take(frame));
     }
 
     /// Keeps the distances that a way's search found with the parameters of its frame, where they stand in its place.

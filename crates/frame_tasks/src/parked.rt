@@ -86,4 +86,11 @@ impl<'t> Parked<'t> {
     {
         self.question
     }
+
+    /// The same number, with 64 bits as an index.
+    pub fn index(&self) -> u64
+        ensures { result ≡ self.now.question }
+    {
+        u64::from(self.question)
+    }
 }

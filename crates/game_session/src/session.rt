@@ -69,6 +69,13 @@ impl Session {
         self.level.tree_of(agent)
     }
 
+    /// The level, whose game it is with the script.
+    pub fn level(&self) -> &Level
+        ensures { game_of (value_of result.now) self.now.changes ≡ self.now }
+    {
+        &self.level
+    }
+
     /// The changes of signals, by frame.
     pub fn script(&self) -> &Script
         ensures { result.now ≡ self.now.changes }

@@ -7,11 +7,9 @@ mod fault;
 mod marks;
 mod question;
 mod search;
-mod searcher;
 mod table;
 
 pub use distances::Distances;
 pub use fault::PathFault;
 pub use grid_world::Answer;
 pub use question::ask;
-pub use searcher::Searcher;

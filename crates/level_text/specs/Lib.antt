@@ -8,3 +8,4 @@ pub mod Levels
 pub mod Written
 pub mod Marks
 pub mod Begun
+pub mod Games

@@ -14,6 +14,7 @@ mod script_file;
 mod write;
 mod write_nodes;
 
+pub use game_session::{Level, Script, Session};
 pub use level_fault::LevelFault;
 pub use read::{level_of, read_level};
 pub use script_file::{ScriptFault, read_script};

@@ -7,8 +7,8 @@ use Rattle.game_rules.specs.Game.{Game}
 use Rattle.game_rules.specs.Text.{frame_text}
 use Rattle.frame_params.specs.Contents.{world_after}
 use Rattle.frame_params.proofs.Ground.{play_ground}
-use Rattle.game_film.specs.Frames.{lines_at, rows_at, size_of}
-use Rattle.game_film.proofs.Rows.{length-rows}
+use Rattle.log_film.specs.Frames.{lines_at, rows_at, size_of}
+use Rattle.log_film.proofs.Rows.{length-rows}
 
 take_front : (front rest : List ℕ) (n : ℕ) → n ≡ length front → take n (front ++ rest) ≡ front
 take_front [] rest n e = ap (λ k. take k rest) e

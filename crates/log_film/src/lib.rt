@@ -5,6 +5,7 @@
 mod drawn;
 mod filmed;
 mod filming;
+pub mod laws;
 mod reel;
 
 pub use filmed::Filmed;

@@ -1,4 +1,4 @@
-//! What a program says of what went wrong, and the files that its words name.
+//! What a program says of what went wrong, the files that its words name, and the game that two of them spell.
 #![tactic(auto)]
 
 mod ending;
@@ -7,9 +7,11 @@ mod files;
 mod level_fault;
 mod log_fault;
 mod script_fault;
+mod session;
 mod unread;
 
 pub use ending::{end_with, refuse_words};
 pub use fault::Fault;
 pub use files::{put, read_file, read_optional_file, write_file};
-pub use unread::refuse_unread_words;
+pub use session::session_of;
+pub use unread::{refuse_unread_words, words_given};

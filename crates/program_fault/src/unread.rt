@@ -3,8 +3,21 @@ ghost use Rattle.std.specs.IoError.{error_kind};
 
 use crate::fault::Fault;
 use byte_streams::write_whole;
-use std::io;
+use std::alloc::Global;
 use std::io::{ErrorKind, Write};
+use std::rt::Env;
+use std::{env, io};
+
+/// The words after the program's name.
+pub fn words_given<H: Env + Alloc<A = Global>>(rt: &H) -> io::Result<Vec<String>> {
+    let mut words = Vec::new(rt.alloc());
+    let mut given = env::args(rt)?;
+    let _name = given.next();
+    for word in given {
+        words.push(word)?;
+    }
+    Ok(words)
+}
 
 /// Says on `err` why the words after the program's name can't be had, and gives the status with which the program
 /// ends: want of memory, or else a word that is no UTF-8. Takes no memory.

@@ -1,7 +1,8 @@
 // Runs of the viewer, and what comes of them.
-use crate::tally::Tally;
 use anyhow::{Result, bail};
-use case_files::{Act, Case, Outcome, Run, Span, Taker, judge, take_files, take_made, write_files};
+use case_files::{
+    Act, Case, Outcome, Run, Taker, Tally, judge, runs_of, take_files, take_made, write_files,
+};
 use std::alloc::Global;
 use std::rt::Files;
 use view_commands::view_command;
@@ -33,37 +34,16 @@ fn play_run<H: Files + Alloc<A = Global>>(
     })
 }
 
-fn lengths(span: Option<Span>) -> Span {
-    span.unwrap_or(Span { first: 0, last: 0 })
-}
-
-fn within(span: Option<Span>, at: usize) -> Option<usize> {
-    match span {
-        Some(_) => Some(at),
-        None => None,
-    }
-}
-
-/// Plays each run of a case: each act, cut to each length, with each room.
+/// Plays each run of a case.
 pub fn play_case<H: Files + Alloc<A = Global> + Print>(
     rt: &H,
     alloc: Global,
     case: &Case,
 ) -> Result<Tally> {
     let mut tally = Tally::new();
-    let cuts = case.cuts();
-    for act in &case.acts {
-        for cut in lengths(cuts).first..=lengths(cuts).last {
-            for room in lengths(case.room).first..=lengths(case.room).last {
-                let run = Run {
-                    act,
-                    cut: within(cuts, cut),
-                    room: within(case.room, room),
-                };
-                let outcome = play_run(rt, alloc, case, &run)?;
-                tally.count(judge(rt, case, &run, &outcome)?);
-            }
-        }
+    for run in &runs_of(alloc, case)? {
+        let outcome = play_run(rt, alloc, case, run)?;
+        tally.count(judge(rt, case, run, &outcome)?);
     }
     Ok(tally)
 }

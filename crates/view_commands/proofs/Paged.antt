@@ -13,13 +13,13 @@ use Rattle.task_board.specs.Setups.{setup_for}
 use Rattle.replay_log.specs.Replays.{IsIllegalAt, emits}
 use Rattle.event_slices.specs.declared.span.FrameSpan.{FrameSpan}
 use Rattle.frame_changes.specs.Films.{film_of}
-use Rattle.game_film.specs.Frames.{frames_to}
+use Rattle.log_film.specs.Frames.{frames_to}
 use Rattle.log_film.specs.declared.filmed.Filmed.{Filmed}
 use Rattle.log_film.specs.Filming.{IsFilmOf}
 use Rattle.page_text.specs.Pages.{page_of}
 use Rattle.program_fault.specs.declared.fault.Fault.{Fault}
 use Rattle.program_fault.specs.declared.fault.Fault.TheVariants.{Incomplete}
-use Rattle.view_commands.specs.Games.{spelled_game}
+use Rattle.level_text.specs.Games.{spelled_game}
 use Rattle.view_commands.specs.Paging.{IsDoneLog, IsPageFault, IsShort, IsShowingFault, IsWhole, Pages, PagesPart, PagesSome, PagesSomePart, Sources, page_for}
 
 -- ---- the page of what is filmed

@@ -1,11 +1,11 @@
 // Laws over the definitions alone.
 ghost use Rattle.std.specs.Prelude.{◌≡◌, ℕ, List, Some, length};
 ghost use Rattle.frame_changes.specs.Films.{film_of, frames_in};
-ghost use Rattle.game_film.specs.Frames.{frames_to, size_of, texts_from};
+ghost use Rattle.log_film.specs.Frames.{frames_to, size_of, texts_from};
 ghost use Rattle.game_rules.specs.Game.{Game};
 ghost use Rattle.game_rules.specs.Text.{texts};
 ghost use Rattle.page_text.specs.Escapes.{escaped};
-ghost use Rattle.view_commands.specs.Games.{spelled_game};
+ghost use Rattle.level_text.specs.Games.{spelled_game};
 
 /// The frames in a page, read as they stand there, are the text of the game's frames.
 pub fn pages_unroll()

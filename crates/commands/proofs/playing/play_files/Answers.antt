@@ -1,4 +1,5 @@
-use Rattle.commands.proofs.Doing.{on_err, played_part, plays_part}
+use Rattle.program_fault.proofs.Statuses.{on_err}
+use Rattle.commands.proofs.Doing.{played_part, plays_part}
 use Rattle.commands.proofs.playing.play_files.Goals as goal
 
 pub returns-in-Err-clause-part : goal.returns-in-Err-clause-part

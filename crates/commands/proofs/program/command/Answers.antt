@@ -1,5 +1,6 @@
 use Rattle.commands.proofs.Untouched.{whole_is_part}
-use Rattle.commands.proofs.Doing.{ok_at_zero, part_of, played, played_in_part, replayed, replayed_in_part}
+use Rattle.program_fault.proofs.Statuses.{ok_at_zero}
+use Rattle.commands.proofs.Doing.{part_of, played, played_in_part, replayed, replayed_in_part}
 use Rattle.commands.proofs.program.command.Goals as goal
 
 pub returns-in-Ok-play_input-clause-part : goal.returns-in-Ok-play_input-clause-part
@@ -8,7 +9,7 @@ returns-in-Ok-play_input-clause-part g c = λ e.
 
 pub returns-in-Ok-clause-played : goal.returns-in-Ok-clause-played
 returns-in-Ok-clause-played g c = λ n asks zero.
-    let done = ok_at_zero c.act-done.result _ _ c.status_of.ensures zero c.act-done.ensures.ok in
+    let done = ok_at_zero c.act-done.result _ _ c.end_with.ensures zero c.act-done.ensures.ok in
     played (g.W.Write.contents c.args.out.now) (g.W.Write.contents c.act-done.new.out) _ c.in-Ok.words n c.in-Ok.ensures.reading asks done
 
 pub returns-in-Ok-clause-played_part : goal.returns-in-Ok-clause-played_part
@@ -19,7 +20,7 @@ returns-in-Ok-clause-played_part g c = λ n asks.
 
 pub returns-in-Ok-clause-replayed : goal.returns-in-Ok-clause-replayed
 returns-in-Ok-clause-replayed g c = λ asks zero.
-    let done = ok_at_zero c.act-done.result _ _ c.status_of.ensures zero c.act-done.ensures.ok in
+    let done = ok_at_zero c.act-done.result _ _ c.end_with.ensures zero c.act-done.ensures.ok in
     replayed (g.W.Write.contents c.args.out.now) (g.W.Write.contents c.act-done.new.out) _ c.in-Ok.words c.in-Ok.ensures.reading asks done
 
 pub returns-in-Ok-clause-replayed_part : goal.returns-in-Ok-clause-replayed_part

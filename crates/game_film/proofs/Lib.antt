@@ -1,4 +1,0 @@
-pub mod Plain
-pub mod Rows
-pub mod Lines
-pub mod Films
