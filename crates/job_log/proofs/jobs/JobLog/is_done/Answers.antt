@@ -1,5 +1,5 @@
 use Rattle.std.proofs.Common.{◌≡◌, true, false, sym, ◌∙◌, arith}
-use Rattle.job_core.proofs.Tests.{passes, fails}
+use Rattle.job_machine.proofs.Tests.{passes, fails}
 use Rattle.job_log.specs.contracts.jobs.JobLog.{the_view}
 use Rattle.job_log.proofs.Looked.{stop_is, emitted_is}
 use Rattle.job_log.proofs.jobs.JobLog.is_done.Goals as goal

@@ -1,5 +1,5 @@
 use Rattle.std.proofs.Common.{sym, ◌∙◌, arith}
-use Rattle.job_core.proofs.Tests.{is_not}
+use Rattle.job_machine.proofs.Tests.{is_not}
 use Rattle.job_log.specs.contracts.jobs.JobLog.{the_view}
 use Rattle.job_log.proofs.Kept.{few_jobs}
 use Rattle.job_log.proofs.Looked.{resume_holder, resume_ready, resume_legal, resume_stands, holder_there}

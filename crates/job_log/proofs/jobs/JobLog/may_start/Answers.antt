@@ -1,5 +1,5 @@
 use Rattle.std.proofs.Common.{sym, ◌∙◌}
-use Rattle.job_core.proofs.Tests.{passes, fails, is_not}
+use Rattle.job_machine.proofs.Tests.{passes, fails, is_not}
 use Rattle.job_log.specs.contracts.jobs.JobLog.{the_view}
 use Rattle.job_log.proofs.Looked.{start_legal, start_queued, start_fiber}
 use Rattle.job_log.proofs.jobs.JobLog.may_start.Goals as goal

@@ -1,5 +1,5 @@
 use Rattle.std.proofs.Common.{◌≡◌, ◌+◌, subst, true, false, sym, ◌∙◌, arith}
-use Rattle.job_core.proofs.Tests.{is_not}
+use Rattle.job_machine.proofs.Tests.{is_not}
 use Rattle.job_log.specs.contracts.jobs.JobLog.{the_view}
 use Rattle.job_machine.specs.Seats.{IsDrawn}
 use Rattle.job_log.proofs.Kept.{few_jobs}

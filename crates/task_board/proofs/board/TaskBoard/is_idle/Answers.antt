@@ -1,5 +1,5 @@
 use Rattle.std.proofs.Common.{Ok, Err}
-use Rattle.job_core.proofs.Tests.{passes, fails}
+use Rattle.job_machine.proofs.Tests.{passes, fails}
 use Rattle.job_log.specs.Looks.{IsRunning}
 use Rattle.task_board.proofs.Boarding.{known, seen_as}
 use Rattle.task_board.proofs.Idling.{is_idle}

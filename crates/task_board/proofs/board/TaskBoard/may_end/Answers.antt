@@ -1,5 +1,5 @@
 use Rattle.std.proofs.Common.{◌≡◌, Ok, Err, sym, ap, ◌∙◌, inl, subst}
-use Rattle.job_core.proofs.Tests.{is_not}
+use Rattle.job_machine.proofs.Tests.{is_not}
 use Rattle.job_core.specs.declared.names.Event.TheVariants.{Finish}
 use Rattle.job_core.specs.Core.{Runs, IsLegal}
 use Rattle.board_law.specs.Board.{Held}

@@ -1,5 +1,5 @@
 use Rattle.std.proofs.Common.{◌≡◌, ◌<◌, true, false, Some, None, sym, ◌∙◌, arith}
-use Rattle.job_core.proofs.Tests.{passes, fails}
+use Rattle.job_machine.proofs.Tests.{passes, fails}
 use Rattle.board_law.specs.Pick.{given}
 use Rattle.job_queues.specs.Names.{picked}
 use Rattle.job_log.specs.Logged.{kept}

@@ -10,7 +10,7 @@ fails P never = (λ h. let wrong : false ≡ true = h in cc, λ p. absurd (never
 
 -- where it is false
 pub is_not : (b : Bool) (P : Type 0) → IsTrue b ↔ P → b ≡ false → P → ⊥
-is_not b P test no p = let wrong : true ≡ false = sym (test.1 p) ∙ no in cc
+is_not b P test off p = let wrong : true ≡ false = sym (test.1 p) ∙ off in cc
 
 pub is_above : (b : Bool) (x y : ℕ) → IsTrue b ↔ (x ≤ y) → b ≡ false → y < x
-is_above b x y test no = lt_of_not-le (is_not b (x ≤ y) test no)
+is_above b x y test off = lt_of_not-le (is_not b (x ≤ y) test off)
