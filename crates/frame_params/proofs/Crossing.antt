@@ -13,7 +13,6 @@ use Rattle.bt_tick.proofs.memory.Memory.TheSendSync.{the_send as memory_send, th
 use Rattle.frame_params.proofs.kept_memory.KeptMemory.TheSendSync.{the_send as kept_send, the_sync as kept_sync}
 use Rattle.grid_path.proofs.distances.Distances.TheSendSync.{the_send as distances_send, the_sync as distances_sync}
 use Rattle.game_session.specs.contracts.session.Session as Session
-use Rattle.frame_params.specs.contracts.place_distances.PlaceDistances as PlaceDistances
 use Rattle.frame_params.specs.contracts.kept_distances.KeptDistances as KeptDistances
 use Rattle.frame_params.specs.contracts.known.Known as Known
 use Rattle.frame_params.specs.contracts.frame_start.FrameStart as FrameStart
@@ -37,17 +36,11 @@ session = search (of_parts, of_knots, sendable, crosses) depth 40
 
 -- ---- what tasks and results share
 
-pub place_distances_send : (κ : NamedLft) → IsSend (PlaceDistances.the_row κ)
-place_distances_send κ = search (session, of_parts, sendable, crosses) depth 40
-
-pub place_distances_sync : (κ : NamedLft) → IsSync (PlaceDistances.the_row κ)
-place_distances_sync κ = search (session, of_parts, sendable, crosses) depth 40
-
 pub kept_distances_send : (κ : NamedLft) → IsSend (KeptDistances.the_row κ)
-kept_distances_send κ = search (place_distances_send, place_distances_sync, sendable, crosses) depth 40
+kept_distances_send κ = search (session, of_parts, sendable, crosses) depth 40
 
 pub kept_distances_sync : (κ : NamedLft) → IsSync (KeptDistances.the_row κ)
-kept_distances_sync κ = search (place_distances_send, place_distances_sync, sendable, crosses) depth 40
+kept_distances_sync κ = search (session, of_parts, sendable, crosses) depth 40
 
 pub known : (κ : NamedLft) → IsSend (Known.the_row κ)
 known κ = search (session, of_parts, kept_distances_send, kept_distances_sync, sendable, crosses) depth 40

@@ -15,7 +15,6 @@ mod known;
 mod logic_step;
 mod logic_task;
 mod params;
-mod place_distances;
 mod slots;
 mod thought;
 mod turn;

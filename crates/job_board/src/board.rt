@@ -1,4 +1,4 @@
-ghost use Rattle.std.specs.Prelude.{◌≡◌, ℕ, IfOk, IfErr, OnOk, OnErr, true, false, [], replicate, slice_set};
+ghost use Rattle.std.specs.Prelude.{◌≡◌, ℕ, IfOk, IfErr, OnOk, OnErr, false, [], replicate, slice_set, ◌↔◌, IsTrue};
 ghost use Rattle.job_core.specs.declared.names.JobName.TheVariants.{Logic, Think};
 ghost use Rattle.job_core.specs.declared.names.Event.TheVariants.{Ask, Spread, Hold, Finish, Emit};
 ghost use Rattle.job_core.specs.Core.{Runs, IsLegal, IsLegalList, IsComplete};
@@ -99,8 +99,7 @@ impl<'t> Board<'t> {
 
     /// Whether the events are a complete list.
     pub fn is_done(&self) -> bool
-        ensures yes { result ≡ true → IsComplete (setup_in self.now.run) self.now.run.events }
-        ensures no { result ≡ false → IsComplete (setup_in self.now.run) self.now.run.events → ⊥ }
+        ensures { IsTrue result ↔ IsComplete (setup_in self.now.run) self.now.run.events }
     {
         self.run.is_done()
     }
@@ -119,8 +118,7 @@ impl<'t> Board<'t> {
     /// Whether a `take` by an idle worker would give it a task, or ask for memory: what a worker that sleeps waits for. It
     /// says so too while all workers are busy.
     pub fn may_take(&self) -> bool
-        ensures yes { result ≡ true → GivesJob self.now.run }
-        ensures no { result ≡ false → GivesJob self.now.run → ⊥ }
+        ensures test { IsTrue result ↔ GivesJob self.now.run }
         ensures nobody { result ≡ false → NobodyStarts self.now.run }
     {
         self.run.may_take()
@@ -128,8 +126,7 @@ impl<'t> Board<'t> {
 
     /// Whether a frame can be shown: an `emit` would show it, or ask for memory.
     pub fn may_show(&self) -> bool
-        ensures yes { result ≡ true → (frame : ℕ) × IsLegal (setup_in self.now.run) (state_in self.now.run) (Emit frame) }
-        ensures no { result ≡ false → NothingToShow self.now.run }
+        ensures { IsTrue result ↔ (frame : ℕ) × IsLegal (setup_in self.now.run) (state_in self.now.run) (Emit frame) }
     {
         self.run.may_show()
     }

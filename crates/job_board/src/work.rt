@@ -119,8 +119,8 @@ impl<'t> Work<'t> {
 
     /// Whether the job is over, and else it goes on.
     pub(crate) fn is_over(&self) -> bool
-        ensures yes { result ≡ true → IsOver self.now.game self.now.job self.now.step }
-        ensures no { result ≡ false → GoesOn self.now.game self.now.job self.now.step }
+        ensures over { result ≡ true → IsOver self.now.game self.now.job self.now.step }
+        ensures goes_on { result ≡ false → GoesOn self.now.game self.now.job self.now.step }
     {
         match &self.result {
             BoardStep::Logic(logic) => match logic {

@@ -1,4 +1,4 @@
-ghost use Rattle.std.specs.Prelude.{◌≡◌, ◌≤◌, ◌<◌, ◌+◌, ℕ, IfOk, IfSome, None, true, false, option_map};
+ghost use Rattle.std.specs.Prelude.{◌≡◌, ◌≤◌, ◌+◌, ℕ, IfOk, IfSome, None, false, option_map, ◌↔◌, IsTrue};
 ghost use Rattle.job_core.specs.Core.{Waits, IsIdle, IsLegal, IsLegalList};
 ghost use Rattle.board_law.specs.Lists.{first_place};
 ghost use Rattle.board_law.specs.Board.{holds};
@@ -65,8 +65,7 @@ impl JobLog {
 
     // Whether a worker is there and idle, and nothing is stopped.
     fn is_free(&self, worker: u32) -> bool
-        ensures yes { result ≡ true → Always self.now (λ s st. IsOn s st worker × IsIdle st worker) }
-        ensures no { result ≡ false → Always self.now (λ s st. IsOn s st worker → IsIdle st worker → ⊥) }
+        ensures { Always self.now (λ s st. IsTrue result ↔ (IsOn s st worker × IsIdle st worker)) }
     {
         if self.machine.is_stopped() {
             return false;
@@ -82,8 +81,7 @@ impl JobLog {
 
     /// Whether a worker may start this job.
     pub fn may_start(&self, worker: u32, job: JobName) -> bool
-        ensures yes { result ≡ true → Always self.now (λ s st. IsLegal s st (Event.Start worker job)) }
-        ensures no { result ≡ false → Always self.now (λ s st. IsLegal s st (Event.Start worker job) → ⊥) }
+        ensures { Always self.now (λ s st. IsTrue result ↔ IsLegal s st (Event.Start worker job)) }
     {
         if !self.is_free(worker) {
             return false;
@@ -137,8 +135,7 @@ impl JobLog {
 
     /// Whether the slot of a frame is free: so many frames are shown that there is one.
     pub fn has_slot(&self, frame: u32) -> bool
-        ensures yes { result ≡ true → Always self.now (λ s st. frame ≤ st.emitted + s.slots) }
-        ensures no { result ≡ false → Always self.now (λ s st. st.emitted + s.slots < frame) }
+        ensures { Always self.now (λ s st. IsTrue result ↔ (frame ≤ st.emitted + s.slots)) }
     {
         if frame.saturating_sub(self.settings.slots()) <= self.machine.emitted() {
             return true;
@@ -148,8 +145,7 @@ impl JobLog {
 
     /// Whether all frames are shown, and nothing was stopped.
     pub fn is_done(&self) -> bool
-        ensures yes { result ≡ true → Always self.now (λ s st. (st.stopped ≡ false) × (st.emitted ≡ s.frames)) }
-        ensures no { result ≡ false → Always self.now (λ s st. (st.stopped ≡ false) × (st.emitted ≡ s.frames) → ⊥) }
+        ensures { Always self.now (λ s st. IsTrue result ↔ ((st.stopped ≡ false) × (st.emitted ≡ s.frames))) }
     {
         if self.machine.is_stopped() {
             return false;

@@ -2,3 +2,4 @@ pub mod Entries
 pub mod Steps
 pub mod Rows
 pub mod Woken
+pub mod Tests

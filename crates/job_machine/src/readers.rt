@@ -1,4 +1,4 @@
-ghost use Rattle.std.specs.Prelude.{◌≡◌, ◌<◌, ◌^◌, ◌==◌, MatchOption, true, false, option_map, length};
+ghost use Rattle.std.specs.Prelude.{◌≡◌, ◌<◌, ◌^◌, ◌==◌, MatchOption, option_map, length, ◌↔◌, IsTrue};
 ghost use Rattle.job_core.specs.Core.{same};
 ghost use Rattle.board_law.specs.Lists.{all, has, tally, at};
 ghost use Rattle.board_law.specs.Board.{has_fiber, holds};
@@ -89,8 +89,7 @@ impl Machine {
     /// Whether a frame is drawn and still to be shown.
     pub fn is_drawn(&self, frame: u32) -> bool
         requires { length self.now.seats.jobs < 2 ^ 32 }
-        ensures yes { result ≡ true → IsDrawn self.now frame }
-        ensures no { result ≡ false → IsDrawn self.now frame → ⊥ }
+        ensures { IsTrue result ↔ IsDrawn self.now frame }
     {
         if self.counters.left(CounterKey::Shown { frame }).is_none() {
             return false;

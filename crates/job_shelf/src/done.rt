@@ -1,4 +1,4 @@
-ghost use Rattle.std.specs.Prelude.{◌≡◌, true, false};
+ghost use Rattle.std.specs.Prelude.{◌≡◌, ◌↔◌, IsTrue};
 
 use frame_params::{BandMark, LogicStep, Thought, Turn, Way};
 use frame_tasks::{BoardStep, ThinkStep};
@@ -55,8 +55,7 @@ impl<'t> Done<'t> {
 
     /// Whether the job is over once it has come to this step.
     pub fn is_at(&self, step: u32) -> bool
-        ensures yes { result ≡ true → IsDoneAt self.now step }
-        ensures no { result ≡ false → IsDoneAt self.now step → ⊥ }
+        ensures { IsTrue result ↔ IsDoneAt self.now step }
     {
         match self {
             Done::Turned(_) => step == 1,

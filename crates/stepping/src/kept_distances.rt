@@ -6,31 +6,45 @@ ghost use Rattle.grid_world.specs.World.{point};
 ghost use Rattle.game_session.specs.Faults.{world_of};
 ghost use Rattle.game_session.specs.Levels.{value_of};
 
-use crate::place_distances::PlaceDistances;
 use game_session::Level;
+use grid_path::{Distances, PathFault};
 use grid_world::{Answer, Place, Signals};
 use std::alloc::{AllocError, Global};
 use std::marker::Model;
 use std::sync::Arc;
 
-// The distances to a place, which a game shares with its forks.
+// The distances to a place on the map of a level while the doors of these signals are open. A game shares the table with
+// its forks.
 pub(crate) struct KeptDistances {
-    shared: Arc<PlaceDistances>,
+    level: Arc<Level>,
+    signals: Signals,
+    place: Place,
+    table: Arc<Distances>,
 }
 
 impl Drop for KeptDistances {
     fn drop(self) {
-        let Self { shared: _ } = self;
+        let Self {
+            level: _,
+            signals: _,
+            place: _,
+            table: _,
+        } = self;
     }
 }
 
 impl Model for KeptDistances {
     ghost use Rattle.std.specs.Arc.{arc_value};
+    ghost use Rattle.grid_path.specs.Distances.{AreDistances};
+    ghost use Rattle.game_session.specs.Faults.{world_of};
+    ghost use Rattle.game_session.specs.Levels.{value_of};
     ghost use Rattle.stepping.specs.Distances.{DistancesOf};
 
     ghost Value = { DistancesOf };
 
-    ghost view = { λ d. arc_value d.shared };
+    ghost view = { λ d. record { ground = world_of (value_of (arc_value d.level)); signals = d.signals; place = d.place } };
+
+    ghost invariant = { λ d. AreDistances (world_of (value_of (arc_value d.level))) d.signals d.place (arc_value d.table) };
 }
 
 impl KeptDistances {
@@ -46,11 +60,15 @@ impl KeptDistances {
         ensures { IfOk result (λ made. MatchOption made (place_of (world_of (value_of (arc_value level.now))) place ≡ None)
             (λ d. d ≡ distances_of (world_of (value_of (arc_value level.now))) signals place)) }
     {
-        match PlaceDistances::to(alloc, level, signals, place)? {
-            None => Ok(None),
-            Some(distances) => Ok(Some(KeptDistances {
-                shared: Arc::new(alloc, distances)?,
+        match Distances::to(alloc, alloc, level.world(), signals, place) {
+            Ok(distances) => Ok(Some(KeptDistances {
+                level: Arc::try_clone(level)?,
+                signals,
+                place,
+                table: Arc::new(alloc, distances)?,
             })),
+            Err(PathFault::OffMap) => Ok(None),
+            Err(PathFault::OutOfMemory) => Err(AllocError),
         }
     }
 
@@ -59,21 +77,24 @@ impl KeptDistances {
         ensures { IfOk result (λ d. d ≡ self.now) }
     {
         Ok(KeptDistances {
-            shared: Arc::try_clone(&self.shared)?,
+            level: Arc::try_clone(&self.level)?,
+            signals: self.signals,
+            place: self.place,
+            table: Arc::try_clone(&self.table)?,
         })
     }
 
     pub(crate) fn place(&self) -> Place
         ensures { result ≡ self.now.place }
     {
-        self.shared.place()
+        self.place
     }
 
     // Whether they were found under these signals.
     pub(crate) fn is_under(&self, signals: Signals) -> bool
         ensures { result ≡ true → self.now.signals ≡ signals }
     {
-        self.shared.is_under(signals)
+        signals == self.signals
     }
 
     // The way to the place from a cell of the map.
@@ -81,6 +102,6 @@ impl KeptDistances {
         requires { is_on_map self.now.ground (point from.0 from.1) ≡ true }
         ensures { result ≡ way self.now.ground self.now.signals (point from.0 from.1) self.now.place }
     {
-        self.shared.way(from)
+        self.table.way(self.level.world(), self.place, from)
     }
 }

@@ -1,4 +1,4 @@
-ghost use Rattle.std.specs.Prelude.{◌≡◌, ◌<◌, ◌⊎◌, true, false};
+ghost use Rattle.std.specs.Prelude.{◌≡◌, ◌<◌, ◌⊎◌, true, false, ◌↔◌, IsTrue};
 ghost use Rattle.job_core.specs.declared.names.JobName.TheVariants.{Think};
 ghost use Rattle.frame_params.specs.Contents.{questions_in};
 ghost use Rattle.job_shelf.specs.Dones.{job_done};
@@ -11,8 +11,7 @@ use job_shelf::Done;
 
 // Whether it is the end of this job.
 pub(crate) fn is_of(done: &Done, job: JobName) -> bool
-    ensures yes { result ≡ true → job_done done.now ≡ job }
-    ensures no { result ≡ false → job_done done.now ≡ job → ⊥ }
+    ensures { IsTrue result ↔ (job_done done.now ≡ job) }
 {
     if is_same(done.name(), job) {
         return true;
@@ -22,9 +21,9 @@ pub(crate) fn is_of(done: &Done, job: JobName) -> bool
 
 // Whether a parked tick is that of the job and the question at which a worker stands.
 pub(crate) fn is_parked_at(parked: &Parked, held: Held) -> bool
-    ensures yes { result ≡ true → (Think parked.now.frame parked.now.agent ≡ held.job) × (parked.now.question ≡ held.step)
+    ensures here { result ≡ true → (Think parked.now.frame parked.now.agent ≡ held.job) × (parked.now.question ≡ held.step)
         × (held.step < questions_in parked.now.game parked.now.frame parked.now.agent) }
-    ensures no { result ≡ false → (Think parked.now.frame parked.now.agent ≡ held.job → ⊥) ⊎ (parked.now.question ≡ held.step → ⊥) }
+    ensures elsewhere { result ≡ false → (Think parked.now.frame parked.now.agent ≡ held.job → ⊥) ⊎ (parked.now.question ≡ held.step → ⊥) }
 {
     if !is_same(parked.name(), held.job) {
         return false;

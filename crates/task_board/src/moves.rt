@@ -1,4 +1,4 @@
-ghost use Rattle.std.specs.Prelude.{◌≡◌, ℕ, ◌≤◌, ◌<◌, ◌+◌, None, IfOk, IfSome, OnOk, OnErr, true, false};
+ghost use Rattle.std.specs.Prelude.{◌≡◌, ℕ, ◌≤◌, ◌+◌, None, IfOk, IfSome, OnOk, OnErr, true, false, ◌↔◌, IsTrue};
 ghost use Rattle.job_core.specs.declared.names.Event.TheVariants.{Start, Resume, Emit};
 ghost use Rattle.job_core.specs.Core.{Runs, Waits, IsLegal};
 ghost use Rattle.frame_tasks.specs.Tasks.{IsTaskAt};
@@ -28,8 +28,7 @@ impl<'t> TaskBoard<'t> {
 
     /// Whether a worker may start this job.
     pub fn may_start(&self, worker: u32, job: JobName) -> bool
-        ensures yes { result ≡ true → IsLegal (setup_in self.now) (state_in self.now) (Start worker job) }
-        ensures no { result ≡ false → IsLegal (setup_in self.now) (state_in self.now) (Start worker job) → ⊥ }
+        ensures { IsTrue result ↔ IsLegal (setup_in self.now) (state_in self.now) (Start worker job) }
     {
         self.jobs.may_start(worker, job)
     }
@@ -49,8 +48,8 @@ impl<'t> TaskBoard<'t> {
 
     /// Whether a worker runs this very job. False on a stopped board.
     pub fn is_run_by(&self, worker: u32, job: JobName) -> bool
-        ensures yes { result ≡ true → (step : ℕ) × ((state_in self.now).phase job ≡ Runs worker step) }
-        ensures no { result ≡ false → (state_in self.now).stopped ≡ false → (step : ℕ) → (state_in self.now).phase job ≡ Runs worker step → ⊥ }
+        ensures runs { result ≡ true → (step : ℕ) × ((state_in self.now).phase job ≡ Runs worker step) }
+        ensures other { result ≡ false → (state_in self.now).stopped ≡ false → (step : ℕ) → (state_in self.now).phase job ≡ Runs worker step → ⊥ }
     {
         let held = match self.jobs.running(worker) {
             Ok(held) => held,
@@ -64,8 +63,7 @@ impl<'t> TaskBoard<'t> {
 
     /// Whether the slot of a frame is free: so many frames are shown that there is one.
     pub fn has_slot(&self, frame: u32) -> bool
-        ensures yes { result ≡ true → frame ≤ (state_in self.now).emitted + self.now.numbers.slots }
-        ensures no { result ≡ false → (state_in self.now).emitted + self.now.numbers.slots < frame }
+        ensures { IsTrue result ↔ (frame ≤ (state_in self.now).emitted + self.now.numbers.slots) }
     {
         self.jobs.has_slot(frame)
     }

@@ -1,4 +1,4 @@
-ghost use Rattle.std.specs.Prelude.{◌≡◌, ◌<◌, IfSome, None, Some, true, false};
+ghost use Rattle.std.specs.Prelude.{◌≡◌, ◌<◌, IfSome, None, Some, false, ◌↔◌, IsTrue};
 ghost use Rattle.job_core.specs.Core.{IsIdle, IsLegal};
 ghost use Rattle.task_board.specs.Boards.{setup_in, state_in};
 ghost use Rattle.task_board.specs.Given.{AllBusy, IsGiven, NobodyStarts};
@@ -12,8 +12,7 @@ impl<'t> TaskBoard<'t> {
     fn is_idle(&self, worker: u32) -> bool
         requires on { (state_in self.now).stopped ≡ false }
         requires worker { worker < self.now.numbers.workers }
-        ensures yes { result ≡ true → IsIdle (state_in self.now) worker }
-        ensures no { result ≡ false → IsIdle (state_in self.now) worker → ⊥ }
+        ensures { IsTrue result ↔ IsIdle (state_in self.now) worker }
     {
         match self.jobs.running(worker) {
             Ok(_) => false,

@@ -1,11 +1,12 @@
 use Rattle.std.proofs.Common.{sym, ◌∙◌, arith}
+use Rattle.job_machine.proofs.Tests.{is_not}
 use Rattle.job_log.specs.contracts.jobs.JobLog.{the_view}
 use Rattle.job_log.proofs.Kept.{few_jobs}
 use Rattle.job_log.proofs.Looked.{resume_holder, resume_ready, resume_legal, resume_stands, holder_there}
 use Rattle.job_log.proofs.jobs.JobLog.may_resume.Goals as goal
 
 pub returns-then-not-is_free-clause-none : goal.returns-then-not-is_free-clause-none
-returns-then-not-is_free-clause-none c = λ e q l m. c.is_free.ensures.no c.if-not-is_free.true q l (m.0, m.1.0) m.1.1
+returns-then-not-is_free-clause-none c = λ e q l m. is_not _ _ (c.is_free.ensures q l) c.if-not-is_free.true ((m.0, m.1.0), m.1.1)
 
 pub holder-requires : goal.holder-requires
 holder-requires c = let few = few_jobs (the_view c.self.inside) c.self.inside.machine _ _ c.self.invariant in omega arith
@@ -21,6 +22,6 @@ returns-in_default-held_by-clause-none c = rw (← c.self.view_is) (λ e q l. ab
 
 pub returns-clause-some : goal.returns-clause-some
 returns-clause-some c = rw (← c.self.view_is) (λ q l.
-    let free = (rw (← c.self.view_is) at c.is_free.ensures.yes) c.if-not-is_free.false q l in
+    let free = ((rw (← c.self.view_is) at c.is_free.ensures) q l).0 c.if-not-is_free.false in
     let legal = resume_legal (the_view c.self.inside) c.self.inside.machine _ _ c.self.invariant q l c.args.worker c.args.job c.in-Some.fiber c.in-Some.ensures free (sym c.is_ready.ensures ∙ c.if-not-is_ready.false) in
     (legal, resume_stands (the_view c.self.inside) c.self.inside.machine _ _ c.self.invariant q l c.args.worker c.args.job c.in-Some.fiber c.in-Some.ensures c.in-Some-held_by.held c.in-Some-held_by.ensures legal))

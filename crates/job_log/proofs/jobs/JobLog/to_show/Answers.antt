@@ -1,4 +1,5 @@
 use Rattle.std.proofs.Common.{◌≡◌, ◌+◌, subst, true, false, sym, ◌∙◌, arith}
+use Rattle.job_machine.proofs.Tests.{is_not}
 use Rattle.job_log.specs.contracts.jobs.JobLog.{the_view}
 use Rattle.job_machine.specs.Seats.{IsDrawn}
 use Rattle.job_log.proofs.Kept.{few_jobs}
@@ -15,7 +16,7 @@ pub is_drawn-requires : goal.is_drawn-requires
 is_drawn-requires c = let few = few_jobs (the_view c.self.inside) c.self.inside.machine _ _ c.self.invariant in omega arith
 
 pub returns-then-is_drawn : goal.returns-then-is_drawn
-returns-then-is_drawn c = rw (← c.self.view_is) (λ q l. show_legal (the_view c.self.inside) c.self.inside.machine _ _ c.self.invariant q l (c.emitted-frame.result + 1) (stop_is (the_view c.self.inside) c.self.inside.machine _ _ c.self.invariant q l false (sym c.if-is_stopped.false ∙ c.is_stopped.ensures)) (omega (arith, c.emitted-frame.ensures)) (omega (arith, c.emitted-frame.ensures, c.emitted.ensures, c.if-emitted-frames.false, c.frames.ensures.value)) (c.is_drawn.ensures.yes c.if-is_drawn.true))
+returns-then-is_drawn c = rw (← c.self.view_is) (λ q l. show_legal (the_view c.self.inside) c.self.inside.machine _ _ c.self.invariant q l (c.emitted-frame.result + 1) (stop_is (the_view c.self.inside) c.self.inside.machine _ _ c.self.invariant q l false (sym c.if-is_stopped.false ∙ c.is_stopped.ensures)) (omega (arith, c.emitted-frame.ensures)) (omega (arith, c.emitted-frame.ensures, c.emitted.ensures, c.if-emitted-frames.false, c.frames.ensures.value)) (c.is_drawn.ensures.0 c.if-is_drawn.true))
 
 pub returns : goal.returns
 returns c = rw (← c.self.view_is) (λ q l. (
@@ -23,5 +24,5 @@ returns c = rw (← c.self.view_is) (λ q l. (
   λ f m.
       let t = show_only (the_view c.self.inside) c.self.inside.machine _ _ c.self.invariant q l f m in
       let next : f ≡ c.emitted-frame.result + 1 = omega (arith, t.0, c.emitted-frame.ensures) in
-      c.is_drawn.ensures.no c.if-is_drawn.false (subst (IsDrawn c.self.inside.machine) next t.2),
+      is_not _ _ c.is_drawn.ensures c.if-is_drawn.false (subst (IsDrawn c.self.inside.machine) next t.2),
 ))

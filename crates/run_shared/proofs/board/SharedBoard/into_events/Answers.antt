@@ -7,4 +7,4 @@ returns-then-is_done-clause-complete g c = λ game numbers named numbered.
     let board = c.self.inside.board in
     complete_for board game numbers c.into_events.result.items
     (some_game board.game game (sym c.self.inside.game_is ∙ named)) (some_numbers board.numbers numbers (sym c.self.inside.numbers_are ∙ numbered))
-    c.into_events.ensures (c.is_done.ensures.yes c.if-is_done.true)
+    c.into_events.ensures (c.is_done.ensures.0 c.if-is_done.true)

@@ -3,13 +3,9 @@ use Rattle.std.specs.Prelude.{◌↔◌, IsTrue}
 use Rattle.job_core.specs.Core.{IsLegal}
 use Rattle.job_core.specs.declared.names.Event.TheVariants.{Emit}
 use Rattle.task_board.specs.Boards.{Played, setup_in, state_in}
-use Rattle.run_shared.proofs.Tests.{tells}
 use Rattle.run_shared.proofs.board.SharedBoard.may_show.Goals as goal
-
-abbrev MayShow : Played → Type 0
-MayShow b = (f : ℕ) × IsLegal (setup_in b) (state_in b) (Emit f)
 
 pub returns : goal.returns
 returns g c =
-    subst (λ (b : Played). IsTrue c.may_show.result ↔ MayShow b) c.self.view_is
-    (tells c.may_show.result (MayShow c.self.inside.board) c.may_show.ensures.yes (λ h p. c.may_show.ensures.no h p.0 p.1))
+    subst (λ (b : Played). IsTrue c.may_show.result ↔ (f : ℕ) × IsLegal (setup_in b) (state_in b) (Emit f)) c.self.view_is
+    c.may_show.ensures

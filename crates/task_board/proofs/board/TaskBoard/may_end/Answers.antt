@@ -1,4 +1,5 @@
 use Rattle.std.proofs.Common.{◌≡◌, Ok, Err, sym, ap, ◌∙◌, inl, subst}
+use Rattle.job_machine.proofs.Tests.{is_not}
 use Rattle.job_core.specs.declared.names.Event.TheVariants.{Finish}
 use Rattle.job_core.specs.Core.{Runs, IsLegal}
 use Rattle.board_law.specs.Board.{Held}
@@ -17,30 +18,30 @@ returns-then-not-is_of-clause-refused c =
     let run = known c.self.inside.session.now c.self.inside.jobs c.self.inside.shelf c.self.invariant (IsRunning c.args.worker (Ok c.in-Ok.held)) c.in-Ok.ensures in
     let runs = subst (λ (h : Held). (state_in (seen_as c.self.inside.session.now c.self.inside.jobs)).phase h.job ≡ Runs c.args.worker h.step) (sym c.held.view_is) run.1 in
     subst (λ b. IsRefused b c.args.worker (IsOtherDone c.args.done.now b.game) (Finish c.args.worker) WrongResult) c.self.view_is
-    (other_result (seen_as c.self.inside.session.now c.self.inside.jobs) c.self.invariant.lawful c.args.worker run.0 c.held.inside.job c.held.inside.step runs (IsOtherDone c.args.done.now c.self.inside.session.now) (Finish c.args.worker) (inl (c.is_of.ensures.no c.if-not-is_of.true)))
+    (other_result (seen_as c.self.inside.session.now c.self.inside.jobs) c.self.invariant.lawful c.args.worker run.0 c.held.inside.job c.held.inside.step runs (IsOtherDone c.args.done.now c.self.inside.session.now) (Finish c.args.worker) (inl (is_not _ _ c.is_of.ensures c.if-not-is_of.true)))
 
 pub returns-then-not-is_at-clause-refused : goal.returns-then-not-is_at-clause-refused
 returns-then-not-is_at-clause-refused c =
     let run = known c.self.inside.session.now c.self.inside.jobs c.self.inside.shelf c.self.invariant (IsRunning c.args.worker (Ok c.in-Ok.held)) c.in-Ok.ensures in
     let runs = subst (λ (h : Held). (state_in (seen_as c.self.inside.session.now c.self.inside.jobs)).phase h.job ≡ Runs c.args.worker h.step) (sym c.held.view_is) run.1 in
-    let job = c.is_of.ensures.yes c.if-not-is_of.false in
+    let job = c.is_of.ensures.0 c.if-not-is_of.false in
     let game : game_done c.args.done.now ≡ c.self.inside.session.now = c.requires ∙ sym (ap (λ (b : Played). b.game) c.self.view_is) in
     subst (λ b. IsRefused b c.args.worker (IsOtherDone c.args.done.now b.game) (Finish c.args.worker) Illegal) c.self.view_is
-    (finish_refused (seen_as c.self.inside.session.now c.self.inside.jobs) c.self.invariant.lawful c.args.worker run.0 c.held.inside.job c.held.inside.step runs c.args.done.now job game (c.is_at.ensures.no c.if-not-is_at.true))
+    (finish_refused (seen_as c.self.inside.session.now c.self.inside.jobs) c.self.invariant.lawful c.args.worker run.0 c.held.inside.job c.held.inside.step runs c.args.done.now job game (is_not _ _ c.is_at.ensures c.if-not-is_at.true))
 
 pub returns-clause-legal : goal.returns-clause-legal
 returns-clause-legal c =
     let run = known c.self.inside.session.now c.self.inside.jobs c.self.inside.shelf c.self.invariant (IsRunning c.args.worker (Ok c.in-Ok.held)) c.in-Ok.ensures in
     let runs = subst (λ (h : Held). (state_in (seen_as c.self.inside.session.now c.self.inside.jobs)).phase h.job ≡ Runs c.args.worker h.step) (sym c.held.view_is) run.1 in
-    let job = c.is_of.ensures.yes c.if-not-is_of.false in
+    let job = c.is_of.ensures.0 c.if-not-is_of.false in
     let game : game_done c.args.done.now ≡ c.self.inside.session.now = c.requires ∙ sym (ap (λ (b : Played). b.game) c.self.view_is) in
     rw (← c.self.view_is) (subst (λ x. IsLegal (setup_in (seen_as c.self.inside.session.now c.self.inside.jobs)) (state_in (seen_as c.self.inside.session.now c.self.inside.jobs)) (Finish c.args.worker x)) (sym job)
-    (finish_legal (seen_as c.self.inside.session.now c.self.inside.jobs) c.self.invariant.lawful c.args.worker run.0 c.held.inside.job c.held.inside.step runs c.args.done.now job game (c.is_at.ensures.yes c.if-not-is_at.false)))
+    (finish_legal (seen_as c.self.inside.session.now c.self.inside.jobs) c.self.invariant.lawful c.args.worker run.0 c.held.inside.job c.held.inside.step runs c.args.done.now job game (c.is_at.ensures.0 c.if-not-is_at.false)))
 
 pub returns-clause-full : goal.returns-clause-full
 returns-clause-full c =
     let run = known c.self.inside.session.now c.self.inside.jobs c.self.inside.shelf c.self.invariant (IsRunning c.args.worker (Ok c.in-Ok.held)) c.in-Ok.ensures in
     let runs = subst (λ (h : Held). (state_in (seen_as c.self.inside.session.now c.self.inside.jobs)).phase h.job ≡ Runs c.args.worker h.step) (sym c.held.view_is) run.1 in
-    let job = c.is_of.ensures.yes c.if-not-is_of.false in
+    let job = c.is_of.ensures.0 c.if-not-is_of.false in
     let game : game_done c.args.done.now ≡ c.self.inside.session.now = c.requires ∙ sym (ap (λ (b : Played). b.game) c.self.view_is) in
-    subst (λ b. IsRefused b c.args.worker (IsOtherDone c.args.done.now b.game) (Finish c.args.worker) OutOfMemory) c.self.view_is (finish_full (seen_as c.self.inside.session.now c.self.inside.jobs) c.self.invariant.lawful c.args.worker run.0 c.held.inside.job c.held.inside.step runs c.args.done.now job game (c.is_at.ensures.yes c.if-not-is_at.false))
+    subst (λ b. IsRefused b c.args.worker (IsOtherDone c.args.done.now b.game) (Finish c.args.worker) OutOfMemory) c.self.view_is (finish_full (seen_as c.self.inside.session.now c.self.inside.jobs) c.self.invariant.lawful c.args.worker run.0 c.held.inside.job c.held.inside.step runs c.args.done.now job game (c.is_at.ensures.0 c.if-not-is_at.false))

@@ -1,7 +1,8 @@
+use Rattle.job_machine.proofs.Tests.{passes, fails}
 use Rattle.task_board.proofs.board.TaskBoard.may_show.Goals as goal
 
-pub returns-in-Some-clause-yes : goal.returns-in-Some-clause-yes
-returns-in-Some-clause-yes c = λ e. (c.in-Some.field-0, c.in-Some.ensures.some)
+pub returns-in-Some : goal.returns-in-Some
+returns-in-Some c = passes _ (c.in-Some.field-0, c.in-Some.ensures.some)
 
-pub returns-in-None-clause-no : goal.returns-in-None-clause-no
-returns-in-None-clause-no c = λ e. c.to_show.ensures.none c.in-None.is
+pub returns-in-None : goal.returns-in-None
+returns-in-None c = fails _ (λ p. c.to_show.ensures.none c.in-None.is p.0 p.1)

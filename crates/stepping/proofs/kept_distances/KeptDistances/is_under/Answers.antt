@@ -3,7 +3,7 @@ use Rattle.std.specs.Bool.{Decides}
 use Rattle.std.specs.Cmp.{booleans_Decides}
 use Rattle.std.proofs.lemmas.Slice.Eq.{slice_eq-Decides}
 use Rattle.stepping.specs.Distances.{DistancesOf}
-use Rattle.stepping.proofs.place_distances.PlaceDistances.is_under.Goals as goal
+use Rattle.stepping.proofs.kept_distances.KeptDistances.is_under.Goals as goal
 
 pub returns : goal.returns
 returns c =
