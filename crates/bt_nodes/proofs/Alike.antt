@@ -60,15 +60,10 @@ same_tree p q k n l d =
 
 -- a decorator lists no children
 lists_none : (p c : Plain) → Some c ≡ decorated p → listed p ≡ none
-lists_none (Composite kind cs) c e = absurd (cc)
-lists_none (CompositeStar kind cs) c e = absurd (cc)
-lists_none (Parallel m cs) c e = absurd (cc)
 lists_none (Invert d) c e = refl
 lists_none (Tries n d) c e = refl
 lists_none (Ticks n d) c e = refl
-lists_none (Wait n) c e = absurd (cc)
-lists_none (MoveTo p) c e = absurd (cc)
-lists_none (Does leaf) c e = absurd (cc)
+lists_none _ c e = absurd (cc)
 
 module _ (p q c d : Plain) where
   pub same_over_child : kind_of p ≡ kind_of q → number_of p ≡ number_of q → Some c ≡ decorated p → Some d ≡ decorated q → c ≡ d → p ≡ q
@@ -88,25 +83,13 @@ other_below p q c below_p below_q same =
 -- what stands below a root is smaller
 pub listed_smaller : (p : Plain) → sizes (listed p) < size p
 listed_smaller (Composite kind cs) = omega arith
-listed_smaller (CompositeStar kind cs) = omega arith
-listed_smaller (Parallel m cs) = omega arith
-listed_smaller (Invert c) = omega arith
-listed_smaller (Tries n c) = omega arith
-listed_smaller (Ticks n c) = omega arith
-listed_smaller (Wait n) = omega arith
-listed_smaller (MoveTo p) = omega arith
-listed_smaller (Does leaf) = omega arith
+listed_smaller _ = omega arith
 
 pub decorated_smaller : (p c : Plain) → Some c ≡ decorated p → size c < size p
-decorated_smaller (Composite kind cs) c e = absurd (cc)
-decorated_smaller (CompositeStar kind cs) c e = absurd (cc)
-decorated_smaller (Parallel m cs) c e = absurd (cc)
 decorated_smaller (Invert d) c e = let s : c ≡ d = cc in omega (arith, ap size s)
 decorated_smaller (Tries n d) c e = let s : c ≡ d = cc in omega (arith, ap size s)
 decorated_smaller (Ticks n d) c e = let s : c ≡ d = cc in omega (arith, ap size s)
-decorated_smaller (Wait n) c e = absurd (cc)
-decorated_smaller (MoveTo p) c e = absurd (cc)
-decorated_smaller (Does leaf) c e = absurd (cc)
+decorated_smaller _ c e = absurd (cc)
 
 pub element_smaller : {A : Type 0} → (nodes : List (Node A)) (i : ℕ) (d : Node A) → i < length nodes → size (plain (get_or nodes i d)) ≤ sizes (plains nodes)
 element_smaller [] i d h = absurd (omega arith)

@@ -3,17 +3,18 @@ use Rattle.std.proofs.Common.{◌≡◌, ◌≤◌, Bool, true, false, nat_lt, S
 use Rattle.std.proofs.lemmas.Bool.{ltb-false}
 use Rattle.bt_nodes.specs.Plain.{Plain}
 use Rattle.bt_nodes.specs.Sizes.{size, depth}
-use Rattle.bt_nodes.specs.Limits.{has_children, has_thresholds, has_counts, tree_fault}
+use Rattle.bt_nodes.specs.Limits.{keeps, tree_fault}
 use Rattle.bt_nodes.specs.Trees.{plain_of}
 use Rattle.bt_nodes.specs.declared.fault.TreeFault.TheVariants.{TooManyNodes, TooDeep, NoChild, Threshold, Count}
+use Rattle.bt_nodes.specs.declared.limits.Limit.TheVariants.{Children, Thresholds, Counts}
 use Rattle.bt_nodes.specs.declared.tree.Tree.{Tree}
 
 pub record IsWithin (p : Plain) : Type 0 where
   pub few : size p ≤ 255
   pub shallow : depth p ≤ 32
-  pub children : has_children p ≡ true
-  pub thresholds : has_thresholds p ≡ true
-  pub counts : has_counts p ≡ true
+  pub children : keeps Children p ≡ true
+  pub thresholds : keeps Thresholds p ≡ true
+  pub counts : keeps Counts p ≡ true
 
 tests : (many deep listed met counted : Bool)
     → (if many then Some TooManyNodes
@@ -30,7 +31,7 @@ tests false false true true true e = (refl, refl, refl, refl, refl)
 
 pub within : (p : Plain) → tree_fault p ≡ None → IsWithin p
 within p e =
-    let passed = tests (nat_lt 255 (size p)) (nat_lt 32 (depth p)) (has_children p) (has_thresholds p) (has_counts p) e in
+    let passed = tests (nat_lt 255 (size p)) (nat_lt 32 (depth p)) (keeps Children p) (keeps Thresholds p) (keeps Counts p) e in
     record {
       few = ltb-false 255 (size p) passed.0;
       shallow = ltb-false 32 (depth p) passed.1;

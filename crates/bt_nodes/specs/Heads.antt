@@ -1,8 +1,6 @@
 -- The root of a tree: its kind, the number that stands in it, and what stands below it. They say which tree it is.
 use Rattle.std.specs.Prelude.{ℕ, Bool, true, false, Option, Some, None}
 use Rattle.bt_nodes.specs.Plain.{Sequence, Fallback, Leaf, TakeItem, DropItem, AtPlace, Carries, OnItem, SignalOn, NearOther, GivesTo, Plain, Composite, CompositeStar, Parallel, Invert, Tries, Ticks, Wait, MoveTo, Does, Forest, none}
-use Rattle.bt_nodes.specs.Sizes.{count}
-use Rattle.bt_nodes.specs.Limits.{has_tree, is_threshold, is_count, has_distance}
 use Rattle.bt_nodes.specs.declared.kind.NodeKind.{NodeKind}
 use Rattle.bt_nodes.specs.declared.kind.NodeKind.TheVariants as kind
 
@@ -55,68 +53,18 @@ abbrev pub listed : Plain → Forest
 listed (Composite kind children) = children
 listed (CompositeStar kind children) = children
 listed (Parallel m children) = children
-listed (Invert child) = none
-listed (Tries n child) = none
-listed (Ticks n child) = none
-listed (Wait n) = none
-listed (MoveTo p) = none
-listed (Does leaf) = none
+listed _ = none
 
 -- whether its kind lists children, of which there may be none
 abbrev pub lists : Plain → Bool
 lists (Composite kind children) = true
 lists (CompositeStar kind children) = true
 lists (Parallel m children) = true
-lists (Invert child) = false
-lists (Tries n child) = false
-lists (Ticks n child) = false
-lists (Wait n) = false
-lists (MoveTo p) = false
-lists (Does leaf) = false
+lists _ = false
 
 -- the one child that it has by its kind
 abbrev pub decorated : Plain → Option Plain
-decorated (Composite kind children) = None
-decorated (CompositeStar kind children) = None
-decorated (Parallel m children) = None
 decorated (Invert child) = Some child
 decorated (Tries n child) = Some child
 decorated (Ticks n child) = Some child
-decorated (Wait n) = None
-decorated (MoveTo p) = None
-decorated (Does leaf) = None
-
--- ---- what a root itself keeps of each limit
-
-abbrev pub keeps_child : Plain → Bool
-keeps_child (Composite kind children) = has_tree children
-keeps_child (CompositeStar kind children) = has_tree children
-keeps_child (Parallel m children) = has_tree children
-keeps_child (Invert child) = true
-keeps_child (Tries n child) = true
-keeps_child (Ticks n child) = true
-keeps_child (Wait n) = true
-keeps_child (MoveTo p) = true
-keeps_child (Does leaf) = true
-
-abbrev pub keeps_threshold : Plain → Bool
-keeps_threshold (Composite kind children) = true
-keeps_threshold (CompositeStar kind children) = true
-keeps_threshold (Parallel m children) = is_threshold m (count children)
-keeps_threshold (Invert child) = true
-keeps_threshold (Tries n child) = true
-keeps_threshold (Ticks n child) = true
-keeps_threshold (Wait n) = true
-keeps_threshold (MoveTo p) = true
-keeps_threshold (Does leaf) = true
-
-abbrev pub keeps_count : Plain → Bool
-keeps_count (Composite kind children) = true
-keeps_count (CompositeStar kind children) = true
-keeps_count (Parallel m children) = true
-keeps_count (Invert child) = true
-keeps_count (Tries n child) = is_count n
-keeps_count (Ticks n child) = is_count n
-keeps_count (Wait n) = is_count n
-keeps_count (MoveTo p) = true
-keeps_count (Does leaf) = has_distance leaf
+decorated _ = None

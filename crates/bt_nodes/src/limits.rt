@@ -1,13 +1,22 @@
-// Whether a node and all below it keep each limit.
+// Whether a node and all below it keep a limit.
 ghost use Rattle.std.specs.Prelude.{◌≡◌};
 ghost use Rattle.bt_nodes.specs.Plain.{plain, plains};
-ghost use Rattle.bt_nodes.specs.Heads.{keeps_child, keeps_threshold, keeps_count};
-ghost use Rattle.bt_nodes.specs.Limits.{has_children, all_have_children};
-ghost use Rattle.bt_nodes.specs.Limits.{is_threshold, has_thresholds, all_have_thresholds};
-ghost use Rattle.bt_nodes.specs.Limits.{is_count, has_counts, all_have_counts};
+ghost use Rattle.bt_nodes.specs.Limits.{is_threshold, is_count, keeps_child, keeps_threshold, keeps_count};
+ghost use Rattle.bt_nodes.specs.Limits.{keeps_alone, keeps, all_keep};
 
 use crate::node::Node;
 use std::alloc::Allocator;
+
+/// A limit that each node of a tree keeps.
+#[derive(Clone, Copy)]
+pub(crate) enum Limit {
+    /// A node that lists children has one.
+    Children,
+    /// A threshold is from 1 to its number of children.
+    Thresholds,
+    /// A number of ticks is from 1 to 1000, and a distance from 1 to 16.
+    Counts,
+}
 
 impl<A: Allocator> Node<A> {
     // Whether it has a child if its kind lists children.
@@ -45,72 +54,37 @@ impl<A: Allocator> Node<A> {
         }
     }
 
-    /// Whether each node that lists children has one.
-    #[cycle(has_children)]
-    pub(crate) fn has_children(&self) -> bool
-        ensures { result ≡ has_children (plain self.now) }
+    // Whether it keeps the limit, whatever stands below it.
+    fn keeps_alone(&self, limit: Limit) -> bool
+        ensures { result ≡ keeps_alone limit (plain self.now) }
     {
-        match self.decorated() {
-            Some(child) => child.has_children(),
-            None => self.keeps_child() && Node::all_have_children(self.listed()),
+        match limit {
+            Limit::Children => self.keeps_child(),
+            Limit::Thresholds => self.keeps_threshold(),
+            Limit::Counts => self.keeps_count(),
         }
     }
 
-    #[cycle(has_children)]
-    fn all_have_children(nodes: &[Node<A>]) -> bool
-        ensures { result ≡ all_have_children (plains nodes.now) }
+    /// Whether it and all nodes below it keep the limit.
+    #[cycle(keeps)]
+    pub(crate) fn keeps(&self, limit: Limit) -> bool
+        ensures { result ≡ keeps limit (plain self.now) }
     {
-        'nodes: for node in nodes {
-            if !node.has_children() {
-                return false;
-            }
-        }
-        true
-    }
-
-    /// Whether each threshold is from 1 to its number of children.
-    #[cycle(has_thresholds)]
-    pub(crate) fn has_thresholds(&self) -> bool
-        ensures { result ≡ has_thresholds (plain self.now) }
-    {
-        match self.decorated() {
-            Some(child) => child.has_thresholds(),
-            None => self.keeps_threshold() && Node::all_have_thresholds(self.listed()),
-        }
-    }
-
-    #[cycle(has_thresholds)]
-    fn all_have_thresholds(nodes: &[Node<A>]) -> bool
-        ensures { result ≡ all_have_thresholds (plains nodes.now) }
-    {
-        'nodes: for node in nodes {
-            if !node.has_thresholds() {
-                return false;
-            }
-        }
-        true
-    }
-
-    /// Whether each number of ticks is from 1 to 1000, and each distance from 1 to 16.
-    #[cycle(has_counts)]
-    pub(crate) fn has_counts(&self) -> bool
-        ensures { result ≡ has_counts (plain self.now) }
-    {
-        if !self.keeps_count() {
+        if !self.keeps_alone(limit) {
             return false;
         }
         match self.decorated() {
-            Some(child) => child.has_counts(),
-            None => Node::all_have_counts(self.listed()),
+            Some(child) => child.keeps(limit),
+            None => Node::all_keep(self.listed(), limit),
         }
     }
 
-    #[cycle(has_counts)]
-    fn all_have_counts(nodes: &[Node<A>]) -> bool
-        ensures { result ≡ all_have_counts (plains nodes.now) }
+    #[cycle(keeps)]
+    fn all_keep(nodes: &[Node<A>], limit: Limit) -> bool
+        ensures { result ≡ all_keep limit (plains nodes.now) }
     {
         'nodes: for node in nodes {
-            if !node.has_counts() {
+            if !node.keeps(limit) {
                 return false;
             }
         }

@@ -4,6 +4,7 @@ ghost use Rattle.bt_nodes.specs.Sizes.{size, depth, subtree_sizes};
 ghost use Rattle.bt_nodes.specs.Limits.{tree_fault};
 
 use crate::fault::TreeFault;
+use crate::limits::Limit;
 use crate::node::Node;
 use std::alloc::{AllocError, Allocator};
 
@@ -53,13 +54,13 @@ impl<A: Allocator> Tree<A> {
         if levels > 32 {
             return Err((TreeFault::TooDeep, root));
         }
-        if !root.has_children() {
+        if !root.keeps(Limit::Children) {
             return Err((TreeFault::NoChild, root));
         }
-        if !root.has_thresholds() {
+        if !root.keeps(Limit::Thresholds) {
             return Err((TreeFault::Threshold, root));
         }
-        if !root.has_counts() {
+        if !root.keeps(Limit::Counts) {
             return Err((TreeFault::Count, root));
         }
         let mut subtrees = [0u8; 255];

@@ -21,10 +21,6 @@ size-children (Wait k) = refl
 size-children (MoveTo p) = refl
 size-children (Does leaf) = refl
 
-pub few_children : (cs : Forest) → count cs ≤ sizes cs
-few_children none = omega arith
-few_children (tree c cs) = omega (arith, few_children cs, size-children c)
-
 pub from_count : (cs : Forest) (k : ℕ) → count cs ≤ k → from_child k cs ≡ none
 from_count none zero h = refl
 from_count none (suc k) h = refl

@@ -1,5 +1,5 @@
 use Rattle.std.proofs.Common.{ap, not, refl, sym, ◌∙◌}
-use Rattle.bt_nodes.specs.Heads.{keeps_child}
+use Rattle.bt_nodes.specs.Limits.{keeps_child}
 use Rattle.bt_nodes.proofs.Forests.{has_tree-plains}
 use Rattle.bt_nodes.proofs.Views.{listing}
 use Rattle.bt_nodes.proofs.node.Node.keeps_child.Goals as goal

@@ -1,8 +1,7 @@
 use Rattle.std.proofs.Common.{◌≡◌, ap, arith, sym, ◌∙◌}
 use Rattle.bt_nodes.specs.Plain.{plain, plains}
 use Rattle.bt_nodes.specs.Sizes.{count}
-use Rattle.bt_nodes.specs.Heads.{keeps_threshold}
-use Rattle.bt_nodes.specs.Limits.{is_threshold}
+use Rattle.bt_nodes.specs.Limits.{is_threshold, keeps_threshold}
 use Rattle.bt_nodes.proofs.Forests.{count-plains}
 use Rattle.bt_nodes.proofs.Views.{plain-Par}
 use Rattle.bt_nodes.proofs.node.Node.keeps_threshold.Goals as goal
