@@ -5,8 +5,8 @@ use Rattle.job_core.specs.Core.{Queued, Waits, opening}
 use Rattle.job_core.specs.Worked.{setup_of, two_agents, asked_once}
 use Rattle.job_core.proofs.Shape.{opens}
 use Rattle.job_core.proofs.Decide.{checks-true}
-use Rattle.job_laws.proofs.Priorities.{new_is_first, resume_is_first}
-use Rattle.job_laws.proofs.worked_picks.a_path_and_a_ready_think_go_first.Goals as goal
+use Rattle.board_law.proofs.Priorities.{new_is_first, resume_is_first}
+use Rattle.board_law.proofs.worked_picks.a_path_and_a_ready_think_go_first.Goals as goal
 
 pub returns-clause-path : goal.returns-clause-path
 unfolding setup_of two_agents asked_once

@@ -4,8 +4,7 @@ use Rattle.job_core.specs.declared.names.JobName.{JobName}
 use Rattle.job_core.specs.declared.names.JobName.TheVariants.{Logic, Think, Path, Draw}
 use Rattle.job_core.specs.declared.names.Event.{Event}
 use Rattle.job_core.specs.Core.{Setup, State, same, IsReady, IsLegalList, opening, state}
-use Rattle.job_laws.specs.Priorities.{priority, MayStart, GoesFirst}
-use Rattle.job_core.proofs.ByCases.{by_eq, by_same}
+use Rattle.job_core.specs.Priorities.{priority, MayStart, GoesFirst}
 use Rattle.job_core.proofs.Shape.{Shape, opens}
 use Rattle.job_core.proofs.Moves.{shape_of}
 use Rattle.board_law.specs.Lists.{bit, tally, at, first_place, Priority, High, Normal, Low, Three, all}
@@ -13,17 +12,13 @@ use Rattle.board_law.specs.Board.{Core, Held, has_fiber, holds, priority_of, pri
 use Rattle.board_law.specs.Law.{Fits}
 use Rattle.board_law.specs.Pick.{Pick, Ready, New, given}
 use Rattle.board_law.proofs.Kit.{by_bool, all_parts}
-use Rattle.job_laws.proofs.Picks.{level, queue_of, IsHighest, pick_first}
+use Rattle.board_law.proofs.Picks.{level, queue_of, IsNone, IsHighest, pick_first, pick_some}
 use Rattle.board_law.proofs.Entries.{waiting_at}
-use Rattle.board_law.proofs.Legal.{IsNone, pick_some, fiber_is, fresh_is, ready_back, ready_is}
+use Rattle.board_law.proofs.Queued.{is_same}
+use Rattle.board_law.proofs.Events.{is_it}
+use Rattle.board_law.proofs.Legal.{fiber_is, fresh_is, ready_back, ready_is}
 use Rattle.board_law.proofs.Fit.{fits}
-use Rattle.job_laws.proofs.Sorted.{Only, IsSortedBy, IsSorted, sorted}
-
-is_same : (j i : JobName) → same j i ≡ true → i ≡ j
-is_same j i = by_same j i (λ b. b ≡ true → i ≡ j) (λ d t. sym d) (λ n t. absurd cc)
-
-is_it : (f y : ℕ) → (f == y) ≡ true → y ≡ f
-is_it f y = by_eq f y (λ b. b ≡ true → y ≡ f) (λ d t. sym d) (λ n t. absurd cc)
+use Rattle.board_law.proofs.Sorted.{Only, IsSortedBy, IsSorted, sorted}
 
 -- ---- priorities as numbers
 

@@ -1,17 +1,17 @@
 -- A complete list ends the Draw of each band of each frame once.
-use Rattle.std.proofs.Common.{◌≡◌, ℕ, suc, ◌+◌, ◌*◌, List, [], ◌∷◌, count_by, refl, sym, ap, ◌∙◌, arith}
+use Rattle.std.proofs.Common.{◌≡◌, ℕ, suc, ◌+◌, ◌*◌, List, [], ◌∷◌, count_by, refl, ap, ◌∙◌, arith}
 use Rattle.std.proofs.lemmas.Grind.{common_steps}
 use Rattle.job_core.specs.declared.names.JobName.{JobName}
 use Rattle.job_core.specs.declared.names.JobName.TheVariants.{Logic, Think, Path, Draw}
 use Rattle.job_core.specs.declared.names.Event.{Event}
 use Rattle.job_core.specs.declared.names.Event.TheVariants.{Start, Resume, Ask, Spread, Hold, Finish, Emit, Stop}
-use Rattle.job_core.specs.Core.{Setup, IsJob, State, Phase, Finished, Runs, May, IsLegalFrom, IsComplete, after, after_all, opening, state, total, over_frame, over_jobs}
+use Rattle.job_core.specs.Core.{Setup, IsJob, State, Finished, May, IsLegalFrom, IsComplete, after, after_all, opening, state, total, over_frame, over_jobs}
 use Rattle.job_core.proofs.Sums.{total_same, total_zero, jobs_same, jobs_zero, jobs_change}
 use Rattle.job_core.proofs.Amount.{total_const}
 use Rattle.job_core.proofs.Shape.{Shape, keeps, opens}
 use Rattle.job_core.proofs.Moves.{mover, put_here}
 use Rattle.job_core.proofs.Once.{ended, still, still_other, job_finished, shape_at}
-use Rattle.job_laws.specs.Draws.{ends_draw}
+use Rattle.job_core.specs.Draws.{ends_draw}
 
 -- of the jobs the Draws alone
 abbrev of_draws : JobName → ℕ → ℕ

@@ -1,13 +1,12 @@
 -- What pick gives, by its three lanes: of the highest priority that has one, a ready fiber, else a new job that may start.
-use Rattle.std.proofs.Common.{◌≡◌, ◌<◌, ◌⊎◌, ℕ, ◌+◌, Bool, true, false, ◌==◌, List, [], ◌∷◌, Option, Some, None, if◌then◌else◌, refl, sym, ap, ◌∙◌, subst, inl, inr, ⊎_elim, arith}
+use Rattle.std.proofs.Common.{◌≡◌, ◌≤◌, ◌<◌, ◌⊎◌, ℕ, ◌+◌, Bool, true, false, ◌==◌, List, [], ◌∷◌, ◌++◌, Option, Some, None, if◌then◌else◌, refl, sym, ap, ◌∙◌, subst, inl, inr, ⊎_elim, arith}
 use Rattle.job_core.specs.declared.names.JobName.{JobName}
 use Rattle.job_core.specs.Core.{same}
 use Rattle.job_core.proofs.ByCases.{by_eq, by_same, same_self}
-use Rattle.board_law.specs.Lists.{bit, tally, Priority, High, Normal, Low, Three}
+use Rattle.board_law.specs.Lists.{bit, tally, Priority, High, Normal, Low, Three, all}
 use Rattle.board_law.specs.Board.{Queues}
 use Rattle.board_law.specs.Pick.{Pick, Ready, New, first_new, lane, pick}
-use Rattle.board_law.proofs.Kit.{by_bool}
-use Rattle.board_law.proofs.Legal.{IsNone}
+use Rattle.board_law.proofs.Kit.{by_bool, all_parts}
 
 -- a higher priority has a greater number
 abbrev pub level : Priority → ℕ
@@ -19,6 +18,39 @@ abbrev pub queue_of : {X : Type 0} → Priority → Three X → List X
 queue_of High t = t.high
 queue_of Normal t = t.normal
 queue_of Low t = t.low
+
+in_all : {X : Type 0} (p : X → Bool) (r : Priority) (t : Three X) → tally p (queue_of r t) ≤ tally p (all t)
+in_all p High t = let a = all_parts p t in omega arith
+in_all p Normal t = let a = all_parts p t in omega arith
+in_all p Low t = let a = all_parts p t in omega arith
+
+-- ---- where it gives nothing
+
+-- no fiber is ready, and no new job may start
+abbrev pub IsNone : (JobName → Bool) → List ℕ → List JobName → Type 0
+IsNone may ready fresh = (ready ≡ []) × ((j : JobName) → may j ≡ true → tally (same j) fresh ≡ 0)
+
+new_none : (may : JobName → Bool) (js : List JobName) (o : Option Pick) → first_new may js o ≡ None → (o ≡ None) × ((j : JobName) → may j ≡ true → tally (same j) js ≡ 0)
+new_none may [] o e = (e, λ j l. refl)
+new_none may (x ∷ xs) o e = by_bool (may x) (λ b. (if b then Some (New x) else first_new may xs o) ≡ None → (o ≡ None) × ((j : JobName) → may j ≡ true → tally (same j) (x ∷ xs) ≡ 0))
+    (λ l d. absurd cc)
+    (λ l d. let r = new_none may xs o d in (r.0, λ j m. by_same j x (λ b. bit b + tally (same j) xs ≡ 0) (λ y. let z : true ≡ false = sym m ∙ (ap may y ∙ l) in absurd cc) (λ y. let z = r.1 j m in omega arith))) e
+
+lane_none : (may : JobName → Bool) (rs : List ℕ) (js : List JobName) (o : Option Pick) → lane may rs js o ≡ None → IsNone may rs js × (o ≡ None)
+lane_none may [] js o e = let r = new_none may js o e in ((refl, r.1), r.0)
+lane_none may (f ∷ fs) js o e = absurd cc
+
+pub pick_none : (may : JobName → Bool) (q : Queues) → pick may q ≡ None → IsNone may (all q.ready) (all q.fresh)
+pick_none may q e =
+    let a = lane_none may q.ready.high q.fresh.high _ e in
+    let b = lane_none may q.ready.normal q.fresh.normal _ a.1 in
+    let d = lane_none may q.ready.low q.fresh.low _ b.1 in (
+      nothing q.ready.high q.ready.normal q.ready.low a.0.0 b.0.0 d.0.0,
+      λ j l. let x = all_parts (same j) q.fresh in let y = a.0.1 j l in let z = b.0.1 j l in let v = d.0.1 j l in omega arith,
+    )
+  where
+    nothing : (x y z : List ℕ) → x ≡ [] → y ≡ [] → z ≡ [] → x ++ (y ++ z) ≡ []
+    nothing x y z a b d = rw (a, b, d) refl
 
 -- ---- what it gives
 
@@ -66,3 +98,15 @@ pick_first may q x e =
     above_low a b High l = a
     above_low a b Normal l = b
     above_low a b Low l = absurd (omega arith)
+
+-- it is of all queues
+abbrev pub IsGiven : (JobName → Bool) → List ℕ → List JobName → Pick → Type 0
+IsGiven may ready fresh (Ready f) = 0 < tally (λ g. f == g) ready
+IsGiven may ready fresh (New j) = (may j ≡ true) × (0 < tally (same j) fresh)
+
+pub pick_some : (may : JobName → Bool) (q : Queues) (x : Pick) → pick may q ≡ Some x → IsGiven may (all q.ready) (all q.fresh) x
+pick_some may q x e = let g = pick_first may q x e in among g.0 x g.1.0
+  where
+    among : (r : Priority) (y : Pick) → IsFrom may (queue_of r q.ready) (queue_of r q.fresh) y → IsGiven may (all q.ready) (all q.fresh) y
+    among r (Ready f) g = let a = in_all (λ y. f == y) r q.ready in omega arith
+    among r (New j) g = (g.1, let a = in_all (same j) r q.fresh in omega (arith, g.2))

@@ -1,4 +1,0 @@
-mod Picks
-mod Sorted
-mod Priorities
-mod Draws
