@@ -1,4 +1,4 @@
 mod Picks
 mod Sorted
 mod Priorities
-mod Draws
+pub mod Draws
