@@ -87,6 +87,23 @@ fn counts<R: Threads + Wait + Sync>(rt: &R, alloc: Global) -> Option<[u64; 4]> {
     ])
 }
 
+// How many of 16 workers' bands are left, where so many are taken and each worker's 100 come in order.
+fn left_of_sixteen<R: Threads + Wait + Sync>(rt: &R, alloc: Global, takes: usize) -> Option<usize> {
+    let all = deliver(rt, alloc, 8, 16, 100, takes).ok()??;
+    for worker in 0..16 {
+        if numbers_in_order(&all, worker)? != 100 {
+            return None;
+        }
+    }
+    Some(all.left.len())
+}
+
+#[test]
+fn sixteen_threads_put_while_a_seventeenth_takes(rt: HostRuntime) {
+    assert!(rt; left_of_sixteen(&rt, rt.alloc(), 1595) == Some(5));
+    assert!(rt; left_of_sixteen(&rt, rt.alloc(), 1600) == Some(0));
+}
+
 #[test]
 fn two_threads_put_while_a_third_takes(rt: HostRuntime) {
     assert!(rt; counts(&rt, rt.alloc()) == Some([195, 5, 100, 100]));

@@ -1,6 +1,6 @@
 mod Spelled
-mod Counted
-mod Steps
+mod Tallies
+mod Sums
 mod Once
 mod Reported
 pub mod Leaving

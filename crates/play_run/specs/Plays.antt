@@ -1,5 +1,5 @@
 -- What comes of playing a game to its end, and of failing to.
-use Rattle.std.specs.Prelude.{◌≡◌, ℕ, ◌⊎◌, List, Option, Err, MatchResult, IsSomeAnd, count_by, sum}
+use Rattle.std.specs.Prelude.{◌≡◌, ℕ, ◌*◌, ◌⊎◌, List, Option, Err, MatchResult, IsSomeAnd, count_by, sum}
 use Rattle.std.specs.Io.KnownBytes.{Appends, Keeps}
 use Rattle.game_rules.specs.Game.{Game}
 use Rattle.game_rules.specs.Text.{texts}
@@ -8,10 +8,11 @@ use Rattle.level_text.specs.Scripts.{script_of}
 use Rattle.level_text.specs.declared.script_file.ScriptFault.TheVariants.{OutOfMemory}
 use Rattle.job_core.specs.Core.{IsComplete}
 use Rattle.job_machine.specs.Numbers.{Numbers}
+use Rattle.frame_params.specs.Contents.{bands_in}
 use Rattle.run_shared.specs.Counts.{names_worker}
 use Rattle.task_board.specs.Setups.{setup_for}
 use Rattle.run_shared.specs.Printed.{WrotePart}
-use Rattle.play_run.specs.Reports.{AreStepsOf}
+use Rattle.play_run.specs.Reports.{AreStepsOf, AreBandsOf}
 use Rattle.play_run.specs.declared.report.RunReport.{RunReport}
 use Rattle.play_run.specs.Once.{RunsEachJobOnce}
 use Rattle.play_run.specs.Games.{spelled_game}
@@ -26,6 +27,8 @@ pub record IsPlayed (old new : Option (List ℕ)) (g : Game) (n : Numbers) (r : 
   pub once : RunsEachJobOnce (setup_for g n) r.events.items
   pub steps : AreStepsOf n.workers r.events.items r.steps.items
   pub total : sum r.steps.items ≡ count_by names_worker r.events.items
+  pub bands : AreBandsOf n.workers r.events.items r.bands.items
+  pub band_total : sum r.bands.items ≡ n.frames * bands_in g
 
 -- a fault of the level comes before one of the script, and after neither is anything written
 abbrev pub IsPlayFault : (old new : Option (List ℕ)) → (level script : List ℕ) → Numbers → PlayFault → Type 0

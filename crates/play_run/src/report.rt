@@ -1,53 +1,25 @@
-ghost use Rattle.std.specs.Prelude.{◌≡◌, ◌==◌, ℕ, IfOk, IfErr, IfSome, count_by, sum, Some, None, false};
+ghost use Rattle.std.specs.Prelude.{◌≡◌, ◌*◌, IfOk, IfErr, count_by, sum, Some};
 ghost use Rattle.job_core.specs.Core.{IsComplete};
-ghost use Rattle.run_shared.specs.Counts.{names, names_worker};
+ghost use Rattle.frame_params.specs.Contents.{bands_in};
+ghost use Rattle.run_shared.specs.Counts.{names_worker};
 ghost use Rattle.task_board.specs.Setups.{setup_for};
-ghost use Rattle.play_run.specs.Reports.{AreStepsOf};
+ghost use Rattle.play_run.specs.Reports.{AreStepsOf, AreBandsOf};
 
+use crate::counted::Counted;
 use game_session::Session;
 use run_shared::{Cause, RunFault, RunLedger, SharedBoard};
-use std::alloc::{AllocError, Global};
+use std::alloc::Global;
 use std::sync::ledger::{Ledger, Share};
 use task_board::{Event, Settings};
 
-/// What a run comes to: its number of frames, all that happened in order, and for each worker how many events name it.
+/// What a run comes to: its number of frames, all that happened in order, and for each worker how many events name it and how
+/// many bands it drew.
 #[derive(Debug, Drop)]
 pub struct RunReport {
     pub frames: u32,
     pub events: Vec<Event>,
     pub steps: Vec<u64>,
-}
-
-// The worker that the event names.
-fn worker_of(event: &Event) -> Option<u32>
-    ensures some { IfSome result (λ worker. (w : ℕ) → names w event.now ≡ (worker == w)) }
-    ensures none { result ≡ None → (w : ℕ) → names w event.now ≡ false }
-{
-    match event {
-        Event::Start { worker, .. } => Some(*worker),
-        Event::Resume { worker, .. } => Some(*worker),
-        Event::Ask { worker, .. } => Some(*worker),
-        Event::Spread { worker, .. } => Some(*worker),
-        Event::Hold { worker, .. } => Some(*worker),
-        Event::Finish { worker, .. } => Some(*worker),
-        Event::Emit { .. } => None,
-        Event::Stop => None,
-    }
-}
-
-// The steps of each worker.
-fn all_steps(alloc: Global, events: &[Event], workers: u32) -> Result<Vec<u64>, AllocError>
-    ensures { IfOk result (λ v. AreStepsOf workers events.now v.items) }
-{
-    let mut all = Vec::from_elem(alloc, 0, workers as usize)?;
-    'events: for event in events {
-        if let Some(worker) = worker_of(event) {
-            if let Some(steps) = all.get_mut(worker as usize) {
-                *steps += 1;
-            }
-        }
-    }
-    Ok(all)
+    pub bands: Vec<u64>,
 }
 
 fn fault(cause: Cause, frames: u32) -> RunFault
@@ -73,17 +45,23 @@ pub fn report_on<L: RunLedger, M: Ledger>(
     ensures complete { IfOk result (λ r. IsComplete (setup_for session.now settings) r.events.items) }
     ensures steps { IfOk result (λ r. AreStepsOf settings.workers r.events.items r.steps.items) }
     ensures sum { IfOk result (λ r. sum r.steps.items ≡ count_by names_worker r.events.items) }
+    ensures bands { IfOk result (λ r. AreBandsOf settings.workers r.events.items r.bands.items) }
+    ensures band_sum { IfOk result (λ r. sum r.bands.items ≡ settings.frames * bands_in session.now) }
     ensures shares { IfOk result (λ r. sum r.steps.items ≡ all.old.amount) }
 {
     let Some(events) = board.into_events(all, emits) else {
         return Err(fault(Cause::Stranger, settings.frames()));
     };
-    let Ok(steps) = all_steps(alloc, &events, settings.workers()) else {
+    let Ok(steps) = Counted::Steps.of_all(alloc, &events, settings.workers()) else {
+        return Err(fault(Cause::OutOfMemory, settings.frames()));
+    };
+    let Ok(bands) = Counted::Bands.of_all(alloc, &events, settings.workers()) else {
         return Err(fault(Cause::OutOfMemory, settings.frames()));
     };
     Ok(RunReport {
         frames: settings.frames(),
         events,
         steps,
+        bands,
     })
 }

@@ -3,6 +3,8 @@
 #![tactic(auto)]
 
 #[cfg(test)]
+mod bands_tests;
+#[cfg(test)]
 mod gates;
 #[cfg(test)]
 mod levels;

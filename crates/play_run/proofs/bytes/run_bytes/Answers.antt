@@ -13,4 +13,6 @@ returns-in-Ok-run-clause-ok g c =
       once = c.in-Ok-run.ensures.once;
       steps = c.in-Ok-run.ensures.steps;
       total = c.in-Ok-run.ensures.sum;
+      bands = c.in-Ok-run.ensures.bands;
+      band_total = c.in-Ok-run.ensures.band_sum;
     })

@@ -1,7 +1,7 @@
 use Rattle.std.proofs.Common.{rules, ◌∙◌}
 use Rattle.task_board.specs.Setups.{setup_for}
-use Rattle.play_run.specs.Reports.{AreStepsOf}
-use Rattle.play_run.proofs.Steps.{sum_steps}
+use Rattle.play_run.specs.Reports.{AreStepsOf, AreBandsOf}
+use Rattle.play_run.proofs.Sums.{sum_steps, sum_bands}
 use Rattle.play_run.proofs.report.report_on.Goals as goal
 
 pub returns-clause-sum : goal.returns-clause-sum
@@ -17,3 +17,8 @@ returns-clause-shares g c =
 
 pub returns-clause-complete : goal.returns-clause-complete
 returns-clause-complete g c = c.in-Some.ensures.complete c.args.session.now c.args.settings c.requires.run.0 c.requires.run.1
+
+pub returns-clause-band_sum : goal.returns-clause-band_sum
+returns-clause-band_sum g c =
+    let bands : AreBandsOf c.args.settings.workers c.in-Some.events.items c.in-Ok-of_all.bands.items = search rules in
+    sum_bands (setup_for c.args.session.now c.args.settings) c.in-Some.events.items c.in-Ok-of_all.bands.items (c.in-Some.ensures.complete c.args.session.now c.args.settings c.requires.run.0 c.requires.run.1) bands
