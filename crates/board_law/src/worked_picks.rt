@@ -16,8 +16,9 @@ pub fn paths_and_ready_fibers_come_first()
     ensures ready_first { given (core_of (two_agents 3) (asked_once ++ Start 0 (Path 1 0 0) ∷ Finish 0 (Path 1 0 0) ∷ [])) ≡ Some (Ready 2) }
 {}
 
-/// The next Logic comes before draws, also where draws alone have a fiber that it could not take.
+/// A Think that is ready comes before draws, and so does the next Logic, also where draws alone have a fiber that it could not take.
 pub fn draws_come_last()
+    ensures think { given (core_of two_slots (second_begun ++ Start 0 (Path 2 0 0) ∷ Finish 0 (Path 2 0 0) ∷ [])) ≡ Some (Ready 2) }
     ensures logic { given (core_of (no_agents 2) one_drawn) ≡ Some (New (Logic 2)) }
     ensures draw { given (core_of (no_agents 2) (one_drawn ++ Start 1 (Logic 2) ∷ [])) ≡ Some (New (Draw 1 1)) }
     ensures nothing { given (core_of (no_agents 1) (one_drawn ++ Start 1 (Logic 2) ∷ [])) ≡ None }

@@ -3,6 +3,7 @@ use Rattle.std.proofs.Common.{◌≡◌, ◌≤◌, ◌<◌, ◌+◌, ◌-◌, �
 use Rattle.game_rules.specs.Game.{Game}
 use Rattle.job_core.specs.declared.names.Event.{Event}
 use Rattle.job_core.specs.Core.{Setup, State, IsJob, IsAtEnd, same, opening, Runs, Waits, IsLegal, IsLegalList, step_of}
+use Rattle.job_core.specs.Priorities.{GoesFirst}
 use Rattle.job_core.proofs.Keeping.{legal_more, apart}
 use Rattle.job_core.proofs.ByCases.{by_same}
 use Rattle.job_core.proofs.Shape.{opens, there}
@@ -82,6 +83,7 @@ starts old new w j task s t l =
     record {
       happens = subst (λ x. Happens old new (Start w x)) same_job (record { legal = s.legal; logged = l });
       is_task = subst (λ x. IsTaskAt old.game x 0 task) same_job t;
+      first = subst (GoesFirst (setup_in old) (state_in old)) same_job s.first;
       picked = s.picked ∙ ap (λ x. Some (New x)) same_job;
     }
 
@@ -94,6 +96,7 @@ resumes old new w fiber held task s t l =
       happens = subst (λ x. Happens old new (Resume w x)) same_job (record { legal = s.legal; logged = l });
       stands = subst (λ x. (state_in old).phase x ≡ Waits held.step) same_job s.stands;
       is_task = subst (λ x. IsTaskAt old.game x held.step task) same_job t;
+      first = subst (GoesFirst (setup_in old) (state_in old)) same_job s.first;
       picked = s.picked;
       holder = subst (λ x. first_place (holds x) (core_of (setup_in old) old.events).seats.jobs ≡ fiber) same_job s.holder;
     }

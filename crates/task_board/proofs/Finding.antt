@@ -1,10 +1,13 @@
 -- What a worker is found to do next may be taken up, and is taken by its event.
 use Rattle.std.proofs.Common.{◌≡◌, ℕ, Ok, Option, Some, option_map, refl, sym, subst, inl, inr}
 use Rattle.game_rules.specs.Game.{Game}
-use Rattle.job_core.specs.Core.{IsLegalList}
+use Rattle.job_core.specs.declared.names.JobName.{JobName}
+use Rattle.job_core.specs.Core.{IsReady, IsLegalList}
+use Rattle.job_core.specs.Priorities.{GoesFirst}
 use Rattle.board_law.specs.Lists.{first_place}
-use Rattle.board_law.specs.Board.{holds}
+use Rattle.board_law.specs.Board.{core_of, holds}
 use Rattle.board_law.specs.Pick.{Ready, New, given}
+use Rattle.board_law.proofs.Priorities.{new_is_first, resume_is_first}
 use Rattle.frame_tasks.specs.Tasks.{IsTaskAt}
 use Rattle.frame_tasks.specs.declared.task.Task.{Task}
 use Rattle.job_log.specs.Logged.{Logged, setup_of, kept}
@@ -13,28 +16,32 @@ use Rattle.job_log.specs.declared.next.Next.{Next}
 use Rattle.job_log.specs.declared.next.Next.TheVariants as next
 use Rattle.job_log.specs.declared.fault.BoardFault.TheVariants.{OutOfMemory}
 use Rattle.job_shelf.specs.Shelf.{Shelved}
-use Rattle.task_board.specs.Boards.{Played, Happens, IsBoard, IsTaken, IsTakeRefused}
+use Rattle.task_board.specs.Boards.{Played, setup_in, state_in, pick_in, Happens, IsBoard, IsTaken, IsTakeRefused}
 use Rattle.task_board.specs.Found.{IsFound, event_of, job_next, step_next}
 use Rattle.task_board.specs.Given.{MayBeTakenUp}
 use Rattle.task_board.proofs.Boarding.{known, known_of, seen_as, starts, resumes}
 
 module _ (g : Game) (jobs : Logged) (shelf : Shelved) (k : IsBoard (seen_as g jobs) jobs shelf) where
+  -- what is picked goes first
+  pub new_first : (j : JobName) → pick_in (seen_as g jobs) ≡ Some (New j) → GoesFirst (setup_in (seen_as g jobs)) (state_in (seen_as g jobs)) j
+  new_first j is = (new_is_first (setup_in (seen_as g jobs)) jobs.events j k.within.a_slot k.lawful is).1
+
+  pub ready_first : (fiber : ℕ) (j : JobName) → pick_in (seen_as g jobs) ≡ Some (Ready fiber)
+      → first_place (holds j) (core_of (setup_in (seen_as g jobs)) jobs.events).seats.jobs ≡ fiber → IsReady (setup_in (seen_as g jobs)) (state_in (seen_as g jobs)) j
+      → GoesFirst (setup_in (seen_as g jobs)) (state_in (seen_as g jobs)) j
+  ready_first fiber j is holder ready = resume_is_first (setup_in (seen_as g jobs)) jobs.events fiber j k.within.a_slot k.lawful is holder ready
+
   of_next : (w : ℕ) (n : Next) → Always jobs (IsGivenTo w (Ok (Some n)))
       → ((q : ℕ → ℕ → ℕ) → IsLegalList (setup_of jobs q) jobs.events → option_map as_pick (Some n) ≡ given (kept jobs q))
       → ((q : ℕ → ℕ → ℕ) → IsLegalList (setup_of jobs q) jobs.events → IsPlace (kept jobs q) (Some n)) → IsFound (seen_as g jobs) w n
   of_next w (next.Start j) told picked place =
-      record {
-        legal = known g jobs shelf k (IsGivenTo w (Ok (Some (next.Start j)))) told;
-        picked = sym (known_of g jobs shelf k (λ v q. Some (New j) ≡ given (kept v q)) picked);
-      }
+      let is_picked = sym (known_of g jobs shelf k (λ v q. Some (New j) ≡ given (kept v q)) picked) in
+      record { legal = known g jobs shelf k (IsGivenTo w (Ok (Some (next.Start j)))) told; first = new_first j is_picked; picked = is_picked }
   of_next w (next.Resume fiber held) told picked place =
       let is = known g jobs shelf k (IsGivenTo w (Ok (Some (next.Resume fiber held)))) told in
-      record {
-        legal = is.0;
-        stands = is.1;
-        picked = sym (known_of g jobs shelf k (λ v q. Some (Ready fiber) ≡ given (kept v q)) picked);
-        holder = known_of g jobs shelf k (λ v q. first_place (holds held.job) (kept v q).seats.jobs ≡ fiber) place;
-      }
+      let is_picked = sym (known_of g jobs shelf k (λ v q. Some (Ready fiber) ≡ given (kept v q)) picked) in
+      let holder = known_of g jobs shelf k (λ v q. first_place (holds held.job) (kept v q).seats.jobs ≡ fiber) place in
+      record { legal = is.0; stands = is.1; first = ready_first fiber held.job is_picked holder is.0.1.2; picked = is_picked; holder = holder }
 
   -- what the jobs give is found
   pub found : (w : ℕ) (o : Option Next) (n : Next) → o ≡ Some n → Always jobs (IsGivenTo w (Ok o))

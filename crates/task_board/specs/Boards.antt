@@ -6,6 +6,7 @@ use Rattle.job_core.specs.declared.names.JobName.TheVariants.{Logic}
 use Rattle.job_core.specs.declared.names.Event.{Event}
 use Rattle.job_core.specs.declared.names.Event.TheVariants.{Start, Resume, Emit, Stop as StopEvent}
 use Rattle.job_core.specs.Core.{Setup, State, Runs, Waits, IsIdle, IsLegal, IsLegalList, state}
+use Rattle.job_core.specs.Priorities.{GoesFirst}
 use Rattle.game_jobs.specs.Instance.{asked_in}
 use Rattle.board_law.specs.Lists.{first_place}
 use Rattle.board_law.specs.Board.{Held, core_of, holds}
@@ -59,6 +60,7 @@ GivesJob b = ((state_in b).stopped ≡ false) × (pick_in b ≡ None → ⊥)
 pub record Starts (old new : Played) (w : ℕ) (task : Task) : Type 0 where
   pub happens : Happens old new (Start w (job_of task))
   pub is_task : IsTaskAt old.game (job_of task) 0 task
+  pub first : GoesFirst (setup_in old) (state_in old) (job_of task)
   pub picked : pick_in old ≡ Some (New (job_of task))
 
 pub record Resumes (old new : Played) (w : ℕ) (task : Task) : Type 0 where
@@ -67,6 +69,7 @@ pub record Resumes (old new : Played) (w : ℕ) (task : Task) : Type 0 where
   pub happens : Happens old new (Resume w (job_of task))
   pub stands : (state_in old).phase (job_of task) ≡ Waits step
   pub is_task : IsTaskAt old.game (job_of task) step task
+  pub first : GoesFirst (setup_in old) (state_in old) (job_of task)
   pub picked : pick_in old ≡ Some (Ready fiber)
   pub holder : first_place (holds (job_of task)) (core_of (setup_in old) old.events).seats.jobs ≡ fiber
 
@@ -83,11 +86,13 @@ IsTaken old new w (Some task) = Starts old new w task ⊎ Resumes old new w task
 -- a job that may start, and one that may go on: what a board found before it takes it
 pub record IsStart (b : Played) (w : ℕ) (j : JobName) : Type 0 where
   pub legal : IsLegal (setup_in b) (state_in b) (Start w j)
+  pub first : GoesFirst (setup_in b) (state_in b) j
   pub picked : pick_in b ≡ Some (New j)
 
 pub record IsResume (b : Played) (w fiber : ℕ) (held : Held) : Type 0 where
   pub legal : IsLegal (setup_in b) (state_in b) (Resume w held.job)
   pub stands : (state_in b).phase held.job ≡ Waits held.step
+  pub first : GoesFirst (setup_in b) (state_in b) held.job
   pub picked : pick_in b ≡ Some (Ready fiber)
   pub holder : first_place (holds held.job) (core_of (setup_in b) b.events).seats.jobs ≡ fiber
 

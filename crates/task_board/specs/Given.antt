@@ -4,6 +4,7 @@ use Rattle.job_core.specs.declared.names.JobName.{JobName}
 use Rattle.job_core.specs.declared.names.Event.{Event}
 use Rattle.job_core.specs.declared.names.Event.TheVariants.{Start, Resume, Emit}
 use Rattle.job_core.specs.Core.{Waits, IsIdle, IsLegal}
+use Rattle.job_core.specs.Priorities.{GoesFirst}
 use Rattle.board_law.specs.Lists.{first_place}
 use Rattle.board_law.specs.Board.{core_of, holds}
 use Rattle.board_law.specs.Pick.{Ready, New}
@@ -23,8 +24,8 @@ AllBusy b n = (w : ℕ) → w < n → IsIdle (state_in b) w → ⊥
 
 -- what `take` would do for the lowest idle worker
 abbrev pub IsGiven : Played → Event → Type 0
-IsGiven b (Start w j) = AllBusy b w × (pick_in b ≡ Some (New j))
-IsGiven b (Resume w j) = AllBusy b w × (pick_in b ≡ Some (Ready (first_place (holds j) (core_of (setup_in b) b.events).seats.jobs)))
+IsGiven b (Start w j) = AllBusy b w × GoesFirst (setup_in b) (state_in b) j × (pick_in b ≡ Some (New j))
+IsGiven b (Resume w j) = AllBusy b w × GoesFirst (setup_in b) (state_in b) j × (pick_in b ≡ Some (Ready (first_place (holds j) (core_of (setup_in b) b.events).seats.jobs)))
 IsGiven b event = ⊥
 
 -- no worker starts a job or goes on with one

@@ -1,6 +1,10 @@
 use Rattle.std.proofs.Common.{refl}
-use Rattle.job_core.specs.Worked.{setup_of, one_drawn, no_agents}
+use Rattle.job_core.specs.Worked.{setup_of, one_drawn, no_agents, second_begun, two_slots}
 use Rattle.board_law.proofs.worked_picks.draws_come_last.Goals as goal
+
+pub returns-clause-think : goal.returns-clause-think
+unfolding setup_of two_slots second_begun
+returns-clause-think c = refl
 
 pub returns-clause-logic : goal.returns-clause-logic
 unfolding setup_of no_agents one_drawn
