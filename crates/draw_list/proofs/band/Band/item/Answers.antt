@@ -1,4 +1,4 @@
-use Rattle.std.proofs.Common.{◌≡◌, suc, ◌+◌, ◌*◌, ◌∙◌, ap, arith}
+use Rattle.std.proofs.Common.{◌≡◌, ◌+◌, ◌*◌, ◌∙◌, ap, arith}
 use Rattle.draw_list.specs.declared.band.Band.{Band}
 use Rattle.draw_list.proofs.Items.{past_end, stands_there}
 use Rattle.draw_list.proofs.band.Band.item.Goals as goal
