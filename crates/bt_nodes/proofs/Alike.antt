@@ -1,6 +1,6 @@
 -- A tree is settled by its root's kind, the number that stands in it, and what stands below it.
 use Rattle.std.proofs.Common.{◌≡◌, ◌≢◌, map, take, ℕ, zero, suc, ◌+◌, ◌<◌, ◌≤◌, List, [], ◌∷◌, length, get_or, Option, Some, None, refl, sym, ap, ◌∙◌, arith, unwrap_or}
-use Rattle.bt_nodes.specs.Plain.{Sequence, Fallback, TakeItem, DropItem, AtPlace, Carries, OnItem, SignalOn, NearOther, GivesTo, Plain, Composite, CompositeStar, Parallel, Invert, Tries, Ticks, Wait, MoveTo, Does, Forest, none, forest_of, plain, plains}
+use Rattle.bt_nodes.specs.Plain.{Seq, Fallback, Take, Drop, At, Carrying, Item, Signal, Near, Give, Plain, Composite, Star, Par, Not, Tries, Ticks, Wait, Move, Does, Forest, none, forest_of, plain, plains}
 use Rattle.std.proofs.lemmas.List.{take_more, take_all}
 use Rattle.bt_nodes.specs.Sizes.{size, sizes, count}
 use Rattle.bt_nodes.specs.Heads.{kind_of, number_of, listed, decorated}
@@ -10,44 +10,44 @@ use Rattle.bt_nodes.specs.declared.kind.NodeKind.{NodeKind}
 use Rattle.bt_nodes.specs.declared.kind.NodeKind.TheVariants as kind
 
 abbrev built : NodeKind → Option ℕ → Forest → Option Plain → Plain
-built kind.Seq n cs c = Composite Sequence cs
+built kind.Seq n cs c = Composite Seq cs
 built kind.Fallback n cs c = Composite Fallback cs
-built kind.Par n cs c = Parallel (unwrap_or n 0) cs
-built kind.SeqStar n cs c = CompositeStar Sequence cs
-built kind.FallbackStar n cs c = CompositeStar Fallback cs
-built kind.Not n cs c = Invert (unwrap_or c (Does Carries))
-built kind.Tries n cs c = Tries (unwrap_or n 0) (unwrap_or c (Does Carries))
-built kind.Ticks n cs c = Ticks (unwrap_or n 0) (unwrap_or c (Does Carries))
+built kind.Par n cs c = Par (unwrap_or n 0) cs
+built kind.SeqStar n cs c = Star Seq cs
+built kind.FallbackStar n cs c = Star Fallback cs
+built kind.Not n cs c = Not (unwrap_or c (Does Carrying))
+built kind.Tries n cs c = Tries (unwrap_or n 0) (unwrap_or c (Does Carrying))
+built kind.Ticks n cs c = Ticks (unwrap_or n 0) (unwrap_or c (Does Carrying))
 built kind.Wait n cs c = Wait (unwrap_or n 0)
-built kind.Move n cs c = MoveTo (unwrap_or n 0)
-built kind.Take n cs c = Does TakeItem
-built kind.Drop n cs c = Does DropItem
-built kind.At n cs c = Does (AtPlace (unwrap_or n 0))
-built kind.Carrying n cs c = Does Carries
-built kind.Item n cs c = Does OnItem
-built kind.Signal n cs c = Does (SignalOn (unwrap_or n 0))
-built kind.Near n cs c = Does (NearOther (unwrap_or n 0))
-built kind.Give n cs c = Does (GivesTo (unwrap_or n 0))
+built kind.Move n cs c = Move (unwrap_or n 0)
+built kind.Take n cs c = Does Take
+built kind.Drop n cs c = Does Drop
+built kind.At n cs c = Does (At (unwrap_or n 0))
+built kind.Carrying n cs c = Does Carrying
+built kind.Item n cs c = Does Item
+built kind.Signal n cs c = Does (Signal (unwrap_or n 0))
+built kind.Near n cs c = Does (Near (unwrap_or n 0))
+built kind.Give n cs c = Does (Give (unwrap_or n 0))
 
 again : (p : Plain) → built (kind_of p) (number_of p) (listed p) (decorated p) ≡ p
-again (Composite Sequence cs) = refl
+again (Composite Seq cs) = refl
 again (Composite Fallback cs) = refl
-again (CompositeStar Sequence cs) = refl
-again (CompositeStar Fallback cs) = refl
-again (Parallel m cs) = refl
-again (Invert c) = refl
+again (Star Seq cs) = refl
+again (Star Fallback cs) = refl
+again (Par m cs) = refl
+again (Not c) = refl
 again (Tries n c) = refl
 again (Ticks n c) = refl
 again (Wait n) = refl
-again (MoveTo p) = refl
-again (Does TakeItem) = refl
-again (Does DropItem) = refl
-again (Does (AtPlace p)) = refl
-again (Does Carries) = refl
-again (Does OnItem) = refl
-again (Does (SignalOn a)) = refl
-again (Does (NearOther n)) = refl
-again (Does (GivesTo b)) = refl
+again (Move p) = refl
+again (Does Take) = refl
+again (Does Drop) = refl
+again (Does (At p)) = refl
+again (Does Carrying) = refl
+again (Does Item) = refl
+again (Does (Signal a)) = refl
+again (Does (Near n)) = refl
+again (Does (Give b)) = refl
 
 pub same_tree : (p q : Plain) → kind_of p ≡ kind_of q → number_of p ≡ number_of q → listed p ≡ listed q → decorated p ≡ decorated q → p ≡ q
 same_tree p q k n l d =
@@ -60,7 +60,7 @@ same_tree p q k n l d =
 
 -- a decorator lists no children
 lists_none : (p c : Plain) → Some c ≡ decorated p → listed p ≡ none
-lists_none (Invert d) c e = refl
+lists_none (Not d) c e = refl
 lists_none (Tries n d) c e = refl
 lists_none (Ticks n d) c e = refl
 lists_none _ c e = absurd (cc)
@@ -86,7 +86,7 @@ listed_smaller (Composite kind cs) = omega arith
 listed_smaller _ = omega arith
 
 pub decorated_smaller : (p c : Plain) → Some c ≡ decorated p → size c < size p
-decorated_smaller (Invert d) c e = let s : c ≡ d = cc in omega (arith, ap size s)
+decorated_smaller (Not d) c e = let s : c ≡ d = cc in omega (arith, ap size s)
 decorated_smaller (Tries n d) c e = let s : c ≡ d = cc in omega (arith, ap size s)
 decorated_smaller (Ticks n d) c e = let s : c ≡ d = cc in omega (arith, ap size s)
 decorated_smaller _ c e = absurd (cc)

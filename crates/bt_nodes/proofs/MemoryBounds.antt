@@ -4,7 +4,7 @@ use Rattle.std.proofs.Common.{◌≡◌, ◌<◌, ◌≤◌, ℕ, suc, true, nat
 use Rattle.std.proofs.lemmas.Bool.{and_parts}
 use Rattle.std.proofs.lemmas.Bool.Decides.{nat_tests}
 use Rattle.std.proofs.lemmas.List.Elements.{All-cons, All-append, All-nil}
-use Rattle.bt_nodes.specs.Plain.{Plain, Composite, CompositeStar, Parallel, Invert, Tries, Ticks, Wait, MoveTo, Does}
+use Rattle.bt_nodes.specs.Plain.{Plain, Composite, Star, Par, Not, Tries, Ticks, Wait, Move, Does}
 use Rattle.bt_nodes.specs.Plain.{Forest, none, tree}
 use Rattle.bt_nodes.specs.Sizes.{size, sizes, count}
 use Rattle.bt_nodes.specs.Bounds.{bounds, bounds_all}
@@ -15,13 +15,13 @@ use Rattle.bt_nodes.proofs.AtLeastOne.{few_children}
 mutual
   pub length-bounds : (p : Plain) → length (bounds p) ≡ size p
   length-bounds (Composite kind children) = omega (arith, length-bounds_all children)
-  length-bounds (CompositeStar kind children) = omega (arith, length-bounds_all children)
-  length-bounds (Parallel m children) = omega (arith, length-bounds_all children)
-  length-bounds (Invert child) = omega (arith, length-bounds child)
+  length-bounds (Star kind children) = omega (arith, length-bounds_all children)
+  length-bounds (Par m children) = omega (arith, length-bounds_all children)
+  length-bounds (Not child) = omega (arith, length-bounds child)
   length-bounds (Tries n child) = omega (arith, length-bounds child)
   length-bounds (Ticks n child) = omega (arith, length-bounds child)
   length-bounds (Wait n) = refl
-  length-bounds (MoveTo p) = refl
+  length-bounds (Move p) = refl
   length-bounds (Does leaf) = refl
 
   pub length-bounds_all : (children : Forest) → length (bounds_all children) ≡ sizes children
@@ -46,18 +46,18 @@ mutual
   bounds-positive (Composite kind children) h =
       positive 0 (bounds_all children)
       (bounds_all-positive children (and_parts (has_tree children) (all_keep Children children) h).1)
-  bounds-positive (CompositeStar kind children) h =
+  bounds-positive (Star kind children) h =
       let parts = and_parts (has_tree children) (all_keep Children children) h in
       All-cons (λ b. 0 < b) (count children) (bounds_all children) (some_child children parts.0)
       (bounds_all-positive children parts.1)
-  bounds-positive (Parallel m children) h =
+  bounds-positive (Par m children) h =
       positive 0 (bounds_all children)
       (bounds_all-positive children (and_parts (has_tree children) (all_keep Children children) h).1)
-  bounds-positive (Invert child) h = positive 0 (bounds child) (bounds-positive child h)
+  bounds-positive (Not child) h = positive 0 (bounds child) (bounds-positive child h)
   bounds-positive (Tries n child) h = positive n (bounds child) (bounds-positive child h)
   bounds-positive (Ticks n child) h = positive n (bounds child) (bounds-positive child h)
   bounds-positive (Wait n) h = positive n [] (All-nil (λ b. 0 < b))
-  bounds-positive (MoveTo p) h = positive 0 [] (All-nil (λ b. 0 < b))
+  bounds-positive (Move p) h = positive 0 [] (All-nil (λ b. 0 < b))
   bounds-positive (Does leaf) h = positive 0 [] (All-nil (λ b. 0 < b))
 
   pub bounds_all-positive : (children : Forest) → all_keep Children children ≡ true → All (λ b. 0 < b) (bounds_all children)
@@ -79,9 +79,9 @@ first_small b bs l h = All-cons (λ b. b ≤ 1001) b bs l h
 mutual
   pub bounds-small : (p : Plain) → size p ≤ 255 → keeps Counts p ≡ true → All (λ b. b ≤ 1001) (bounds p)
   bounds-small (Composite kind cs) few h = first_small 1 (bounds_all cs) (omega arith) (bounds_all-small cs (omega (arith, few)) h)
-  bounds-small (CompositeStar kind cs) few h = first_small (count cs) (bounds_all cs) (omega (arith, few, few_children cs)) (bounds_all-small cs (omega (arith, few)) h)
-  bounds-small (Parallel m cs) few h = first_small 1 (bounds_all cs) (omega arith) (bounds_all-small cs (omega (arith, few)) h)
-  bounds-small (Invert c) few h = first_small 1 (bounds c) (omega arith) (bounds-small c (omega (arith, few)) h)
+  bounds-small (Star kind cs) few h = first_small (count cs) (bounds_all cs) (omega (arith, few, few_children cs)) (bounds_all-small cs (omega (arith, few)) h)
+  bounds-small (Par m cs) few h = first_small 1 (bounds_all cs) (omega arith) (bounds_all-small cs (omega (arith, few)) h)
+  bounds-small (Not c) few h = first_small 1 (bounds c) (omega arith) (bounds-small c (omega (arith, few)) h)
   bounds-small (Tries n c) few h =
       let parts = and_parts (is_count n) (keeps Counts c) h in
       first_small (suc n) (bounds c) (counted n parts.0) (bounds-small c (omega (arith, few)) parts.1)
@@ -89,7 +89,7 @@ mutual
       let parts = and_parts (is_count n) (keeps Counts c) h in
       first_small (suc n) (bounds c) (counted n parts.0) (bounds-small c (omega (arith, few)) parts.1)
   bounds-small (Wait n) few h = first_small (suc n) [] (counted n h) (All-nil (λ b. b ≤ 1001))
-  bounds-small (MoveTo p) few h = first_small 1 [] (omega arith) (All-nil (λ b. b ≤ 1001))
+  bounds-small (Move p) few h = first_small 1 [] (omega arith) (All-nil (λ b. b ≤ 1001))
   bounds-small (Does leaf) few h = first_small 1 [] (omega arith) (All-nil (λ b. b ≤ 1001))
 
   bounds_all-small : (cs : Forest) → sizes cs ≤ 255 → all_keep Counts cs ≡ true → All (λ b. b ≤ 1001) (bounds_all cs)

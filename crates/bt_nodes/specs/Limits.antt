@@ -1,6 +1,6 @@
 -- The limits of a tree, and the first one that a tree breaks.
 use Rattle.std.specs.Prelude.{ℕ, Bool, true, false, ◌&&◌, nat_le, nat_lt, if◌then◌else◌, Option, Some, None}
-use Rattle.bt_nodes.specs.Plain.{Plain, Composite, CompositeStar, Parallel, Invert, Tries, Ticks, Wait, Does, NearOther, Forest, none, tree}
+use Rattle.bt_nodes.specs.Plain.{Plain, Composite, Star, Par, Not, Tries, Ticks, Wait, Does, Near, Forest, none, tree}
 use Rattle.bt_nodes.specs.Sizes.{size, depth, count}
 use Rattle.bt_nodes.specs.declared.fault.TreeFault.{TreeFault}
 use Rattle.bt_nodes.specs.declared.fault.TreeFault.TheVariants.{TooManyNodes, TooDeep, NoChild, Threshold, Count}
@@ -14,8 +14,8 @@ has_tree (tree child children) = true
 -- a node that lists children has one
 abbrev pub keeps_child : Plain → Bool
 keeps_child (Composite kind children) = has_tree children
-keeps_child (CompositeStar kind children) = has_tree children
-keeps_child (Parallel m children) = has_tree children
+keeps_child (Star kind children) = has_tree children
+keeps_child (Par m children) = has_tree children
 keeps_child _ = true
 
 abbrev pub is_threshold : (m children : ℕ) → Bool
@@ -23,7 +23,7 @@ is_threshold m children = nat_le 1 m && nat_le m children
 
 -- a threshold is from 1 to the number of children
 abbrev pub keeps_threshold : Plain → Bool
-keeps_threshold (Parallel m children) = is_threshold m (count children)
+keeps_threshold (Par m children) = is_threshold m (count children)
 keeps_threshold _ = true
 
 -- a number of ticks
@@ -35,7 +35,7 @@ abbrev pub keeps_count : Plain → Bool
 keeps_count (Tries n child) = is_count n
 keeps_count (Ticks n child) = is_count n
 keeps_count (Wait n) = is_count n
-keeps_count (Does (NearOther n)) = nat_le 1 n && nat_le n 16
+keeps_count (Does (Near n)) = nat_le 1 n && nat_le n 16
 keeps_count _ = true
 
 abbrev pub keeps_alone : Limit → Plain → Bool
@@ -47,9 +47,9 @@ keeps_alone Counts p = keeps_count p
 abbrev mutual
   pub keeps : Limit → Plain → Bool
   keeps limit (Composite kind children) = keeps_alone limit (Composite kind children) && all_keep limit children
-  keeps limit (CompositeStar kind children) = keeps_alone limit (CompositeStar kind children) && all_keep limit children
-  keeps limit (Parallel m children) = keeps_alone limit (Parallel m children) && all_keep limit children
-  keeps limit (Invert child) = keeps_alone limit (Invert child) && keeps limit child
+  keeps limit (Star kind children) = keeps_alone limit (Star kind children) && all_keep limit children
+  keeps limit (Par m children) = keeps_alone limit (Par m children) && all_keep limit children
+  keeps limit (Not child) = keeps_alone limit (Not child) && keeps limit child
   keeps limit (Tries n child) = keeps_alone limit (Tries n child) && keeps limit child
   keeps limit (Ticks n child) = keeps_alone limit (Ticks n child) && keeps limit child
   keeps limit leaf = keeps_alone limit leaf

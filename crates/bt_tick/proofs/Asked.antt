@@ -3,10 +3,10 @@ use Rattle.std.proofs.Common.{◌≡◌, ℕ, zero, suc, ◌+◌, List, [], ◌�
 use Rattle.std.specs.Prelude.{if◌then◌else◌}
 use Rattle.grid_world.specs.declared.cell.Answer.{Answer}
 use Rattle.grid_world.specs.declared.cell.Answer.TheVariants.{Here, NoWay, Step}
-use Rattle.grid_world.specs.declared.cell.Intent.TheVariants.{Take, Drop, Give}
+use Rattle.grid_world.specs.declared.cell.Intent.TheVariants as intent
 use Rattle.bt_nodes.specs.declared.node.Status.{Status}
 use Rattle.bt_nodes.specs.declared.node.Status.TheVariants.{Success, Failure, Running}
-use Rattle.bt_nodes.specs.Plain.{Kind, Sequence, Fallback, Leaf, TakeItem, DropItem, AtPlace, Carries, OnItem, SignalOn, NearOther, GivesTo, Plain, Composite, CompositeStar, Parallel, Invert, Tries, Ticks, Wait, MoveTo, Does, Forest, none, tree}
+use Rattle.bt_nodes.specs.Plain.{Kind, Seq, Fallback, Leaf, Take, Drop, At, Carrying, Item, Signal, Near, Give, Plain, Composite, Star, Par, Not, Tries, Ticks, Wait, Move, Does, Forest, none, tree}
 use Rattle.bt_nodes.specs.Sizes.{size, count}
 use Rattle.game_rules.specs.View.{View, carries, is_on_item, stands_on, has_signal, is_near, can_give}
 use Rattle.game_rules.specs.Tick.{Reply, Gives, Stands, State, Result, gives, on, on_reply, number_of, put, want, follow, ask, test, does, stops, on_kind, tick, tick_line, tick_star, tick_all}
@@ -44,33 +44,33 @@ module _ (ps : List ℕ) where
   if_carries false f g s e h = h
 
   kind_carries : (kind : Kind) (r : Result) (f g : State → Result) → Prefixes f → Prefixes g → on_kind kind (after ps r) f g ≡ after ps (on_kind kind r f g)
-  kind_carries Sequence r f g cf cg = on_carries r f g (gives Running) cf cg (gives_carries Running)
+  kind_carries Seq r f g cf cg = on_carries r f g (gives Running) cf cg (gives_carries Running)
   kind_carries Fallback r f g cf cg = on_carries r g f (gives Running) cg cf (gives_carries Running)
 
   test_carries : (b : Bool) → Prefixes (test b)
   test_carries b s = if_carries b (gives Success) (gives Failure) s refl refl
 
   does_carries : (leaf : Leaf) (v : View) → Prefixes (does leaf v)
-  does_carries TakeItem v s =
-      if_carries (carries v) (gives Success) (λ t. if is_on_item v then gives Running (want Take t) else gives Failure t) s refl
-      (if_carries (is_on_item v) (λ t. gives Running (want Take t)) (gives Failure) s refl refl)
-  does_carries DropItem v s =
-      if_carries (carries v) (λ t. if is_on_item v then gives Failure t else gives Running (want Drop t)) (gives Failure) s
-      (if_carries (is_on_item v) (gives Failure) (λ t. gives Running (want Drop t)) s refl refl) refl
-  does_carries (AtPlace p) v s = test_carries (stands_on v p) s
-  does_carries Carries v s = test_carries (carries v) s
-  does_carries OnItem v s = test_carries (is_on_item v) s
-  does_carries (SignalOn a) v s = test_carries (has_signal v a) s
-  does_carries (NearOther n) v s = test_carries (is_near v n) s
-  does_carries (GivesTo b) v s = if_carries (can_give v b) (λ t. gives Running (want (Give b) t)) (gives Failure) s refl refl
+  does_carries Take v s =
+      if_carries (carries v) (gives Success) (λ t. if is_on_item v then gives Running (want intent.Take t) else gives Failure t) s refl
+      (if_carries (is_on_item v) (λ t. gives Running (want intent.Take t)) (gives Failure) s refl refl)
+  does_carries Drop v s =
+      if_carries (carries v) (λ t. if is_on_item v then gives Failure t else gives Running (want intent.Drop t)) (gives Failure) s
+      (if_carries (is_on_item v) (gives Failure) (λ t. gives Running (want intent.Drop t)) s refl refl) refl
+  does_carries (At p) v s = test_carries (stands_on v p) s
+  does_carries Carrying v s = test_carries (carries v) s
+  does_carries Item v s = test_carries (is_on_item v) s
+  does_carries (Signal a) v s = test_carries (has_signal v a) s
+  does_carries (Near n) v s = test_carries (is_near v n) s
+  does_carries (Give b) v s = if_carries (can_give v b) (λ t. gives Running (want (intent.Give b) t)) (gives Failure) s refl refl
 
   module _ (v : View) where
     mutual
       pub tick_carries : (c : Plain) (n : ℕ) → Prefixes (tick v c n)
       tick_carries (Composite kind cs) n s = line_carries cs kind (n + 1) s
-      tick_carries (CompositeStar kind cs) n s = star_carries cs kind (number_of n s) 0 n (n + 1) s
-      tick_carries (Parallel m cs) n s = all_carries cs m (count cs) 0 0 (n + 1) s
-      tick_carries (Invert c) n s =
+      tick_carries (Star kind cs) n s = star_carries cs kind (number_of n s) 0 n (n + 1) s
+      tick_carries (Par m cs) n s = all_carries cs m (count cs) 0 0 (n + 1) s
+      tick_carries (Not c) n s =
           ap (λ r. on r (gives Failure) (gives Success) (gives Running)) (tick_carries c (n + 1) s)
           ∙ on_carries (tick v c (n + 1) s) _ _ _ (gives_carries Failure) (gives_carries Success) (gives_carries Running)
       tick_carries (Tries k c) n s =
@@ -86,7 +86,7 @@ module _ (ps : List ℕ) where
           (ap (λ r. on r won lost busy) (tick_carries c (n + 1) s)
           ∙ on_carries (tick v c (n + 1) s) won lost busy (λ t. refl) (λ t. refl) (λ t. refl)) refl
       tick_carries (Wait k) n s = if_carries (nat_lt (number_of n s) k) (λ t. gives Running (put n (number_of n t + 1) t)) (λ t. gives Success (put n 0 t)) s refl refl
-      tick_carries (MoveTo p) n s = ask_carries p s.left s
+      tick_carries (Move p) n s = ask_carries p s.left s
       tick_carries (Does leaf) n s = does_carries leaf v s
 
       line_carries : (cs : Forest) (kind : Kind) (at : ℕ) → Prefixes (tick_line v cs kind at)
@@ -112,18 +112,18 @@ module _ (ps : List ℕ) where
 
     go_on_carries : (p : Plain) (n k won lost : ℕ) → Prefixes (go_on v p n k won lost)
     go_on_carries (Composite kind cs) n k won lost s = line_carries (from_child k cs) kind (child_number k cs (n + 1)) s
-    go_on_carries (CompositeStar kind cs) n k won lost s = star_carries (from_child k cs) kind 0 k n (child_number k cs (n + 1)) s
-    go_on_carries (Parallel m cs) n k won lost s = all_carries (from_child k cs) m (count cs) won lost (child_number k cs (n + 1)) s
+    go_on_carries (Star kind cs) n k won lost s = star_carries (from_child k cs) kind 0 k n (child_number k cs (n + 1)) s
+    go_on_carries (Par m cs) n k won lost s = all_carries (from_child k cs) m (count cs) won lost (child_number k cs (n + 1)) s
     go_on_carries _ n k won lost s = refl
 
     close_carries : (p : Plain) (n k won lost : ℕ) (r : Result) → close_at v p n k won lost (after ps r) ≡ after ps (close_at v p n k won lost r)
     close_carries (Composite kind cs) n k won lost r = kind_carries kind r _ _ (go_on_carries (Composite kind cs) n k won lost) (gives_carries (stops kind))
-    close_carries (CompositeStar kind cs) n k won lost r =
-        kind_carries kind r (λ s. go_on v (CompositeStar kind cs) n k won lost (put n k s)) (λ s. gives (stops kind) (put n 0 s))
-        (λ t. go_on_carries (CompositeStar kind cs) n k won lost (put n k t)) (λ t. refl)
-    close_carries (Parallel m cs) n k won lost r =
-        on_carries r _ _ _ (go_on_carries (Parallel m cs) n k (won + 1) lost) (go_on_carries (Parallel m cs) n k won (lost + 1)) (go_on_carries (Parallel m cs) n k won lost)
-    close_carries (Invert c) n k won lost r = on_carries r _ _ _ (gives_carries Failure) (gives_carries Success) (gives_carries Running)
+    close_carries (Star kind cs) n k won lost r =
+        kind_carries kind r (λ s. go_on v (Star kind cs) n k won lost (put n k s)) (λ s. gives (stops kind) (put n 0 s))
+        (λ t. go_on_carries (Star kind cs) n k won lost (put n k t)) (λ t. refl)
+    close_carries (Par m cs) n k won lost r =
+        on_carries r _ _ _ (go_on_carries (Par m cs) n k (won + 1) lost) (go_on_carries (Par m cs) n k won (lost + 1)) (go_on_carries (Par m cs) n k won lost)
+    close_carries (Not c) n k won lost r = on_carries r _ _ _ (gives_carries Failure) (gives_carries Success) (gives_carries Running)
     close_carries (Tries m c) n k won lost r =
         on_carries r (gives Success) (λ s. gives Failure (put n (lost + 1) s)) (gives Running) (gives_carries Success) (λ t. refl) (gives_carries Running)
     close_carries (Ticks m c) n k won lost r =
@@ -136,10 +136,10 @@ module _ (ps : List ℕ) where
 
 -- what stands goes on standing
 close_stands : (v : View) (p : Plain) (n k won lost : ℕ) (s : State) → close_at v p n k won lost (record { reply = Stands; state = s }) ≡ record { reply = Stands; state = s }
-close_stands v (Composite Sequence cs) n k won lost s = refl
+close_stands v (Composite Seq cs) n k won lost s = refl
 close_stands v (Composite Fallback cs) n k won lost s = refl
-close_stands v (CompositeStar Sequence cs) n k won lost s = refl
-close_stands v (CompositeStar Fallback cs) n k won lost s = refl
+close_stands v (Star Seq cs) n k won lost s = refl
+close_stands v (Star Fallback cs) n k won lost s = refl
 close_stands v _ n k won lost s = refl
 
 pub unwind_stands : (v : View) (fs : List Open) (s : State) → unwind v fs (record { reply = Stands; state = s }) ≡ record { reply = Stands; state = s }

@@ -3,11 +3,12 @@ use Rattle.std.proofs.Common.{◌≡◌, ℕ, ◌+◌, ◌*◌, ◌<◌, ◌≤�
 use Rattle.std.specs.Prelude.{if◌then◌else◌}
 use Rattle.std.proofs.lemmas.Bool.Decides.{nat_tests}
 use Rattle.grid_world.specs.declared.cell.Intent.{Intent}
-use Rattle.grid_world.specs.declared.cell.Intent.TheVariants.{Take, Drop, Give}
-use Rattle.bt_nodes.specs.declared.node.Node.{Wait as WaitNode, Take as TakeNode, Drop as DropNode, At, Carrying, Item, Signal, Near, Give as GiveNode, the_lemmas}
+use Rattle.grid_world.specs.declared.cell.Intent.TheVariants as intent
+use Rattle.bt_nodes.specs.declared.node.Node.{the_lemmas}
+use Rattle.bt_nodes.specs.declared.node.Node as node
 use Rattle.bt_nodes.specs.declared.node.Status.{Status}
 use Rattle.bt_nodes.specs.declared.node.Status.TheVariants.{Success, Failure, Running}
-use Rattle.bt_nodes.specs.Plain.{Plain, Kind, Leaf, Composite, Invert, Tries, Ticks, Wait, Does, Forest, TakeItem, DropItem, AtPlace, Carries, OnItem, SignalOn, NearOther, GivesTo, plain}
+use Rattle.bt_nodes.specs.Plain.{Plain, Kind, Leaf, Composite, Not, Tries, Ticks, Wait, Does, Forest, Take, Drop, At, Carrying, Item, Signal, Near, Give, plain}
 use Rattle.bt_nodes.specs.Sizes.{size}
 use Rattle.game_rules.specs.View.{View, carries, is_on_item, can_give}
 use Rattle.game_rules.specs.Tick.{State, gives, put, want, number_of, test, does, tick}
@@ -20,31 +21,31 @@ use Rattle.bt_tick.proofs.Trees.{size-children, sits_below}
 
 -- ---- the plain trees of nodes with no child
 
-pub plain-Wait : (A : Type 0) (n : ℕ) → plain {A = A} (WaitNode n) ≡ Wait n
+pub plain-Wait : (A : Type 0) (n : ℕ) → plain {A = A} (node.Wait n) ≡ Wait n
 plain-Wait A n = search (rules, the_lemmas)
 
-pub plain-Take : (A : Type 0) → plain {A = A} TakeNode ≡ Does TakeItem
+pub plain-Take : (A : Type 0) → plain {A = A} node.Take ≡ Does Take
 plain-Take A = search (rules, the_lemmas)
 
-pub plain-Drop : (A : Type 0) → plain {A = A} DropNode ≡ Does DropItem
+pub plain-Drop : (A : Type 0) → plain {A = A} node.Drop ≡ Does Drop
 plain-Drop A = search (rules, the_lemmas)
 
-pub plain-At : (A : Type 0) (p : ℕ) → plain {A = A} (At p) ≡ Does (AtPlace p)
+pub plain-At : (A : Type 0) (p : ℕ) → plain {A = A} (node.At p) ≡ Does (At p)
 plain-At A p = search (rules, the_lemmas)
 
-pub plain-Carrying : (A : Type 0) → plain {A = A} Carrying ≡ Does Carries
+pub plain-Carrying : (A : Type 0) → plain {A = A} node.Carrying ≡ Does Carrying
 plain-Carrying A = search (rules, the_lemmas)
 
-pub plain-Item : (A : Type 0) → plain {A = A} Item ≡ Does OnItem
+pub plain-Item : (A : Type 0) → plain {A = A} node.Item ≡ Does Item
 plain-Item A = search (rules, the_lemmas)
 
-pub plain-Signal : (A : Type 0) (a : ℕ) → plain {A = A} (Signal a) ≡ Does (SignalOn a)
+pub plain-Signal : (A : Type 0) (a : ℕ) → plain {A = A} (node.Signal a) ≡ Does (Signal a)
 plain-Signal A a = search (rules, the_lemmas)
 
-pub plain-Near : (A : Type 0) (n : ℕ) → plain {A = A} (Near n) ≡ Does (NearOther n)
+pub plain-Near : (A : Type 0) (n : ℕ) → plain {A = A} (node.Near n) ≡ Does (Near n)
 plain-Near A n = search (rules, the_lemmas)
 
-pub plain-Give : (A : Type 0) (b : ℕ) → plain {A = A} (GiveNode b) ≡ Does (GivesTo b)
+pub plain-Give : (A : Type 0) (b : ℕ) → plain {A = A} (node.Give b) ≡ Does (Give b)
 plain-Give A b = search (rules, the_lemmas)
 
 -- ---- what a node with this number does
@@ -61,10 +62,10 @@ module _ (v : View) (p : Plain) (n : ℕ) (s : State) where
   pub line_begins : (kind : Kind) (cs : Forest) → p ≡ Composite kind cs → go_on v p n 0 0 0 s ≡ tick v p n s
   line_begins kind cs is = ap (λ x. go_on v x n 0 0 0 s) is ∙ ticks_as (Composite kind cs) is
 
-  pub not_begins : (c d : Plain) → p ≡ Invert c → d ≡ c → close_at v p n 1 0 0 (tick v d (n + 1) s) ≡ tick v p n s
+  pub not_begins : (c d : Plain) → p ≡ Not c → d ≡ c → close_at v p n 1 0 0 (tick v d (n + 1) s) ≡ tick v p n s
   not_begins c d is e =
-      ap (λ x. close_at v x n 1 0 0 (tick v d (n + 1) s)) is ∙ ap (λ x. close_at v (Invert c) n 1 0 0 (tick v x (n + 1) s)) e
-      ∙ ticks_as (Invert c) is
+      ap (λ x. close_at v x n 1 0 0 (tick v d (n + 1) s)) is ∙ ap (λ x. close_at v (Not c) n 1 0 0 (tick v x (n + 1) s)) e
+      ∙ ticks_as (Not c) is
 
   -- below its number of ticks
   module _ (k lost : ℕ) (named : lost ≡ number_of n s) where
@@ -98,27 +99,27 @@ module _ (v : View) (p : Plain) (n : ℕ) (s : State) where
         sym (ap (λ b. if b then (close_at v (Ticks k c) n 1 0 (number_of n s) (tick v c (n + 1) s)) else gives Failure (put n 0 s)) (is_past h))
         ∙ ticks_as (Ticks k c) is
 
-  pub takes : (carried here : Bool) → p ≡ Does TakeItem → carried ≡ carries v → here ≡ is_on_item v
-      → (if carried then gives Success s else (if here then gives Running (want Take s) else gives Failure s)) ≡ tick v p n s
+  pub takes : (carried here : Bool) → p ≡ Does Take → carried ≡ carries v → here ≡ is_on_item v
+      → (if carried then gives Success s else (if here then gives Running (want intent.Take s) else gives Failure s)) ≡ tick v p n s
   takes carried here is a b =
-      ap (λ x. if x then gives Success s else (if here then gives Running (want Take s) else gives Failure s)) a
-      ∙ ap (λ x. if carries v then gives Success s else (if x then gives Running (want Take s) else gives Failure s)) b ∙ ticks_as (Does TakeItem) is
+      ap (λ x. if x then gives Success s else (if here then gives Running (want intent.Take s) else gives Failure s)) a
+      ∙ ap (λ x. if carries v then gives Success s else (if x then gives Running (want intent.Take s) else gives Failure s)) b ∙ ticks_as (Does Take) is
 
-  pub takes_none : p ≡ Does TakeItem → true ≡ carries v → gives Success s ≡ tick v p n s
+  pub takes_none : p ≡ Does Take → true ≡ carries v → gives Success s ≡ tick v p n s
   takes_none is a = takes true (is_on_item v) is a refl
 
-  pub drops : (carried here : Bool) → p ≡ Does DropItem → carried ≡ carries v → here ≡ is_on_item v
-      → (if carried then (if here then gives Failure s else gives Running (want Drop s)) else gives Failure s) ≡ tick v p n s
+  pub drops : (carried here : Bool) → p ≡ Does Drop → carried ≡ carries v → here ≡ is_on_item v
+      → (if carried then (if here then gives Failure s else gives Running (want intent.Drop s)) else gives Failure s) ≡ tick v p n s
   drops carried here is a b =
-      ap (λ x. if x then (if here then gives Failure s else gives Running (want Drop s)) else gives Failure s) a
-      ∙ ap (λ x. if carries v then (if x then gives Failure s else gives Running (want Drop s)) else gives Failure s) b ∙ ticks_as (Does DropItem) is
+      ap (λ x. if x then (if here then gives Failure s else gives Running (want intent.Drop s)) else gives Failure s) a
+      ∙ ap (λ x. if carries v then (if x then gives Failure s else gives Running (want intent.Drop s)) else gives Failure s) b ∙ ticks_as (Does Drop) is
 
-  pub drops_none : p ≡ Does DropItem → false ≡ carries v → gives Failure s ≡ tick v p n s
+  pub drops_none : p ≡ Does Drop → false ≡ carries v → gives Failure s ≡ tick v p n s
   drops_none is a = drops false (is_on_item v) is a refl
 
-  pub hands_over : (b : ℕ) (may : Bool) → p ≡ Does (GivesTo b) → may ≡ can_give v b
-      → (if may then gives Running (want (Give b) s) else gives Failure s) ≡ tick v p n s
-  hands_over b may is a = ap (λ x. if x then gives Running (want (Give b) s) else gives Failure s) a ∙ ticks_as (Does (GivesTo b)) is
+  pub hands_over : (b : ℕ) (may : Bool) → p ≡ Does (Give b) → may ≡ can_give v b
+      → (if may then gives Running (want (intent.Give b) s) else gives Failure s) ≡ tick v p n s
+  hands_over b may is a = ap (λ x. if x then gives Running (want (intent.Give b) s) else gives Failure s) a ∙ ticks_as (Does (Give b)) is
 
   -- a condition
   pub answers : (b : Bool) (st : Status) → Tests v p b → st ≡ (if b then Success else Failure) → gives st s ≡ tick v p n s

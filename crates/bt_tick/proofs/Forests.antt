@@ -1,7 +1,7 @@
 -- The children of a node beside the list of nodes that they stand for.
 use Rattle.std.proofs.Common.{◌≡◌, ℕ, zero, suc, ◌+◌, ◌<◌, List, [], ◌∷◌, length, get_or, drop, refl, sym, ap, ◌∙◌, arith}
 use Rattle.std.specs.Prelude.{Option, Some, None, MatchOption}
-use Rattle.bt_nodes.specs.Plain.{Plain, Composite, CompositeStar, Parallel, tree, plain, plains}
+use Rattle.bt_nodes.specs.Plain.{Plain, Composite, Star, Par, tree, plain, plains}
 use Rattle.bt_nodes.specs.Heads.{listed}
 use Rattle.bt_nodes.specs.declared.node.Node.{Node}
 use Rattle.bt_tick.specs.Children.{children_of, from_child}
@@ -24,8 +24,8 @@ child_at p xs k c e h is =
 -- the children of a node that lists them are those that it lists
 pub listed_children : (p : Plain) → HasList p → children_of p ≡ listed p
 listed_children (Composite kind cs) list = refl
-listed_children (CompositeStar kind cs) list = refl
-listed_children (Parallel m cs) list = refl
+listed_children (Star kind cs) list = refl
+listed_children (Par m cs) list = refl
 listed_children _ list = absurd list
 
 -- the child that was read from a node that lists it

@@ -2,7 +2,7 @@
 use Rattle.std.proofs.Common.{◌≡◌, ℕ, suc, ◌+◌, ◌<◌, ◌≤◌, ◌⊎◌, inl, inr, List, length, drop, refl, sym, ap, ◌∙◌, subst, arith}
 use Rattle.bt_nodes.specs.declared.node.Status.{Status}
 use Rattle.bt_nodes.specs.declared.node.Status.TheVariants.{Success, Failure, Running}
-use Rattle.bt_nodes.specs.Plain.{Plain, Kind, Sequence, Fallback, Composite, CompositeStar, Parallel, Tries, Ticks, Forest, none, tree}
+use Rattle.bt_nodes.specs.Plain.{Plain, Kind, Seq, Fallback, Composite, Star, Par, Tries, Ticks, Forest, none, tree}
 use Rattle.bt_nodes.specs.Sizes.{size, count}
 use Rattle.game_rules.specs.View.{View}
 use Rattle.game_rules.specs.Tick.{State, Result, gives, goes, stops, put}
@@ -27,7 +27,7 @@ module _ (v : View) (f : Open) (s : State) where
   line_goes kind cs st is e = rest_at v f s (Composite kind cs) is ∙ by kind ∙ ap (λ x. close_at v (Composite kind cs) f.number f.next f.won f.lost (gives x s)) (sym e) ∙ closes (Composite kind cs) (gives st s) is
     where
       by : (k : Kind) → go_on v (Composite k cs) f.number f.next f.won f.lost s ≡ close_at v (Composite k cs) f.number f.next f.won f.lost (gives (goes k) s)
-      by Sequence = refl
+      by Seq = refl
       by Fallback = refl
 
   pub line_stops : (kind : Kind) (cs : Forest) (st : Status) → f.node ≡ Composite kind cs → (st ≡ stops kind) ⊎ (st ≡ Running) → gives st s ≡ close v f (gives st s)
@@ -37,35 +37,35 @@ module _ (v : View) (f : Open) (s : State) where
       at_status k x y e h = subst (λ z. gives z s ≡ close_at v (Composite k cs) f.number f.next f.won f.lost (gives z s)) (sym e) h
 
       by : (k : Kind) (x : Status) → (x ≡ stops k) ⊎ (x ≡ Running) → gives x s ≡ close_at v (Composite k cs) f.number f.next f.won f.lost (gives x s)
-      by Sequence x (inl e) = at_status Sequence x Failure e refl
-      by Sequence x (inr e) = at_status Sequence x Running e refl
+      by Seq x (inl e) = at_status Seq x Failure e refl
+      by Seq x (inr e) = at_status Seq x Running e refl
       by Fallback x (inl e) = at_status Fallback x Success e refl
       by Fallback x (inr e) = at_status Fallback x Running e refl
 
   -- a seq* or a fallback* remembers where it goes on, and forgets where it stops
-  pub star_goes : (kind : Kind) (cs : Forest) (st : Status) → f.node ≡ CompositeStar kind cs → st ≡ goes kind → rest_of v f (put f.number f.next s) ≡ close v f (gives st s)
+  pub star_goes : (kind : Kind) (cs : Forest) (st : Status) → f.node ≡ Star kind cs → st ≡ goes kind → rest_of v f (put f.number f.next s) ≡ close v f (gives st s)
   star_goes kind cs st is e =
       ap (λ q. go_on v q f.number f.next f.won f.lost (put f.number f.next s)) is ∙ by kind
-      ∙ ap (λ x. close_at v (CompositeStar kind cs) f.number f.next f.won f.lost (gives x s)) (sym e) ∙ closes (CompositeStar kind cs) (gives st s) is
+      ∙ ap (λ x. close_at v (Star kind cs) f.number f.next f.won f.lost (gives x s)) (sym e) ∙ closes (Star kind cs) (gives st s) is
     where
-      by : (k : Kind) → go_on v (CompositeStar k cs) f.number f.next f.won f.lost (put f.number f.next s) ≡ close_at v (CompositeStar k cs) f.number f.next f.won f.lost (gives (goes k) s)
-      by Sequence = refl
+      by : (k : Kind) → go_on v (Star k cs) f.number f.next f.won f.lost (put f.number f.next s) ≡ close_at v (Star k cs) f.number f.next f.won f.lost (gives (goes k) s)
+      by Seq = refl
       by Fallback = refl
 
-  pub star_stops : (kind : Kind) (cs : Forest) (st : Status) → f.node ≡ CompositeStar kind cs → st ≡ stops kind → gives (stops kind) (put f.number 0 s) ≡ close v f (gives st s)
+  pub star_stops : (kind : Kind) (cs : Forest) (st : Status) → f.node ≡ Star kind cs → st ≡ stops kind → gives (stops kind) (put f.number 0 s) ≡ close v f (gives st s)
   star_stops kind cs st is e =
       by kind
-      ∙ ap (λ x. close_at v (CompositeStar kind cs) f.number f.next f.won f.lost (gives x s)) (sym e) ∙ closes (CompositeStar kind cs) (gives st s) is
+      ∙ ap (λ x. close_at v (Star kind cs) f.number f.next f.won f.lost (gives x s)) (sym e) ∙ closes (Star kind cs) (gives st s) is
     where
-      by : (k : Kind) → gives (stops k) (put f.number 0 s) ≡ close_at v (CompositeStar k cs) f.number f.next f.won f.lost (gives (stops k) s)
-      by Sequence = refl
+      by : (k : Kind) → gives (stops k) (put f.number 0 s) ≡ close_at v (Star k cs) f.number f.next f.won f.lost (gives (stops k) s)
+      by Seq = refl
       by Fallback = refl
 
-  pub star_runs : (kind : Kind) (cs : Forest) (st : Status) → f.node ≡ CompositeStar kind cs → st ≡ Running → gives Running s ≡ close v f (gives st s)
-  star_runs kind cs st is e = by kind ∙ ap (λ x. close_at v (CompositeStar kind cs) f.number f.next f.won f.lost (gives x s)) (sym e) ∙ closes (CompositeStar kind cs) (gives st s) is
+  pub star_runs : (kind : Kind) (cs : Forest) (st : Status) → f.node ≡ Star kind cs → st ≡ Running → gives Running s ≡ close v f (gives st s)
+  star_runs kind cs st is e = by kind ∙ ap (λ x. close_at v (Star kind cs) f.number f.next f.won f.lost (gives x s)) (sym e) ∙ closes (Star kind cs) (gives st s) is
     where
-      by : (k : Kind) → gives Running s ≡ close_at v (CompositeStar k cs) f.number f.next f.won f.lost (gives Running s)
-      by Sequence = refl
+      by : (k : Kind) → gives Running s ≡ close_at v (Star k cs) f.number f.next f.won f.lost (gives Running s)
+      by Seq = refl
       by Fallback = refl
 
   -- what a node that doesn't list its children does at one status
@@ -84,8 +84,8 @@ module _ (v : View) (f : Open) (s : State) where
 
 list_more : (p : Plain) (k n m : ℕ) → HasList p → n < limit_of p k → m ≤ n + 1 → m < limit_of p (suc k)
 list_more (Composite kind cs) k n m list l h = omega arith
-list_more (CompositeStar kind cs) k n m list l h = omega arith
-list_more (Parallel q cs) k n m list l h = omega arith
+list_more (Star kind cs) k n m list l h = omega arith
+list_more (Par q cs) k n m list l h = omega arith
 list_more _ k n m list l h = absurd list
 
 -- a node that lists children is at rest when one of them has given its status, which it may count

@@ -1,7 +1,7 @@
 -- What leaving a node keeps, by the status that it gives.
 use Rattle.std.proofs.Common.{◌≡◌, ℕ, suc, ◌+◌, ◌≤◌, List, length, drop, sym, ap, ◌∙◌, subst, arith}
 use Rattle.bt_nodes.specs.declared.node.Status.{Status}
-use Rattle.bt_nodes.specs.Plain.{Plain, Kind, Composite, CompositeStar, Parallel, Forest, plains}
+use Rattle.bt_nodes.specs.Plain.{Plain, Kind, Composite, Star, Par, Forest, plains}
 use Rattle.bt_nodes.specs.Sizes.{size, count}
 use Rattle.bt_nodes.specs.Trees.{plain_of}
 use Rattle.bt_nodes.specs.declared.node.Node.{Node}
@@ -60,10 +60,10 @@ module _ (v : View) (f : Open) (s : State) where
   pub ended_line : (kind : Kind) (cs : Forest) → f.node ≡ Composite kind cs → count (children_of f.node) ≤ f.next → gives (goes kind) s ≡ rest_of v f s
   ended_line kind cs is h = sym (rest_at (Composite kind cs) is ∙ go_on_line v kind cs f.number f.next f.won f.lost s (subst (λ p. count (children_of p) ≤ f.next) is h))
 
-  pub ended_star : (kind : Kind) (cs : Forest) → f.node ≡ CompositeStar kind cs → count (children_of f.node) ≤ f.next → gives (goes kind) (put f.number 0 s) ≡ rest_of v f s
-  ended_star kind cs is h = sym (rest_at (CompositeStar kind cs) is ∙ go_on_star v kind cs f.number f.next f.won f.lost s (subst (λ p. count (children_of p) ≤ f.next) is h))
+  pub ended_star : (kind : Kind) (cs : Forest) → f.node ≡ Star kind cs → count (children_of f.node) ≤ f.next → gives (goes kind) (put f.number 0 s) ≡ rest_of v f s
+  ended_star kind cs is h = sym (rest_at (Star kind cs) is ∙ go_on_star v kind cs f.number f.next f.won f.lost s (subst (λ p. count (children_of p) ≤ f.next) is h))
 
-  pub ended_all : (m : ℕ) (cs : Forest) (st : Status) → f.node ≡ Parallel m cs → count (children_of f.node) ≤ f.next → st ≡ verdict m (count cs) f.won f.lost → gives st s ≡ rest_of v f s
+  pub ended_all : (m : ℕ) (cs : Forest) (st : Status) → f.node ≡ Par m cs → count (children_of f.node) ≤ f.next → st ≡ verdict m (count cs) f.won f.lost → gives st s ≡ rest_of v f s
   ended_all m cs st is h e =
       ap (λ x. gives x s) e
-      ∙ sym (rest_at (Parallel m cs) is ∙ go_on_all v m cs f.number f.next f.won f.lost s (subst (λ p. count (children_of p) ≤ f.next) is h))
+      ∙ sym (rest_at (Par m cs) is ∙ go_on_all v m cs f.number f.next f.won f.lost s (subst (λ p. count (children_of p) ≤ f.next) is h))

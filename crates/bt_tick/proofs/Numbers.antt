@@ -2,7 +2,7 @@
 use Rattle.std.proofs.Common.{◌≡◌, ℕ, ◌+◌, ◌<◌, ◌≤◌, List, ◌∷◌, get_or, length, set, inl, inr, sym, ap, ◌∙◌, subst, arith, refl}
 use Rattle.std.proofs.lemmas.Bool.{cases_eq}
 use Rattle.std.proofs.lemmas.List.{get_or-set_same, get_or-set_other, length-set, set-set}
-use Rattle.bt_nodes.specs.Plain.{Plain, Kind, Sequence, Fallback, CompositeStar, Tries, Ticks, Forest}
+use Rattle.bt_nodes.specs.Plain.{Plain, Kind, Seq, Fallback, Star, Tries, Ticks, Forest}
 use Rattle.bt_nodes.specs.Sizes.{count}
 use Rattle.bt_nodes.specs.Bounds.{bounds, Fits}
 use Rattle.bt_nodes.proofs.MemoryBounds.{length-bounds}
@@ -47,7 +47,7 @@ module _ (p : Plain) (m m' : List ℕ) (v : ℕ) (counting e around : ℕ) (f : 
       let at : get_or (bounds p) f.number 0 ≡ b = bound_at p f.node f.number b part own stands.sits in
       subst (Fits p) (sym is) (fits_set p m f.number v fits (omega (arith, at, l)))
 
-  pub star_wrote : (kind : Kind) (cs : Forest) → f.node ≡ CompositeStar kind cs → v < count cs → Fits p m'
+  pub star_wrote : (kind : Kind) (cs : Forest) → f.node ≡ Star kind cs → v < count cs → Fits p m'
   star_wrote kind cs node l = wrote _ _ (ap bounds node) l
 
   pub tries_wrote : (k : ℕ) (c : Plain) → f.node ≡ Tries k c → v ≤ k → Fits p m'
@@ -64,13 +64,13 @@ pub ticks_lost : (whole : Plain) (counting e around : ℕ) (f : Open) (k : ℕ) 
 ticks_lost whole counting e around f k c r is = let h = subst (λ p. f.won + f.lost < limit_of p counting) is r.counts in omega (arith, h)
 
 -- the last child of a seq* or a fallback* has ended so that the node goes on
-pub end_star : (v : View) (f : Open) (kind : Kind) (cs : Forest) (s : State) → f.node ≡ CompositeStar kind cs → count (children_of f.node) ≤ f.next
+pub end_star : (v : View) (f : Open) (kind : Kind) (cs : Forest) (s : State) → f.node ≡ Star kind cs → count (children_of f.node) ≤ f.next
     → gives (goes kind) (put f.number 0 s) ≡ close v f (gives (goes kind) s)
 end_star v f kind cs s is h =
     ap (λ m. gives (goes kind) (record s { memory = m })) (sym (set-set s.memory f.number f.next 0))
     ∙ sym (go_on_star v kind cs f.number f.next f.won f.lost (put f.number f.next s) (subst (λ p. count (children_of p) ≤ f.next) is h))
     ∙ sym (goes_on kind) ∙ ap (λ q. close_at v q f.number f.next f.won f.lost (gives (goes kind) s)) (sym is)
   where
-    goes_on : (k : Kind) → close_at v (CompositeStar k cs) f.number f.next f.won f.lost (gives (goes k) s) ≡ go_on v (CompositeStar k cs) f.number f.next f.won f.lost (put f.number f.next s)
-    goes_on Sequence = refl
+    goes_on : (k : Kind) → close_at v (Star k cs) f.number f.next f.won f.lost (gives (goes k) s) ≡ go_on v (Star k cs) f.number f.next f.won f.lost (put f.number f.next s)
+    goes_on Seq = refl
     goes_on Fallback = refl

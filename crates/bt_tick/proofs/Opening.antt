@@ -2,7 +2,7 @@
 use Rattle.std.proofs.Common.{◌≡◌, ℕ, suc, ◌+◌, ◌*◌, ◌<◌, ◌≤◌, List, [], ◌∷◌, length, get_or, refl, sym, ap, ◌∙◌, subst, arith}
 use Rattle.std.specs.Prelude.{IfOk, Ok, Err, Result as Res}
 use Rattle.std.proofs.Common.{Bor}
-use Rattle.bt_nodes.specs.Plain.{Plain, Kind, Composite, CompositeStar, Parallel, Forest, none, tree, plain, plains}
+use Rattle.bt_nodes.specs.Plain.{Plain, Kind, Composite, Star, Par, Forest, none, tree, plain, plains}
 use Rattle.bt_nodes.specs.Sizes.{size, sizes, count}
 use Rattle.bt_nodes.specs.Bounds.{bounds, Fits}
 use Rattle.bt_nodes.specs.Trees.{plain_of}
@@ -63,7 +63,7 @@ module _ (whole p : Plain) (n k : ℕ) (sits : Sits whole n p) (there : k < coun
 
 -- ---- a node with memory
 
-module _ {T : Type 0} (p : Plain) (m : List ℕ) (f : Open) (fs : List Open) (kind : Kind) (nodes : List (Node T)) (is : f.node ≡ CompositeStar kind (plains nodes)) (fits : Fits p m)
+module _ {T : Type 0} (p : Plain) (m : List ℕ) (f : Open) (fs : List Open) (kind : Kind) (nodes : List (Node T)) (is : f.node ≡ Star kind (plains nodes)) (fits : Fits p m)
     (sits : Sits p f.number f.node) (named : f.next ≡ get_or m f.number 0) where
   -- its number names a child
   pub star_next : f.next < count (children_of f.node)
@@ -90,9 +90,9 @@ module _ {T : Type 0} (p : Plain) (m : List ℕ) (f : Open) (fs : List Open) (ki
   star_falls = omega (arith, sizes_from (children_of f.node) f.next, size-children f.node)
 
 -- it does what it does from that child on
-pub star_begins : (v : View) (f : Open) (kind : Kind) (cs : Forest) → f.node ≡ CompositeStar kind cs → f.won ≡ 0 → f.lost ≡ 0 → (s : State) → f.next ≡ number_of f.number s → rest_of v f s ≡ tick v f.node f.number s
+pub star_begins : (v : View) (f : Open) (kind : Kind) (cs : Forest) → f.node ≡ Star kind cs → f.won ≡ 0 → f.lost ≡ 0 → (s : State) → f.next ≡ number_of f.number s → rest_of v f s ≡ tick v f.node f.number s
 star_begins v f kind cs is won lost s at =
-    ap (λ q. go_on v q f.number f.next f.won f.lost s) is ∙ ap (λ k. go_on v (CompositeStar kind cs) f.number f.next k f.lost s) won ∙ ap (λ k. go_on v (CompositeStar kind cs) f.number f.next 0 k s) lost
+    ap (λ q. go_on v q f.number f.next f.won f.lost s) is ∙ ap (λ k. go_on v (Star kind cs) f.number f.next k f.lost s) won ∙ ap (λ k. go_on v (Star kind cs) f.number f.next 0 k s) lost
     ∙ begin_star v kind cs f.number f.next s at ∙ ap (λ q. tick v q f.number s) (sym is)
 
 -- ---- when a node is opened
@@ -103,8 +103,8 @@ first_rests whole p n fs list sits deep nested = (record { sits = sits; some = o
   where
     counts : (q : Plain) → HasList q → 0 + 0 < limit_of q 1
     counts (Composite kind cs) l = omega arith
-    counts (CompositeStar kind cs) l = omega arith
-    counts (Parallel m cs) l = omega arith
+    counts (Star kind cs) l = omega arith
+    counts (Par m cs) l = omega arith
     counts _ l = absurd l
 
 -- the number after a child is the one after its only parent

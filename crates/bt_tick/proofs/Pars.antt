@@ -2,7 +2,7 @@
 use Rattle.std.proofs.Common.{◌≡◌, ℕ, ◌+◌, ◌≤◌, List, [], refl, sym, ap, ◌∙◌, subst, arith}
 use Rattle.bt_nodes.specs.declared.node.Status.{Status}
 use Rattle.bt_nodes.specs.declared.node.Status.TheVariants.{Success, Failure, Running}
-use Rattle.bt_nodes.specs.Plain.{Plain, Parallel, tree}
+use Rattle.bt_nodes.specs.Plain.{Plain, Par, tree}
 use Rattle.bt_nodes.specs.Sizes.{size}
 use Rattle.game_rules.specs.View.{View}
 use Rattle.game_rules.specs.Tick.{State, gives, tick}
@@ -16,12 +16,12 @@ use Rattle.bt_tick.proofs.Nests.{begun, entered_keeps, entered_nested, entered_f
 
 -- a par lists its children
 pub par_lists : (p : Plain) → IsPar p → HasList p
-par_lists (Parallel m cs) par = tt
+par_lists (Par m cs) par = tt
 par_lists _ par = absurd par
 
 -- as many of its children may be counted as were begun
 pub limits : (p : Plain) (begun : ℕ) → IsPar p → limit_of p begun ≡ begun
-limits (Parallel m cs) begun par = refl
+limits (Par m cs) begun par = refl
 limits _ begun par = absurd par
 
 -- a status counts at most once
@@ -35,12 +35,12 @@ pub counted_rest : (v : View) (f : Open) (st : Status) (s : State) → IsPar f.n
 counted_rest v f st s par = by f.node par st
   where
     by : (p : Plain) → IsPar p → (x : Status) → go_on v p f.number f.next (f.won + won_by x) (f.lost + lost_by x) s ≡ close_at v p f.number f.next f.won f.lost (gives x s)
-    by (Parallel m cs) h Success = let e : f.lost + 0 ≡ f.lost = omega arith in ap (λ l. go_on v (Parallel m cs) f.number f.next (f.won + 1) l s) e
-    by (Parallel m cs) h Failure = let e : f.won + 0 ≡ f.won = omega arith in ap (λ w. go_on v (Parallel m cs) f.number f.next w (f.lost + 1) s) e
-    by (Parallel m cs) h Running =
+    by (Par m cs) h Success = let e : f.lost + 0 ≡ f.lost = omega arith in ap (λ l. go_on v (Par m cs) f.number f.next (f.won + 1) l s) e
+    by (Par m cs) h Failure = let e : f.won + 0 ≡ f.won = omega arith in ap (λ w. go_on v (Par m cs) f.number f.next w (f.lost + 1) s) e
+    by (Par m cs) h Running =
         let a : f.won + 0 ≡ f.won = omega arith in
         let b : f.lost + 0 ≡ f.lost = omega arith in
-        ap (λ w. go_on v (Parallel m cs) f.number f.next w (f.lost + 0) s) a ∙ ap (λ l. go_on v (Parallel m cs) f.number f.next f.won l s) b
+        ap (λ w. go_on v (Par m cs) f.number f.next w (f.lost + 0) s) a ∙ ap (λ l. go_on v (Par m cs) f.number f.next f.won l s) b
     by _ h x = absurd h
 
 -- a child that was passed

@@ -1,6 +1,6 @@
 -- What a node does from a child on is to tick that child, and then what it does by the child's status.
 use Rattle.std.proofs.Common.{◌≡◌, ℕ, zero, suc, ◌+◌, ◌≤◌, refl, sym, ap, ◌∙◌, arith, zero-add}
-use Rattle.bt_nodes.specs.Plain.{Plain, Kind, Composite, CompositeStar, Parallel, Forest, none, tree}
+use Rattle.bt_nodes.specs.Plain.{Plain, Kind, Composite, Star, Par, Forest, none, tree}
 use Rattle.bt_nodes.specs.Sizes.{size, count}
 use Rattle.game_rules.specs.View.{View}
 use Rattle.game_rules.specs.Tick.{State, gives, on, on_kind, goes, stops, verdict, put, number_of, tick, tick_line, tick_star, tick_all}
@@ -16,12 +16,12 @@ module _ (v : View) where
       let at : ℕ = child_number k cs (n + 1) in
       ap (λ r. tick_line v r kind at s) h
       ∙ ap (λ a. on_kind kind (tick v c at s) (tick_line v (from_child (k + 1) cs) kind a) (gives (stops kind))) (sym (child_next cs k (n + 1) c _ h))
-  go_on_next (CompositeStar kind cs) list n k won lost c s h =
+  go_on_next (Star kind cs) list n k won lost c s h =
       let at : ℕ = child_number k cs (n + 1) in
       ap (λ r. tick_star v r kind 0 k n at s) h
       ∙ ap (λ a. on_kind kind (tick v c at s) (λ t. tick_star v (from_child (k + 1) cs) kind 0 (k + 1) n a (put n (k + 1) t)) (λ t. gives (stops kind) (put n 0 t)))
       (sym (child_next cs k (n + 1) c _ h))
-  go_on_next (Parallel m cs) list n k won lost c s h =
+  go_on_next (Par m cs) list n k won lost c s h =
       let at : ℕ = child_number k cs (n + 1) in
       let rest : Forest = from_child (k + 1) cs in
       ap (λ r. tick_all v r m (count cs) won lost at s) h
@@ -39,7 +39,7 @@ module _ (v : View) where
       star_from cs kind k (i + 1) own (at + size c) s ∙ ap (λ j. tick_star v (from_child k cs) kind 0 j own (child_number k cs (at + size c)) s) e
 
   -- so they begin at the child that their number names
-  pub begin_star : (kind : Kind) (cs : Forest) (n k : ℕ) (s : State) → k ≡ number_of n s → go_on v (CompositeStar kind cs) n k 0 0 s ≡ tick v (CompositeStar kind cs) n s
+  pub begin_star : (kind : Kind) (cs : Forest) (n k : ℕ) (s : State) → k ≡ number_of n s → go_on v (Star kind cs) n k 0 0 s ≡ tick v (Star kind cs) n s
   begin_star kind cs n k s at =
       ap (λ i. tick_star v (from_child k cs) kind 0 i n (child_number k cs (n + 1)) s) (sym (zero-add k)) ∙ sym (star_from cs kind k 0 n (n + 1) s)
       ∙ ap (λ j. tick_star v cs kind j 0 n (n + 1) s) at
@@ -48,8 +48,8 @@ module _ (v : View) where
   pub go_on_line : (kind : Kind) (cs : Forest) (n k won lost : ℕ) (s : State) → count cs ≤ k → go_on v (Composite kind cs) n k won lost s ≡ gives (goes kind) s
   go_on_line kind cs n k won lost s h = ap (λ r. tick_line v r kind (child_number k cs (n + 1)) s) (from_count cs k h)
 
-  pub go_on_star : (kind : Kind) (cs : Forest) (n k won lost : ℕ) (s : State) → count cs ≤ k → go_on v (CompositeStar kind cs) n k won lost s ≡ gives (goes kind) (put n 0 s)
+  pub go_on_star : (kind : Kind) (cs : Forest) (n k won lost : ℕ) (s : State) → count cs ≤ k → go_on v (Star kind cs) n k won lost s ≡ gives (goes kind) (put n 0 s)
   go_on_star kind cs n k won lost s h = ap (λ r. tick_star v r kind 0 k n (child_number k cs (n + 1)) s) (from_count cs k h)
 
-  pub go_on_all : (m : ℕ) (cs : Forest) (n k won lost : ℕ) (s : State) → count cs ≤ k → go_on v (Parallel m cs) n k won lost s ≡ gives (verdict m (count cs) won lost) s
+  pub go_on_all : (m : ℕ) (cs : Forest) (n k won lost : ℕ) (s : State) → count cs ≤ k → go_on v (Par m cs) n k won lost s ≡ gives (verdict m (count cs) won lost) s
   go_on_all m cs n k won lost s h = ap (λ r. tick_all v r m (count cs) won lost (child_number k cs (n + 1)) s) (from_count cs k h)

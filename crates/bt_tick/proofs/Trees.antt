@@ -1,7 +1,7 @@
 -- The children of a node: how many, their sizes, their numbers and where they stand.
 use Rattle.std.proofs.Common.{◌≡◌, ℕ, zero, suc, ◌+◌, ◌<◌, ◌≤◌, List, [], ◌∷◌, ◌++◌, length, get_or, refl, sym, ap, ◌∙◌, subst, arith, length-append, zero-add}
 use Rattle.std.proofs.lemmas.List.{get_or_append_left, get_or-append-add}
-use Rattle.bt_nodes.specs.Plain.{Plain, Composite, CompositeStar, Parallel, Invert, Tries, Ticks, Wait, MoveTo, Does, Forest, none, tree}
+use Rattle.bt_nodes.specs.Plain.{Plain, Composite, Star, Par, Not, Tries, Ticks, Wait, Move, Does, Forest, none, tree}
 use Rattle.bt_nodes.specs.Sizes.{size, sizes, count, subtree_sizes, subtree_sizes_all}
 use Rattle.bt_nodes.specs.Bounds.{bounds, bounds_all}
 use Rattle.bt_nodes.proofs.MemoryBounds.{length-bounds}
@@ -12,13 +12,13 @@ use Rattle.bt_tick.specs.Places.{Segment, Sits}
 -- a tree is its root and its root's children
 pub size-children : (p : Plain) → size p ≡ 1 + sizes (children_of p)
 size-children (Composite kind cs) = omega arith
-size-children (CompositeStar kind cs) = omega arith
-size-children (Parallel m cs) = omega arith
-size-children (Invert c) = omega arith
+size-children (Star kind cs) = omega arith
+size-children (Par m cs) = omega arith
+size-children (Not c) = omega arith
 size-children (Tries k c) = omega arith
 size-children (Ticks k c) = omega arith
 size-children (Wait k) = refl
-size-children (MoveTo p) = refl
+size-children (Move p) = refl
 size-children (Does leaf) = refl
 
 pub from_count : (cs : Forest) (k : ℕ) → count cs ≤ k → from_child k cs ≡ none
@@ -73,25 +73,25 @@ append_nil (x ∷ xs) = ap (λ l. x ∷ l) (append_nil xs)
 -- a tree's bounds are its root's and those of the children
 pub own_bound : (p : Plain) → (b : ℕ) × (bounds p ≡ b ∷ bounds_all (children_of p))
 own_bound (Composite kind cs) = (1, refl)
-own_bound (CompositeStar kind cs) = (count cs, refl)
-own_bound (Parallel m cs) = (1, refl)
-own_bound (Invert c) = (1, ap (λ l. 1 ∷ l) (sym (append_nil (bounds c))))
+own_bound (Star kind cs) = (count cs, refl)
+own_bound (Par m cs) = (1, refl)
+own_bound (Not c) = (1, ap (λ l. 1 ∷ l) (sym (append_nil (bounds c))))
 own_bound (Tries k c) = (suc k, ap (λ l. suc k ∷ l) (sym (append_nil (bounds c))))
 own_bound (Ticks k c) = (suc k, ap (λ l. suc k ∷ l) (sym (append_nil (bounds c))))
 own_bound (Wait k) = (suc k, refl)
-own_bound (MoveTo p) = (1, refl)
+own_bound (Move p) = (1, refl)
 own_bound (Does leaf) = (1, refl)
 
 -- and the sizes of its subtrees are its own and those of the children
 own_sizes : (p : Plain) → subtree_sizes p ≡ size p ∷ subtree_sizes_all (children_of p)
 own_sizes (Composite kind cs) = refl
-own_sizes (CompositeStar kind cs) = refl
-own_sizes (Parallel m cs) = refl
-own_sizes (Invert c) = ap (λ l. suc (size c) ∷ l) (sym (append_nil (subtree_sizes c)))
+own_sizes (Star kind cs) = refl
+own_sizes (Par m cs) = refl
+own_sizes (Not c) = ap (λ l. suc (size c) ∷ l) (sym (append_nil (subtree_sizes c)))
 own_sizes (Tries k c) = ap (λ l. suc (size c) ∷ l) (sym (append_nil (subtree_sizes c)))
 own_sizes (Ticks k c) = ap (λ l. suc (size c) ∷ l) (sym (append_nil (subtree_sizes c)))
 own_sizes (Wait k) = refl
-own_sizes (MoveTo p) = refl
+own_sizes (Move p) = refl
 own_sizes (Does leaf) = refl
 
 module _ (all : List ℕ) where

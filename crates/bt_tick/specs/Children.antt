@@ -1,17 +1,17 @@
 -- The children of a node, and their numbers.
 use Rattle.std.specs.Prelude.{ℕ, zero, suc, ◌+◌}
-use Rattle.bt_nodes.specs.Plain.{Plain, Composite, CompositeStar, Parallel, Invert, Tries, Ticks, Wait, MoveTo, Does, Forest, none, tree}
+use Rattle.bt_nodes.specs.Plain.{Plain, Composite, Star, Par, Not, Tries, Ticks, Wait, Move, Does, Forest, none, tree}
 use Rattle.bt_nodes.specs.Sizes.{size}
 
 abbrev pub children_of : Plain → Forest
 children_of (Composite kind children) = children
-children_of (CompositeStar kind children) = children
-children_of (Parallel m children) = children
-children_of (Invert child) = tree child none
+children_of (Star kind children) = children
+children_of (Par m children) = children
+children_of (Not child) = tree child none
 children_of (Tries n child) = tree child none
 children_of (Ticks n child) = tree child none
 children_of (Wait n) = none
-children_of (MoveTo p) = none
+children_of (Move p) = none
 children_of (Does leaf) = none
 
 -- the children from child k on

@@ -4,7 +4,7 @@ use Rattle.grid_world.specs.declared.cell.Answer.{Answer}
 use Rattle.grid_world.specs.declared.cell.Intent.{Intent}
 use Rattle.bt_nodes.specs.declared.node.Status.{Status}
 use Rattle.bt_nodes.specs.declared.node.Status.TheVariants.{Success, Failure, Running}
-use Rattle.bt_nodes.specs.Plain.{Plain, Composite, CompositeStar, Parallel, Invert, Tries, Ticks}
+use Rattle.bt_nodes.specs.Plain.{Plain, Composite, Star, Par, Not, Tries, Ticks}
 use Rattle.bt_nodes.specs.Sizes.{count}
 use Rattle.game_rules.specs.View.{View}
 use Rattle.game_rules.specs.Tick.{State, Result, gives, on, on_kind, stops, put, ask, tick_line, tick_star, tick_all}
@@ -36,18 +36,18 @@ module _ (v : View) where
   -- what a node with number n does from child k on
   abbrev pub go_on : Plain → (n k won lost : ℕ) → State → Result
   go_on (Composite kind cs) n k won lost s = tick_line v (from_child k cs) kind (child_number k cs (n + 1)) s
-  go_on (CompositeStar kind cs) n k won lost s = tick_star v (from_child k cs) kind 0 k n (child_number k cs (n + 1)) s
-  go_on (Parallel m cs) n k won lost s = tick_all v (from_child k cs) m (count cs) won lost (child_number k cs (n + 1)) s
+  go_on (Star kind cs) n k won lost s = tick_star v (from_child k cs) kind 0 k n (child_number k cs (n + 1)) s
+  go_on (Par m cs) n k won lost s = tick_all v (from_child k cs) m (count cs) won lost (child_number k cs (n + 1)) s
   go_on _ n k won lost s = gives Running s
 
   -- what it does by what its child before child k came to
   abbrev pub close_at : Plain → (n k won lost : ℕ) → Result → Result
   close_at (Composite kind cs) n k won lost r = on_kind kind r (go_on (Composite kind cs) n k won lost) (gives (stops kind))
-  close_at (CompositeStar kind cs) n k won lost r =
-      on_kind kind r (λ s. go_on (CompositeStar kind cs) n k won lost (put n k s)) (λ s. gives (stops kind) (put n 0 s))
-  close_at (Parallel m cs) n k won lost r =
-      on r (go_on (Parallel m cs) n k (won + 1) lost) (go_on (Parallel m cs) n k won (lost + 1)) (go_on (Parallel m cs) n k won lost)
-  close_at (Invert c) n k won lost r = on r (gives Failure) (gives Success) (gives Running)
+  close_at (Star kind cs) n k won lost r =
+      on_kind kind r (λ s. go_on (Star kind cs) n k won lost (put n k s)) (λ s. gives (stops kind) (put n 0 s))
+  close_at (Par m cs) n k won lost r =
+      on r (go_on (Par m cs) n k (won + 1) lost) (go_on (Par m cs) n k won (lost + 1)) (go_on (Par m cs) n k won lost)
+  close_at (Not c) n k won lost r = on r (gives Failure) (gives Success) (gives Running)
   close_at (Tries m c) n k won lost r = on r (gives Success) (λ s. gives Failure (put n (lost + 1) s)) (gives Running)
   close_at (Ticks m c) n k won lost r =
       on r (λ s. gives Success (put n 0 s)) (λ s. gives Failure (put n 0 s)) (λ s. gives Running (put n (lost + 1) s))

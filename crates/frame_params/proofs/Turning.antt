@@ -8,7 +8,7 @@ use Rattle.grid_world.specs.declared.cell.Intent.{Intent}
 use Rattle.bt_nodes.specs.declared.node.Status.{Status}
 use Rattle.grid_world.specs.Map.{count_up}
 use Rattle.grid_world.proofs.CountUp.{get_or-map-count_up, length-map-count_up}
-use Rattle.bt_nodes.specs.Plain.{Plain, Does, Carries}
+use Rattle.bt_nodes.specs.Plain.{Plain, Does, Carrying}
 use Rattle.bt_nodes.specs.Bounds.{Fits, zero_memory}
 use Rattle.game_rules.specs.Game.{Game, signals}
 use Rattle.game_rules.specs.Thought.{Thought, thought}
@@ -22,7 +22,7 @@ use Rattle.frame_params.proofs.Ground.{play_ground}
 use Rattle.draw_list.specs.Bands.{band_count}
 
 row_is : (w : Grid) (on : List Bool) (ps : List Plain) (ms : List (List ℕ)) (k : ℕ) (row : ℕ → Thought) → length ms ≡ length ps
-    → ((a : ℕ) → a < length ps → row (k + a) ≡ thought (view on w (k + a)) (slice_index_or ps a (Does Carries)) (slice_index_or ms a []))
+    → ((a : ℕ) → a < length ps → row (k + a) ≡ thought (view on w (k + a)) (slice_index_or ps a (Does Carrying)) (slice_index_or ms a []))
     → thoughts_from w on k ps ms ≡ map row (count_up k (length ps))
 unfolding count_up
 row_is w on [] ms k row e h = refl
@@ -32,7 +32,7 @@ row_is w on (p ∷ ps) (m ∷ ms) k row e h =
     let first : row k ≡ thought (view on w k) p m = ap row (sym k0) ∙ h 0 (omega arith) ∙ ap (λ n. thought (view on w n) p m) k0 in
     ap₂ (λ x l. x ∷ l) (sym first) (row_is w on ps ms (suc k) row (omega (arith, e))
     (λ a l. let n : suc k + a ≡ k + suc a = omega arith in
-    ap row n ∙ h (suc a) (omega (arith, l)) ∙ ap (λ i. thought (view on w i) (slice_index_or ps a (Does Carries)) (slice_index_or ms a [])) (sym n)))
+    ap row n ∙ h (suc a) (omega (arith, l)) ∙ ap (λ i. thought (view on w i) (slice_index_or ps a (Does Carrying)) (slice_index_or ms a [])) (sym n)))
 
 length_of : (w : Grid) (on : List Bool) (ps : List Plain) (ms : List (List ℕ)) (k : ℕ) → length ms ≡ length ps → length (thoughts_from w on k ps ms) ≡ length ps
 length_of w on [] ms k e = refl
@@ -104,7 +104,7 @@ module _ (p : FrameOf) (parts : List PartOf) (all : AreOfAllAgents p parts) wher
         ap (λ l. get_or l a (part_of p.game p.frame a)) all ∙ get_or-map-count_up (part_of p.game p.frame) 0 (length p.game.trees) a (part_of p.game p.frame a) h
         ∙ ap (part_of p.game p.frame) (zero-add a) in
         let tree_is : tree_of (get_or parts a (part_of p.game p.frame a)).game (get_or parts a (part_of p.game p.frame a)).number ≡ get_or p.game.trees a d =
-        ap (λ (q : PartOf). tree_of q.game q.number) own_tree ∙ get_or_default p.game.trees a (Does Carries) d h in
+        ap (λ (q : PartOf). tree_of q.game q.number) own_tree ∙ get_or_default p.game.trees a (Does Carrying) d h in
         let P : Plain → Type 0 = λ t. Fits t (get_or memories a []) in
         subst P tree_is (own a (part_of p.game p.frame a) (omega (arith, h, many)));
   }

@@ -6,7 +6,7 @@ use Rattle.std.proofs.lemmas.Option.{slice_get-get_or}
 use Rattle.std.proofs.lemmas.Bool.{ltb-true}
 use Rattle.std.specs.List.{list_all}
 use Rattle.grid_world.specs.Grid.{Grid}
-use Rattle.bt_nodes.specs.Plain.{Does, Carries}
+use Rattle.bt_nodes.specs.Plain.{Does, Carrying}
 use Rattle.game_session.specs.Parts.{NamedPlain, Parts}
 use Rattle.game_session.specs.Places.{places, has_place}
 use Rattle.game_session.specs.Agents.{agents, has_agent}
@@ -30,7 +30,7 @@ agent_has_tree i (suc k) (name ∷ names) ts none h =
 
 pub tree_named-index_of : (ts : List NamedPlain) (name : List ℕ) (d : NamedPlain) → index_of ts name < length ts → tree_named ts name ≡ (get_or ts (index_of ts name) d).tree
 tree_named-index_of ts name d h =
-    ap (λ o. unwrap_or (option_map (λ t. t.tree) o) (Does Carries)) (find_at (is_named name) ts ∙ slice_get-get_or ts (index_of ts name) d h)
+    ap (λ o. unwrap_or (option_map (λ t. t.tree) o) (Does Carrying)) (find_at (is_named name) ts ∙ slice_get-get_or ts (index_of ts name) d h)
 
 -- each tree's places are on the map
 pub tree_is_placed : (g : Grid) (ts : List NamedPlain) (k : ℕ) (d : NamedPlain) → place_fault g ts ≡ None → k < length ts → list_all (has_place g) (places (get_or ts k d).tree) ≡ true
@@ -58,9 +58,9 @@ module _ (parts : Parts) (picks : List ℕ) (none : parts_fault parts ≡ None) 
   pub pick_is_within : (i : ℕ) → get_or picks k i < length parts.trees
   pick_is_within i = rw (pick_is i) has_tree
 
-  pub picked_tree : (i : ℕ) (t : NamedPlain) → get_or (agent_trees parts) k (Does Carries) ≡ (get_or parts.trees (get_or picks k i) t).tree
+  pub picked_tree : (i : ℕ) (t : NamedPlain) → get_or (agent_trees parts) k (Does Carrying) ≡ (get_or parts.trees (get_or picks k i) t).tree
   picked_tree i t =
-      get_or-map (tree_named parts.trees) parts.names k [] (Does Carries) is_agent
+      get_or-map (tree_named parts.trees) parts.names k [] (Does Carrying) is_agent
       ∙ tree_named-index_of parts.trees (get_or parts.names k []) t has_tree ∙ ap (λ j. (get_or parts.trees j t).tree) (sym (pick_is i))
 
   pub picked_is_placed : (i : ℕ) (t : NamedPlain) → list_all (has_place (world_of parts)) (places (get_or parts.trees (get_or picks k i) t).tree) ≡ true

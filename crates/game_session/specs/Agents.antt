@@ -1,28 +1,28 @@
 -- The agents that a tree names.
 use Rattle.std.specs.Prelude.{ℕ, List, [], ◌∷◌, ◌++◌, Bool, nat_lt, length}
 use Rattle.grid_world.specs.Grid.{Grid}
-use Rattle.bt_nodes.specs.Plain.{Plain, Composite, CompositeStar, Parallel, Invert, Tries, Ticks, Wait, MoveTo, Does, Leaf, TakeItem, DropItem, AtPlace, Carries, OnItem, SignalOn, NearOther, GivesTo, Forest, none, tree}
+use Rattle.bt_nodes.specs.Plain.{Plain, Composite, Star, Par, Not, Tries, Ticks, Wait, Move, Does, Leaf, Take, Drop, At, Carrying, Item, Signal, Near, Give, Forest, none, tree}
 
 abbrev pub leaf_agents : Leaf → List ℕ
-leaf_agents TakeItem = []
-leaf_agents DropItem = []
-leaf_agents (AtPlace p) = []
-leaf_agents Carries = []
-leaf_agents OnItem = []
-leaf_agents (SignalOn a) = []
-leaf_agents (NearOther n) = []
-leaf_agents (GivesTo b) = b ∷ []
+leaf_agents Take = []
+leaf_agents Drop = []
+leaf_agents (At p) = []
+leaf_agents Carrying = []
+leaf_agents Item = []
+leaf_agents (Signal a) = []
+leaf_agents (Near n) = []
+leaf_agents (Give b) = b ∷ []
 
 abbrev mutual
   pub agents : Plain → List ℕ
   agents (Composite kind children) = agents_in children
-  agents (CompositeStar kind children) = agents_in children
-  agents (Parallel m children) = agents_in children
-  agents (Invert child) = agents child
+  agents (Star kind children) = agents_in children
+  agents (Par m children) = agents_in children
+  agents (Not child) = agents child
   agents (Tries n child) = agents child
   agents (Ticks n child) = agents child
   agents (Wait n) = []
-  agents (MoveTo p) = []
+  agents (Move p) = []
   agents (Does leaf) = leaf_agents leaf
 
   pub agents_in : Forest → List ℕ

@@ -1,6 +1,6 @@
 -- What a level stands for.
 use Rattle.std.specs.Prelude.{ℕ, List, map, find, option_map, unwrap_or}
-use Rattle.bt_nodes.specs.Plain.{Plain, Does, Carries}
+use Rattle.bt_nodes.specs.Plain.{Plain, Does, Carrying}
 use Rattle.game_session.specs.Parts.{Parts, NamedPlain}
 use Rattle.game_session.specs.Faults.{is_named}
 use Rattle.game_session.specs.Kept.{kept}
@@ -12,7 +12,7 @@ value_of level = kept level.rows.items level.names.items level.trees.items
 
 -- the tree of a name; in a level there is one for each agent's name
 abbrev pub tree_named : List NamedPlain → List ℕ → Plain
-tree_named trees name = unwrap_or (option_map (λ t. t.tree) (find (is_named name) trees)) (Does Carries)
+tree_named trees name = unwrap_or (option_map (λ t. t.tree) (find (is_named name) trees)) (Does Carrying)
 
 -- the tree of each agent
 abbrev pub agent_trees : Parts → List Plain

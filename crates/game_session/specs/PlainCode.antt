@@ -2,7 +2,7 @@
 use Rattle.std.specs.Prelude.{◌≡◌, ℕ, ◌==◌, if◌then◌else◌, List, [], ◌∷◌, refl}
 use Rattle.std.proofs.Common.{ap, ◌∙◌}
 use Rattle.std.specs.Coded.{Coded, code_by, coded×, coded_ℕ, coded_list}
-use Rattle.bt_nodes.specs.Plain.{Kind, Sequence, Fallback, Leaf, TakeItem, DropItem, AtPlace, Carries, OnItem, SignalOn, NearOther, GivesTo, Plain, Composite, CompositeStar, Parallel, Invert, Tries, Ticks, Wait, MoveTo, Does, Forest, none, tree}
+use Rattle.bt_nodes.specs.Plain.{Kind, Seq, Fallback, Leaf, Take, Drop, At, Carrying, Item, Signal, Near, Give, Plain, Composite, Star, Par, Not, Tries, Ticks, Wait, Move, Does, Forest, none, tree}
 
 abbrev Token : Type 0
 Token = ℕ × ℕ
@@ -10,34 +10,34 @@ Token = ℕ × ℕ
 -- ---- written
 
 abbrev composite_token : Kind → Token
-composite_token Sequence = (0, 0)
+composite_token Seq = (0, 0)
 composite_token Fallback = (1, 0)
 
 abbrev star_token : Kind → Token
-star_token Sequence = (2, 0)
+star_token Seq = (2, 0)
 star_token Fallback = (3, 0)
 
 abbrev leaf_token : Leaf → Token
-leaf_token TakeItem = (10, 0)
-leaf_token DropItem = (11, 0)
-leaf_token (AtPlace p) = (12, p)
-leaf_token Carries = (13, 0)
-leaf_token OnItem = (14, 0)
-leaf_token (SignalOn a) = (15, a)
-leaf_token (NearOther n) = (16, n)
-leaf_token (GivesTo b) = (19, b)
+leaf_token Take = (10, 0)
+leaf_token Drop = (11, 0)
+leaf_token (At p) = (12, p)
+leaf_token Carrying = (13, 0)
+leaf_token Item = (14, 0)
+leaf_token (Signal a) = (15, a)
+leaf_token (Near n) = (16, n)
+leaf_token (Give b) = (19, b)
 
 -- in front of what follows
 abbrev mutual
   written : Plain → List Token → List Token
   written (Composite kind cs) rest = written_all cs (composite_token kind ∷ rest)
-  written (CompositeStar kind cs) rest = written_all cs (star_token kind ∷ rest)
-  written (Parallel m cs) rest = written_all cs ((4, m) ∷ rest)
-  written (Invert c) rest = written c ((5, 0) ∷ rest)
+  written (Star kind cs) rest = written_all cs (star_token kind ∷ rest)
+  written (Par m cs) rest = written_all cs ((4, m) ∷ rest)
+  written (Not c) rest = written c ((5, 0) ∷ rest)
   written (Tries n c) rest = written c ((6, n) ∷ rest)
   written (Ticks n c) rest = written c ((7, n) ∷ rest)
   written (Wait n) rest = (8, n) ∷ rest
-  written (MoveTo p) rest = (9, p) ∷ rest
+  written (Move p) rest = (9, p) ∷ rest
   written (Does leaf) rest = leaf_token leaf ∷ rest
 
   written_all : Forest → List Token → List Token
@@ -72,16 +72,16 @@ child (p ∷ trees) (cs ∷ lists) s = record { trees = trees; lists = tree p cs
 
 abbrev leaf_at : ℕ → ℕ → Leaf
 leaf_at t n =
-    if t == 10 then TakeItem else (if t == 11 then DropItem else (if t == 12 then AtPlace n else (if t == 13 then Carries else
-    (if t == 14 then OnItem else (if t == 15 then SignalOn n else (if t == 16 then NearOther n else GivesTo n))))))
+    if t == 10 then Take else (if t == 11 then Drop else (if t == 12 then At n else (if t == 13 then Carrying else
+    (if t == 14 then Item else (if t == 15 then Signal n else (if t == 16 then Near n else Give n))))))
 
 abbrev after_token : ℕ → ℕ → Waiting → Waiting
 after_token t n s =
-    if t == 0 then over_list (Composite Sequence) s.lists s else (if t == 1 then over_list (Composite Fallback) s.lists s else
-    (if t == 2 then over_list (CompositeStar Sequence) s.lists s else (if t == 3 then over_list (CompositeStar Fallback) s.lists s else
-    (if t == 4 then over_list (Parallel n) s.lists s else (if t == 5 then over_tree Invert s.trees s else
+    if t == 0 then over_list (Composite Seq) s.lists s else (if t == 1 then over_list (Composite Fallback) s.lists s else
+    (if t == 2 then over_list (Star Seq) s.lists s else (if t == 3 then over_list (Star Fallback) s.lists s else
+    (if t == 4 then over_list (Par n) s.lists s else (if t == 5 then over_tree Not s.trees s else
     (if t == 6 then over_tree (Tries n) s.trees s else (if t == 7 then over_tree (Ticks n) s.trees s else
-    (if t == 8 then with_tree (Wait n) s else (if t == 9 then with_tree (MoveTo n) s else
+    (if t == 8 then with_tree (Wait n) s else (if t == 9 then with_tree (Move n) s else
     (if t == 17 then record s { lists = none ∷ s.lists } else (if t == 18 then child s.trees s.lists s else
     with_tree (Does (leaf_at t n)) s)))))))))))
 
@@ -90,33 +90,33 @@ read [] s = s
 read (t ∷ ts) s = read ts (after_token t.0 t.1 s)
 
 abbrev first_tree : List Plain → Plain
-first_tree [] = Does Carries
+first_tree [] = Does Carrying
 first_tree (p ∷ ps) = p
 
 -- ---- what was written is read
 
 leaf_again : (leaf : Leaf) (rest : List Token) (s : Waiting) → read (leaf_token leaf ∷ rest) s ≡ read rest (with_tree (Does leaf) s)
-leaf_again TakeItem rest s = refl
-leaf_again DropItem rest s = refl
-leaf_again (AtPlace p) rest s = refl
-leaf_again Carries rest s = refl
-leaf_again OnItem rest s = refl
-leaf_again (SignalOn a) rest s = refl
-leaf_again (NearOther n) rest s = refl
-leaf_again (GivesTo b) rest s = refl
+leaf_again Take rest s = refl
+leaf_again Drop rest s = refl
+leaf_again (At p) rest s = refl
+leaf_again Carrying rest s = refl
+leaf_again Item rest s = refl
+leaf_again (Signal a) rest s = refl
+leaf_again (Near n) rest s = refl
+leaf_again (Give b) rest s = refl
 
 mutual
   read-written : (p : Plain) (rest : List Token) (s : Waiting) → read (written p rest) s ≡ read rest (with_tree p s)
-  read-written (Composite Sequence cs) rest s = read-written_all cs ((0, 0) ∷ rest) s
+  read-written (Composite Seq cs) rest s = read-written_all cs ((0, 0) ∷ rest) s
   read-written (Composite Fallback cs) rest s = read-written_all cs ((1, 0) ∷ rest) s
-  read-written (CompositeStar Sequence cs) rest s = read-written_all cs ((2, 0) ∷ rest) s
-  read-written (CompositeStar Fallback cs) rest s = read-written_all cs ((3, 0) ∷ rest) s
-  read-written (Parallel m cs) rest s = read-written_all cs ((4, m) ∷ rest) s
-  read-written (Invert c) rest s = read-written c ((5, 0) ∷ rest) s
+  read-written (Star Seq cs) rest s = read-written_all cs ((2, 0) ∷ rest) s
+  read-written (Star Fallback cs) rest s = read-written_all cs ((3, 0) ∷ rest) s
+  read-written (Par m cs) rest s = read-written_all cs ((4, m) ∷ rest) s
+  read-written (Not c) rest s = read-written c ((5, 0) ∷ rest) s
   read-written (Tries n c) rest s = read-written c ((6, n) ∷ rest) s
   read-written (Ticks n c) rest s = read-written c ((7, n) ∷ rest) s
   read-written (Wait n) rest s = refl
-  read-written (MoveTo p) rest s = refl
+  read-written (Move p) rest s = refl
   read-written (Does leaf) rest s = leaf_again leaf rest s
 
   read-written_all : (cs : Forest) (rest : List Token) (s : Waiting) → read (written_all cs rest) s ≡ read rest (record s { lists = cs ∷ s.lists })

@@ -1,6 +1,6 @@
 ghost use Rattle.std.specs.Prelude.{◌≡◌, ◌<◌, None, IsTrue, length, map, slice_index_or};
 ghost use Rattle.std.specs.List.{list_all};
-ghost use Rattle.bt_nodes.specs.Plain.{Does, Carries};
+ghost use Rattle.bt_nodes.specs.Plain.{Does, Carrying};
 ghost use Rattle.bt_nodes.specs.Trees.{plain_of};
 ghost use Rattle.game_session.specs.Faults.{parts_fault, world_of};
 ghost use Rattle.game_session.specs.Kept.{kept, index_of, texts_view, trees_view};
@@ -101,7 +101,7 @@ impl Level {
     /// The tree of an agent, in constant time.
     pub fn tree_of(&self, agent: u32) -> &Tree<Global>
         requires { agent < length (agent_trees (value_of self.now)) }
-        ensures value { slice_index_or (agent_trees (value_of self.now)) agent (Does Carries) ≡ plain_of result.now }
+        ensures value { slice_index_or (agent_trees (value_of self.now)) agent (Does Carrying) ≡ plain_of result.now }
         ensures placed { IsTrue (list_all (has_place (world_of (value_of self.now))) (places (plain_of result.now))) }
         ensures crewed { IsTrue (list_all (has_agent (world_of (value_of self.now))) (agents (plain_of result.now))) }
     {

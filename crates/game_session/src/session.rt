@@ -1,6 +1,6 @@
 ghost use Rattle.std.specs.Prelude.{◌≡◌, ◌≢◌, ◌<◌, true, false, IsTrue, length, slice_index_or};
 ghost use Rattle.std.specs.List.{list_all};
-ghost use Rattle.bt_nodes.specs.Plain.{Does, Carries};
+ghost use Rattle.bt_nodes.specs.Plain.{Does, Carrying};
 ghost use Rattle.bt_nodes.specs.Trees.{plain_of};
 ghost use Rattle.game_session.specs.Places.{places, has_place};
 ghost use Rattle.game_session.specs.Agents.{agents, has_agent};
@@ -62,7 +62,7 @@ impl Session {
     /// The tree of an agent, in constant time. The places and the agents that it names are on the map.
     pub fn tree_of(&self, agent: u32) -> &Tree<Global>
         requires { agent < length self.now.trees }
-        ensures value { slice_index_or self.now.trees agent (Does Carries) ≡ plain_of result.now }
+        ensures value { slice_index_or self.now.trees agent (Does Carrying) ≡ plain_of result.now }
         ensures placed { IsTrue (list_all (has_place self.now.world) (places (plain_of result.now))) }
         ensures crewed { IsTrue (list_all (has_agent self.now.world) (agents (plain_of result.now))) }
     {

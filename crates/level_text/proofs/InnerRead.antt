@@ -2,7 +2,7 @@
 use Rattle.std.proofs.Common.{◌≡◌, ℕ, List, ◌∷◌, Option, Some, None, codes, option_map, option_and_then, refl}
 use Rattle.serde_json.specs.View.{view, items_view}
 use Rattle.serde_json.specs.declared.value.Value.{Value}
-use Rattle.bt_nodes.specs.Plain.{Parallel, Tries, Ticks}
+use Rattle.bt_nodes.specs.Plain.{Par, Tries, Ticks}
 use Rattle.level_text.specs.Inner.{form_in, inner_in}
 use Rattle.level_text.specs.declared.inner.Inner.{Inner}
 use Rattle.level_text.specs.Nodes.{count_in, first, forest_in, child_in}
@@ -16,8 +16,8 @@ BeginsWith arguments n values = (v : Value) × (arguments ≡ v ∷ values) × (
 
 module _ (head : List ℕ) (arguments : List Value) where
   module _ (n : ℕ) (values : List Value) (begins : BeginsWith arguments n values) where
-    pub is_par : head ≡ codes "par" → form_in head (items_view arguments) ≡ option_map (Parallel n) (forest_in (items_view values))
-    is_par h = rw (h, begins.1, begins.2) (paired Parallel n (forest_in (items_view values)))
+    pub is_par : head ≡ codes "par" → form_in head (items_view arguments) ≡ option_map (Par n) (forest_in (items_view values))
+    is_par h = rw (h, begins.1, begins.2) (paired Par n (forest_in (items_view values)))
 
     pub is_tries : head ≡ codes "tries" → form_in head (items_view arguments) ≡ option_map (Tries n) (child_in (items_view values))
     is_tries h = rw (h, begins.1, begins.2) (paired Tries n (child_in (items_view values)))

@@ -3,7 +3,7 @@ use Rattle.std.proofs.Common.{◌≡◌, ℕ, ◌+◌, ◌-◌, ◌<◌, ◌≤�
 use Rattle.std.proofs.lemmas.Bool.{ltb-true, le-leb}
 use Rattle.serde_json.specs.Data.{depth as nesting, items_depth}
 use Rattle.serde_json.specs.Written.{has_float, items_have_float}
-use Rattle.bt_nodes.specs.Plain.{Plain, Composite, CompositeStar, Parallel, Invert, Tries, Ticks, Wait, MoveTo, Does, Sequence, Fallback, Leaf, TakeItem, DropItem, AtPlace, Carries, OnItem, SignalOn, NearOther, GivesTo, Forest, none, tree}
+use Rattle.bt_nodes.specs.Plain.{Plain, Composite, Star, Par, Not, Tries, Ticks, Wait, Move, Does, Seq, Fallback, Leaf, Take, Drop, At, Carrying, Item, Signal, Near, Give, Forest, none, tree}
 use Rattle.bt_nodes.specs.Sizes.{depth, deepest}
 use Rattle.level_text.specs.Nodes.{mark_of, node_of, forest_in}
 use Rattle.level_text.specs.Marks.{has_marks, all_have_marks, leaf_has_marks}
@@ -30,30 +30,30 @@ agent_is : (b : ℕ) → b < 26 → mark_of 65 90 ((65 + b) ∷ []) ≡ Some b
 agent_is b h = mark_of-is 65 90 b (omega arith)
 
 leaf_is : (leaf : Leaf) → leaf_has_marks leaf ≡ true → node_of (leaf_data leaf) ≡ Some (Does leaf)
-leaf_is TakeItem h = refl
-leaf_is DropItem h = refl
-leaf_is (AtPlace p) h = ap (option_map (λ q. Does (AtPlace q))) (place_is p (ltb-true p 10 h))
-leaf_is Carries h = refl
-leaf_is OnItem h = refl
-leaf_is (SignalOn a) h = ap (option_map (λ b. Does (SignalOn b))) (signal_is a (ltb-true a 26 h))
-leaf_is (NearOther n) h = refl
-leaf_is (GivesTo b) h = ap (option_map (λ c. Does (GivesTo c))) (agent_is b (ltb-true b 26 h))
+leaf_is Take h = refl
+leaf_is Drop h = refl
+leaf_is (At p) h = ap (option_map (λ q. Does (At q))) (place_is p (ltb-true p 10 h))
+leaf_is Carrying h = refl
+leaf_is Item h = refl
+leaf_is (Signal a) h = ap (option_map (λ b. Does (Signal b))) (signal_is a (ltb-true a 26 h))
+leaf_is (Near n) h = refl
+leaf_is (Give b) h = ap (option_map (λ c. Does (Give c))) (agent_is b (ltb-true b 26 h))
 
 mutual
   pub node_of-node_data : (p : Plain) → has_marks p ≡ true → node_of (node_data p) ≡ Some p
-  node_of-node_data (Composite Sequence children) h = ap (option_map (Composite Sequence)) (forest_in-forest_data children h)
+  node_of-node_data (Composite Seq children) h = ap (option_map (Composite Seq)) (forest_in-forest_data children h)
   node_of-node_data (Composite Fallback children) h = ap (option_map (Composite Fallback)) (forest_in-forest_data children h)
-  node_of-node_data (CompositeStar Sequence children) h = ap (option_map (CompositeStar Sequence)) (forest_in-forest_data children h)
-  node_of-node_data (CompositeStar Fallback children) h = ap (option_map (CompositeStar Fallback)) (forest_in-forest_data children h)
-  node_of-node_data (Parallel m children) h =
-      ap (λ (o : Option Forest). option_map (λ (q : ℕ × Forest). Parallel q.0 q.1) (option_map (λ b. (m, b)) o)) (forest_in-forest_data children h)
-  node_of-node_data (Invert child) h = ap (option_map Invert) (node_of-node_data child h)
+  node_of-node_data (Star Seq children) h = ap (option_map (Star Seq)) (forest_in-forest_data children h)
+  node_of-node_data (Star Fallback children) h = ap (option_map (Star Fallback)) (forest_in-forest_data children h)
+  node_of-node_data (Par m children) h =
+      ap (λ (o : Option Forest). option_map (λ (q : ℕ × Forest). Par q.0 q.1) (option_map (λ b. (m, b)) o)) (forest_in-forest_data children h)
+  node_of-node_data (Not child) h = ap (option_map Not) (node_of-node_data child h)
   node_of-node_data (Tries n child) h =
       ap (λ (o : Option Plain). option_map (λ (q : ℕ × Plain). Tries q.0 q.1) (option_map (λ b. (n, b)) o)) (node_of-node_data child h)
   node_of-node_data (Ticks n child) h =
       ap (λ (o : Option Plain). option_map (λ (q : ℕ × Plain). Ticks q.0 q.1) (option_map (λ b. (n, b)) o)) (node_of-node_data child h)
   node_of-node_data (Wait n) h = refl
-  node_of-node_data (MoveTo p) h = ap (option_map MoveTo) (place_is p (ltb-true p 10 h))
+  node_of-node_data (Move p) h = ap (option_map Move) (place_is p (ltb-true p 10 h))
   node_of-node_data (Does leaf) h = leaf_is leaf h
 
   pub forest_in-forest_data : (f : Forest) → all_have_marks f ≡ true → forest_in (forest_data f) ≡ Some f
@@ -65,25 +65,25 @@ mutual
       ) refl
 
 leaf_nesting : (leaf : Leaf) → nesting (leaf_data leaf) ≤ 1
-leaf_nesting TakeItem = omega arith
-leaf_nesting DropItem = omega arith
-leaf_nesting (AtPlace p) = omega arith
-leaf_nesting Carries = omega arith
-leaf_nesting OnItem = omega arith
-leaf_nesting (SignalOn a) = omega arith
-leaf_nesting (NearOther n) = omega arith
-leaf_nesting (GivesTo b) = omega arith
+leaf_nesting Take = omega arith
+leaf_nesting Drop = omega arith
+leaf_nesting (At p) = omega arith
+leaf_nesting Carrying = omega arith
+leaf_nesting Item = omega arith
+leaf_nesting (Signal a) = omega arith
+leaf_nesting (Near n) = omega arith
+leaf_nesting (Give b) = omega arith
 
 mutual
   pub nesting-node_data : (p : Plain) → nesting (node_data p) ≤ depth p
   nesting-node_data (Composite kind children) = omega (arith, items_depth-forest_data children)
-  nesting-node_data (CompositeStar kind children) = omega (arith, items_depth-forest_data children)
-  nesting-node_data (Parallel m children) = omega (arith, items_depth-forest_data children)
-  nesting-node_data (Invert child) = omega (arith, nesting-node_data child)
+  nesting-node_data (Star kind children) = omega (arith, items_depth-forest_data children)
+  nesting-node_data (Par m children) = omega (arith, items_depth-forest_data children)
+  nesting-node_data (Not child) = omega (arith, nesting-node_data child)
   nesting-node_data (Tries n child) = omega (arith, nesting-node_data child)
   nesting-node_data (Ticks n child) = omega (arith, nesting-node_data child)
   nesting-node_data (Wait n) = omega arith
-  nesting-node_data (MoveTo p) = omega arith
+  nesting-node_data (Move p) = omega arith
   nesting-node_data (Does leaf) = leaf_nesting leaf
 
   pub items_depth-forest_data : (f : Forest) → items_depth (forest_data f) ≤ deepest f
@@ -91,25 +91,25 @@ mutual
   items_depth-forest_data (tree child children) = omega (arith, nesting-node_data child, items_depth-forest_data children)
 
 leaf_has_no_float : (leaf : Leaf) → has_float (leaf_data leaf) ≡ false
-leaf_has_no_float TakeItem = refl
-leaf_has_no_float DropItem = refl
-leaf_has_no_float (AtPlace p) = refl
-leaf_has_no_float Carries = refl
-leaf_has_no_float OnItem = refl
-leaf_has_no_float (SignalOn a) = refl
-leaf_has_no_float (NearOther n) = refl
-leaf_has_no_float (GivesTo b) = refl
+leaf_has_no_float Take = refl
+leaf_has_no_float Drop = refl
+leaf_has_no_float (At p) = refl
+leaf_has_no_float Carrying = refl
+leaf_has_no_float Item = refl
+leaf_has_no_float (Signal a) = refl
+leaf_has_no_float (Near n) = refl
+leaf_has_no_float (Give b) = refl
 
 mutual
   pub has_float-node_data : (p : Plain) → has_float (node_data p) ≡ false
   has_float-node_data (Composite kind children) = items_have_float-forest_data children
-  has_float-node_data (CompositeStar kind children) = items_have_float-forest_data children
-  has_float-node_data (Parallel m children) = items_have_float-forest_data children
-  has_float-node_data (Invert child) = rw (has_float-node_data child) refl
+  has_float-node_data (Star kind children) = items_have_float-forest_data children
+  has_float-node_data (Par m children) = items_have_float-forest_data children
+  has_float-node_data (Not child) = rw (has_float-node_data child) refl
   has_float-node_data (Tries n child) = rw (has_float-node_data child) refl
   has_float-node_data (Ticks n child) = rw (has_float-node_data child) refl
   has_float-node_data (Wait n) = refl
-  has_float-node_data (MoveTo p) = refl
+  has_float-node_data (Move p) = refl
   has_float-node_data (Does leaf) = leaf_has_no_float leaf
 
   pub items_have_float-forest_data : (f : Forest) → items_have_float (forest_data f) ≡ false

@@ -3,7 +3,7 @@ use Rattle.std.proofs.Common.{◌≡◌, true, List, [], ◌∷◌, ◌++◌, Op
 use Rattle.serde_json.specs.Data.{Data, string, array, Items, no_items, item}
 use Rattle.serde_json.specs.View.{view, items_view}
 use Rattle.serde_json.specs.declared.value.Value.{Value}
-use Rattle.bt_nodes.specs.Plain.{Plain, Composite, CompositeStar, Parallel, Invert, Tries, Ticks, Wait, MoveTo, Does, TakeItem, DropItem, AtPlace, Carries, OnItem, SignalOn, NearOther, GivesTo, Forest}
+use Rattle.bt_nodes.specs.Plain.{Plain, Composite, Star, Par, Not, Tries, Ticks, Wait, Move, Does, Take, Drop, At, Carrying, Item, Signal, Near, Give, Forest}
 use Rattle.bt_nodes.specs.Heads.{listed, decorated}
 use Rattle.level_text.specs.Begun.{head, own, below, has_own_mark, items_before}
 use Rattle.level_text.specs.Marks.{has_marks, all_have_marks}
@@ -16,21 +16,21 @@ own_before (Some d) rest = item d rest
 
 begins : (p : Plain) → form (head p) (own_before (own p) (below p)) ≡ node_data p
 begins (Composite kind children) = refl
-begins (CompositeStar kind children) = refl
-begins (Parallel m children) = refl
-begins (Invert child) = refl
+begins (Star kind children) = refl
+begins (Par m children) = refl
+begins (Not child) = refl
 begins (Tries n child) = refl
 begins (Ticks n child) = refl
 begins (Wait n) = refl
-begins (MoveTo p) = refl
-begins (Does TakeItem) = refl
-begins (Does DropItem) = refl
-begins (Does (AtPlace p)) = refl
-begins (Does Carries) = refl
-begins (Does OnItem) = refl
-begins (Does (SignalOn a)) = refl
-begins (Does (NearOther n)) = refl
-begins (Does (GivesTo b)) = refl
+begins (Move p) = refl
+begins (Does Take) = refl
+begins (Does Drop) = refl
+begins (Does (At p)) = refl
+begins (Does Carrying) = refl
+begins (Does Item) = refl
+begins (Does (Signal a)) = refl
+begins (Does (Near n)) = refl
+begins (Does (Give b)) = refl
 
 module _ (p : Plain) (first : Value) (seen : view first ≡ string (head p)) where
   pub begun_alone : None ≡ own p → array (item (view first) (below p)) ≡ node_data p
@@ -42,47 +42,47 @@ module _ (p : Plain) (first : Value) (seen : view first ≡ string (head p)) whe
 -- what lies below a node that decorates a child
 pub below_decorated : (p c : Plain) → Some c ≡ decorated p → item (node_data c) no_items ≡ below p
 below_decorated (Composite kind cs) c e = absurd (cc)
-below_decorated (CompositeStar kind cs) c e = absurd (cc)
-below_decorated (Parallel m cs) c e = absurd (cc)
-below_decorated (Invert d) c e = let same : c ≡ d = cc in ap (λ c. item (node_data c) no_items) same
+below_decorated (Star kind cs) c e = absurd (cc)
+below_decorated (Par m cs) c e = absurd (cc)
+below_decorated (Not d) c e = let same : c ≡ d = cc in ap (λ c. item (node_data c) no_items) same
 below_decorated (Tries n d) c e = let same : c ≡ d = cc in ap (λ c. item (node_data c) no_items) same
 below_decorated (Ticks n d) c e = let same : c ≡ d = cc in ap (λ c. item (node_data c) no_items) same
 below_decorated (Wait n) c e = absurd (cc)
-below_decorated (MoveTo place) c e = absurd (cc)
+below_decorated (Move place) c e = absurd (cc)
 below_decorated (Does leaf) c e = absurd (cc)
 
 pub below_listed : (p : Plain) → None ≡ decorated p → forest_data (listed p) ≡ below p
 below_listed (Composite kind cs) e = refl
-below_listed (CompositeStar kind cs) e = refl
-below_listed (Parallel m cs) e = refl
-below_listed (Invert d) e = absurd (cc)
+below_listed (Star kind cs) e = refl
+below_listed (Par m cs) e = refl
+below_listed (Not d) e = absurd (cc)
 below_listed (Tries n d) e = absurd (cc)
 below_listed (Ticks n d) e = absurd (cc)
 below_listed (Wait n) e = refl
-below_listed (MoveTo place) e = refl
+below_listed (Move place) e = refl
 below_listed (Does leaf) e = refl
 
 -- marks of a node, from its own and those below
 pub marks_decorated : (p c : Plain) → Some c ≡ decorated p → has_marks c ≡ true → has_marks p ≡ true
 marks_decorated (Composite kind cs) c e h = absurd (cc)
-marks_decorated (CompositeStar kind cs) c e h = absurd (cc)
-marks_decorated (Parallel m cs) c e h = absurd (cc)
-marks_decorated (Invert d) c e h = let same : d ≡ c = cc in ap has_marks same ∙ h
+marks_decorated (Star kind cs) c e h = absurd (cc)
+marks_decorated (Par m cs) c e h = absurd (cc)
+marks_decorated (Not d) c e h = let same : d ≡ c = cc in ap has_marks same ∙ h
 marks_decorated (Tries n d) c e h = let same : d ≡ c = cc in ap has_marks same ∙ h
 marks_decorated (Ticks n d) c e h = let same : d ≡ c = cc in ap has_marks same ∙ h
 marks_decorated (Wait n) c e h = absurd (cc)
-marks_decorated (MoveTo place) c e h = absurd (cc)
+marks_decorated (Move place) c e h = absurd (cc)
 marks_decorated (Does leaf) c e h = absurd (cc)
 
 pub marks_listed : (p : Plain) → None ≡ decorated p → has_own_mark p ≡ true → all_have_marks (listed p) ≡ true → has_marks p ≡ true
 marks_listed (Composite kind cs) e own h = h
-marks_listed (CompositeStar kind cs) e own h = h
-marks_listed (Parallel m cs) e own h = h
-marks_listed (Invert d) e own h = absurd (cc)
+marks_listed (Star kind cs) e own h = h
+marks_listed (Par m cs) e own h = h
+marks_listed (Not d) e own h = absurd (cc)
 marks_listed (Tries n d) e own h = absurd (cc)
 marks_listed (Ticks n d) e own h = absurd (cc)
 marks_listed (Wait n) e own h = own
-marks_listed (MoveTo place) e own h = own
+marks_listed (Move place) e own h = own
 marks_listed (Does leaf) e own h = own
 
 -- what was begun, with what lies below

@@ -3,30 +3,30 @@ use Rattle.std.specs.Prelude.{ℕ, ◌+◌, List, [], ◌∷◌, codes, nat_lt, 
 use Rattle.serde_json.specs.Data.{Data, number, unsigned, string, Items, no_items, item}
 use Rattle.serde_json.specs.View.{view}
 use Rattle.serde_json.specs.declared.value.Value.{Value}
-use Rattle.bt_nodes.specs.Plain.{Plain, Composite, CompositeStar, Parallel, Invert, Tries, Ticks, Wait, MoveTo, Does, Leaf, TakeItem, DropItem, AtPlace, Carries, OnItem, SignalOn, NearOther, GivesTo}
+use Rattle.bt_nodes.specs.Plain.{Plain, Composite, Star, Par, Not, Tries, Ticks, Wait, Move, Does, Leaf, Take, Drop, At, Carrying, Item, Signal, Near, Give}
 use Rattle.level_text.specs.Marks.{leaf_has_marks}
 use Rattle.level_text.specs.Written.{list_head, star_head, node_data, forest_data}
 
 abbrev pub leaf_head : Leaf → List ℕ
-leaf_head TakeItem = codes "take"
-leaf_head DropItem = codes "drop"
-leaf_head (AtPlace p) = codes "at"
-leaf_head Carries = codes "carrying"
-leaf_head OnItem = codes "item"
-leaf_head (SignalOn a) = codes "signal"
-leaf_head (NearOther n) = codes "near"
-leaf_head (GivesTo b) = codes "give"
+leaf_head Take = codes "take"
+leaf_head Drop = codes "drop"
+leaf_head (At p) = codes "at"
+leaf_head Carrying = codes "carrying"
+leaf_head Item = codes "item"
+leaf_head (Signal a) = codes "signal"
+leaf_head (Near n) = codes "near"
+leaf_head (Give b) = codes "give"
 
 -- the word that names the kind
 abbrev pub head : Plain → List ℕ
 head (Composite kind children) = list_head kind
-head (CompositeStar kind children) = star_head kind
-head (Parallel m children) = codes "par"
-head (Invert child) = codes "not"
+head (Star kind children) = star_head kind
+head (Par m children) = codes "par"
+head (Not child) = codes "not"
 head (Tries n child) = codes "tries"
 head (Ticks n child) = codes "ticks"
 head (Wait n) = codes "wait"
-head (MoveTo p) = codes "move"
+head (Move p) = codes "move"
 head (Does leaf) = leaf_head leaf
 
 abbrev pub count : ℕ → Option Data
@@ -37,49 +37,49 @@ abbrev pub mark : ℕ → Option Data
 mark c = Some (string (c ∷ []))
 
 abbrev pub leaf_own : Leaf → Option Data
-leaf_own TakeItem = None
-leaf_own DropItem = None
-leaf_own (AtPlace p) = mark (48 + p)
-leaf_own Carries = None
-leaf_own OnItem = None
-leaf_own (SignalOn a) = mark (97 + a)
-leaf_own (NearOther n) = count n
-leaf_own (GivesTo b) = mark (65 + b)
+leaf_own Take = None
+leaf_own Drop = None
+leaf_own (At p) = mark (48 + p)
+leaf_own Carrying = None
+leaf_own Item = None
+leaf_own (Signal a) = mark (97 + a)
+leaf_own (Near n) = count n
+leaf_own (Give b) = mark (65 + b)
 
 -- the argument that stands in the node itself
 abbrev pub own : Plain → Option Data
 own (Composite kind children) = None
-own (CompositeStar kind children) = None
-own (Parallel m children) = count m
-own (Invert child) = None
+own (Star kind children) = None
+own (Par m children) = count m
+own (Not child) = None
 own (Tries n child) = count n
 own (Ticks n child) = count n
 own (Wait n) = count n
-own (MoveTo p) = mark (48 + p)
+own (Move p) = mark (48 + p)
 own (Does leaf) = leaf_own leaf
 
 -- the arguments that are nodes
 abbrev pub below : Plain → Items
 below (Composite kind children) = forest_data children
-below (CompositeStar kind children) = forest_data children
-below (Parallel m children) = forest_data children
-below (Invert child) = item (node_data child) no_items
+below (Star kind children) = forest_data children
+below (Par m children) = forest_data children
+below (Not child) = item (node_data child) no_items
 below (Tries n child) = item (node_data child) no_items
 below (Ticks n child) = item (node_data child) no_items
 below (Wait n) = no_items
-below (MoveTo p) = no_items
+below (Move p) = no_items
 below (Does leaf) = no_items
 
 -- the place that stands in the node itself is a digit, and the signal or the agent a letter
 abbrev pub has_own_mark : Plain → Bool
 has_own_mark (Composite kind children) = true
-has_own_mark (CompositeStar kind children) = true
-has_own_mark (Parallel m children) = true
-has_own_mark (Invert child) = true
+has_own_mark (Star kind children) = true
+has_own_mark (Par m children) = true
+has_own_mark (Not child) = true
 has_own_mark (Tries n child) = true
 has_own_mark (Ticks n child) = true
 has_own_mark (Wait n) = true
-has_own_mark (MoveTo p) = nat_lt p 10
+has_own_mark (Move p) = nat_lt p 10
 has_own_mark (Does leaf) = leaf_has_marks leaf
 
 -- values, before items that are left

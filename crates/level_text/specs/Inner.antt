@@ -3,7 +3,7 @@ use Rattle.std.specs.Prelude.{ℕ, List, Option, Some, None, option_map}
 use Rattle.serde_json.specs.Data.{Items}
 use Rattle.serde_json.specs.View.{items_view}
 use Rattle.serde_json.specs.declared.value.Value.{Value, size-Value}
-use Rattle.bt_nodes.specs.Plain.{Plain, Composite, CompositeStar, Parallel, Invert, Tries, Ticks, Sequence, Fallback, Forest}
+use Rattle.bt_nodes.specs.Plain.{Plain, Composite, Star, Par, Not, Tries, Ticks, Seq, Fallback, Forest}
 use Rattle.level_text.specs.Nodes.{form_of, leaf_of, forest_in, child_in, forest_behind, child_behind}
 use Rattle.level_text.specs.declared.inner.Lister.{Lister}
 use Rattle.level_text.specs.declared.inner.Lister.TheVariants as lister
@@ -19,14 +19,14 @@ form_in name arguments =
     form_of name (record { all = arguments; nodes = forest_in arguments; node = child_in arguments; nodes_behind = forest_behind arguments; node_behind = child_behind arguments })
 
 abbrev pub over_forest : Lister → Forest → Plain
-over_forest lister.Seq = Composite Sequence
+over_forest lister.Seq = Composite Seq
 over_forest lister.Fallback = Composite Fallback
-over_forest (lister.Par n) = Parallel n
-over_forest lister.SeqStar = CompositeStar Sequence
-over_forest lister.FallbackStar = CompositeStar Fallback
+over_forest (lister.Par n) = Par n
+over_forest lister.SeqStar = Star Seq
+over_forest lister.FallbackStar = Star Fallback
 
 abbrev pub over_child : Decorator → Plain → Plain
-over_child decorator.Not = Invert
+over_child decorator.Not = Not
 over_child (decorator.Tries n) = Tries n
 over_child (decorator.Ticks n) = Ticks n
 

@@ -1,27 +1,27 @@
 -- Trees whose places are digits and whose signals and agents are letters, as those of nodes are.
 use Rattle.std.specs.Prelude.{nat_lt, Bool, true, ◌&&◌}
-use Rattle.bt_nodes.specs.Plain.{Plain, Composite, CompositeStar, Parallel, Invert, Tries, Ticks, Wait, MoveTo, Does, Leaf, TakeItem, DropItem, AtPlace, Carries, OnItem, SignalOn, NearOther, GivesTo, Forest, none, tree}
+use Rattle.bt_nodes.specs.Plain.{Plain, Composite, Star, Par, Not, Tries, Ticks, Wait, Move, Does, Leaf, Take, Drop, At, Carrying, Item, Signal, Near, Give, Forest, none, tree}
 
 abbrev pub leaf_has_marks : Leaf → Bool
-leaf_has_marks TakeItem = true
-leaf_has_marks DropItem = true
-leaf_has_marks (AtPlace p) = nat_lt p 10
-leaf_has_marks Carries = true
-leaf_has_marks OnItem = true
-leaf_has_marks (SignalOn a) = nat_lt a 26
-leaf_has_marks (NearOther n) = true
-leaf_has_marks (GivesTo b) = nat_lt b 26
+leaf_has_marks Take = true
+leaf_has_marks Drop = true
+leaf_has_marks (At p) = nat_lt p 10
+leaf_has_marks Carrying = true
+leaf_has_marks Item = true
+leaf_has_marks (Signal a) = nat_lt a 26
+leaf_has_marks (Near n) = true
+leaf_has_marks (Give b) = nat_lt b 26
 
 abbrev mutual
   pub has_marks : Plain → Bool
   has_marks (Composite kind children) = all_have_marks children
-  has_marks (CompositeStar kind children) = all_have_marks children
-  has_marks (Parallel m children) = all_have_marks children
-  has_marks (Invert child) = has_marks child
+  has_marks (Star kind children) = all_have_marks children
+  has_marks (Par m children) = all_have_marks children
+  has_marks (Not child) = has_marks child
   has_marks (Tries n child) = has_marks child
   has_marks (Ticks n child) = has_marks child
   has_marks (Wait n) = true
-  has_marks (MoveTo p) = nat_lt p 10
+  has_marks (Move p) = nat_lt p 10
   has_marks (Does leaf) = leaf_has_marks leaf
 
   pub all_have_marks : Forest → Bool

@@ -4,7 +4,7 @@ use Rattle.std.specs.Str.{bytes_eq}
 use Rattle.serde_json.specs.Data.{Data, null, boolean, number, string, array, object, Items, no_items, item}
 use Rattle.serde_json.specs.Find.{as_u64, as_number, as_str}
 use Rattle.grid_world.specs.Map.{is_between}
-use Rattle.bt_nodes.specs.Plain.{Plain, Composite, CompositeStar, Parallel, Invert, Tries, Ticks, Wait, MoveTo, Does, Sequence, Fallback, TakeItem, DropItem, AtPlace, Carries, OnItem, SignalOn, NearOther, GivesTo, Forest, none, tree}
+use Rattle.bt_nodes.specs.Plain.{Plain, Composite, Star, Par, Not, Tries, Ticks, Wait, Move, Does, Seq, Fallback, Take, Drop, At, Carrying, Item, Signal, Near, Give, Forest, none, tree}
 
 -- ---- arguments
 
@@ -50,15 +50,15 @@ if_empty (item d ds) p = None
 abbrev pub leaf_of : List ℕ → Items → Option Plain
 leaf_of head arguments =
     if bytes_eq head (codes "wait") then option_map Wait (option_and_then count_in (only arguments))
-    else (if bytes_eq head (codes "move") then option_map MoveTo (option_and_then place_in (only arguments))
-    else (if bytes_eq head (codes "take") then if_empty arguments (Does TakeItem)
-    else (if bytes_eq head (codes "drop") then if_empty arguments (Does DropItem)
-    else (if bytes_eq head (codes "at") then option_map (λ p. Does (AtPlace p)) (option_and_then place_in (only arguments))
-    else (if bytes_eq head (codes "carrying") then if_empty arguments (Does Carries)
-    else (if bytes_eq head (codes "item") then if_empty arguments (Does OnItem)
-    else (if bytes_eq head (codes "signal") then option_map (λ a. Does (SignalOn a)) (option_and_then signal_in (only arguments))
-    else (if bytes_eq head (codes "near") then option_map (λ n. Does (NearOther n)) (option_and_then count_in (only arguments))
-    else (if bytes_eq head (codes "give") then option_map (λ b. Does (GivesTo b)) (option_and_then agent_in (only arguments))
+    else (if bytes_eq head (codes "move") then option_map Move (option_and_then place_in (only arguments))
+    else (if bytes_eq head (codes "take") then if_empty arguments (Does Take)
+    else (if bytes_eq head (codes "drop") then if_empty arguments (Does Drop)
+    else (if bytes_eq head (codes "at") then option_map (λ p. Does (At p)) (option_and_then place_in (only arguments))
+    else (if bytes_eq head (codes "carrying") then if_empty arguments (Does Carrying)
+    else (if bytes_eq head (codes "item") then if_empty arguments (Does Item)
+    else (if bytes_eq head (codes "signal") then option_map (λ a. Does (Signal a)) (option_and_then signal_in (only arguments))
+    else (if bytes_eq head (codes "near") then option_map (λ n. Does (Near n)) (option_and_then count_in (only arguments))
+    else (if bytes_eq head (codes "give") then option_map (λ b. Does (Give b)) (option_and_then agent_in (only arguments))
     else None)))))))))
 
 -- a number, and what stands behind it
@@ -75,12 +75,12 @@ pub record Arguments : Type 0 where
 
 abbrev pub form_of : List ℕ → Arguments → Option Plain
 form_of head arguments =
-    if bytes_eq head (codes "seq") then option_map (Composite Sequence) arguments.nodes
+    if bytes_eq head (codes "seq") then option_map (Composite Seq) arguments.nodes
     else (if bytes_eq head (codes "fallback") then option_map (Composite Fallback) arguments.nodes
-    else (if bytes_eq head (codes "seq*") then option_map (CompositeStar Sequence) arguments.nodes
-    else (if bytes_eq head (codes "fallback*") then option_map (CompositeStar Fallback) arguments.nodes
-    else (if bytes_eq head (codes "par") then option_map (λ p. Parallel p.0 p.1) (numbered arguments.all arguments.nodes_behind)
-    else (if bytes_eq head (codes "not") then option_map Invert arguments.node
+    else (if bytes_eq head (codes "seq*") then option_map (Star Seq) arguments.nodes
+    else (if bytes_eq head (codes "fallback*") then option_map (Star Fallback) arguments.nodes
+    else (if bytes_eq head (codes "par") then option_map (λ p. Par p.0 p.1) (numbered arguments.all arguments.nodes_behind)
+    else (if bytes_eq head (codes "not") then option_map Not arguments.node
     else (if bytes_eq head (codes "tries") then option_map (λ p. Tries p.0 p.1) (numbered arguments.all arguments.node_behind)
     else (if bytes_eq head (codes "ticks") then option_map (λ p. Ticks p.0 p.1) (numbered arguments.all arguments.node_behind)
     else leaf_of head arguments.all)))))))

@@ -2,7 +2,7 @@
 use Rattle.std.specs.Prelude.{ℕ, ◌+◌, List, [], ◌∷◌, codes}
 use Rattle.serde_json.specs.Data.{Data, number, unsigned, string, array, object, Items, no_items, item, Members, no_members, member}
 use Rattle.serde_json.specs.Written.{compact_text}
-use Rattle.bt_nodes.specs.Plain.{Plain, Composite, CompositeStar, Parallel, Invert, Tries, Ticks, Wait, MoveTo, Does, Kind, Sequence, Fallback, Leaf, TakeItem, DropItem, AtPlace, Carries, OnItem, SignalOn, NearOther, GivesTo, Forest, none, tree}
+use Rattle.bt_nodes.specs.Plain.{Plain, Composite, Star, Par, Not, Tries, Ticks, Wait, Move, Does, Kind, Seq, Fallback, Leaf, Take, Drop, At, Carrying, Item, Signal, Near, Give, Forest, none, tree}
 use Rattle.game_session.specs.Parts.{Parts, NamedPlain}
 
 -- ---- nodes
@@ -18,33 +18,33 @@ abbrev pub marked : ℕ → Items
 marked c = item (string (c ∷ [])) no_items
 
 abbrev pub leaf_data : Leaf → Data
-leaf_data TakeItem = form (codes "take") no_items
-leaf_data DropItem = form (codes "drop") no_items
-leaf_data (AtPlace p) = form (codes "at") (marked (48 + p))
-leaf_data Carries = form (codes "carrying") no_items
-leaf_data OnItem = form (codes "item") no_items
-leaf_data (SignalOn a) = form (codes "signal") (marked (97 + a))
-leaf_data (NearOther n) = form (codes "near") (counted n no_items)
-leaf_data (GivesTo b) = form (codes "give") (marked (65 + b))
+leaf_data Take = form (codes "take") no_items
+leaf_data Drop = form (codes "drop") no_items
+leaf_data (At p) = form (codes "at") (marked (48 + p))
+leaf_data Carrying = form (codes "carrying") no_items
+leaf_data Item = form (codes "item") no_items
+leaf_data (Signal a) = form (codes "signal") (marked (97 + a))
+leaf_data (Near n) = form (codes "near") (counted n no_items)
+leaf_data (Give b) = form (codes "give") (marked (65 + b))
 
 abbrev pub list_head : Kind → List ℕ
-list_head Sequence = codes "seq"
+list_head Seq = codes "seq"
 list_head Fallback = codes "fallback"
 
 abbrev pub star_head : Kind → List ℕ
-star_head Sequence = codes "seq*"
+star_head Seq = codes "seq*"
 star_head Fallback = codes "fallback*"
 
 abbrev mutual
   pub node_data : Plain → Data
   node_data (Composite kind children) = form (list_head kind) (forest_data children)
-  node_data (CompositeStar kind children) = form (star_head kind) (forest_data children)
-  node_data (Parallel m children) = form (codes "par") (counted m (forest_data children))
-  node_data (Invert child) = form (codes "not") (item (node_data child) no_items)
+  node_data (Star kind children) = form (star_head kind) (forest_data children)
+  node_data (Par m children) = form (codes "par") (counted m (forest_data children))
+  node_data (Not child) = form (codes "not") (item (node_data child) no_items)
   node_data (Tries n child) = form (codes "tries") (counted n (item (node_data child) no_items))
   node_data (Ticks n child) = form (codes "ticks") (counted n (item (node_data child) no_items))
   node_data (Wait n) = form (codes "wait") (counted n no_items)
-  node_data (MoveTo p) = form (codes "move") (marked (48 + p))
+  node_data (Move p) = form (codes "move") (marked (48 + p))
   node_data (Does leaf) = leaf_data leaf
 
   pub forest_data : Forest → Items

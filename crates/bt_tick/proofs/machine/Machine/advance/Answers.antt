@@ -1,6 +1,6 @@
 use Rattle.std.proofs.Common.{◌≡◌, ap, sym, ◌∙◌, length, arith}
 use Rattle.std.specs.Prelude.{slice_set}
-use Rattle.bt_nodes.specs.Plain.{plain, plains, Sequence, Fallback}
+use Rattle.bt_nodes.specs.Plain.{plain, plains, Seq, Fallback}
 use Rattle.bt_nodes.specs.Sizes.{count}
 use Rattle.bt_nodes.proofs.Views.{plain-Seq, plain-Fallback, plain-Par, plain-SeqStar, plain-FallbackStar}
 use Rattle.bt_nodes.proofs.Forests.{count-plains}
@@ -15,7 +15,7 @@ pub returns-else-frame-len-clause-keeps : goal.returns-else-frame-len-clause-kee
 returns-else-frame-len-clause-keeps g c v =
     left_keeps c.args.self.now c.leave.new.self c.leave.result _ c.args.at c.leave.ensures.mode c.leave.ensures.stack c.args.self.now.memory c.leave.ensures.memory c.leave.ensures.wants v
     (rest_of v (opened c.args.frame))
-    (λ s. ended_line v (opened c.args.frame) (with_parts c.args.self.now.memory c.args.self.now.wants.items s) Sequence (plains c.in-Seq.children.items) (ap plain c.in-Seq.is ∙ plain-Seq c.in-Seq.children) (none_left (opened c.args.frame) c.in-Seq.children.items (ap children_of (ap plain c.in-Seq.is ∙ plain-Seq c.in-Seq.children)) (omega (arith, c.len.ensures))))
+    (λ s. ended_line v (opened c.args.frame) (with_parts c.args.self.now.memory c.args.self.now.wants.items s) Seq (plains c.in-Seq.children.items) (ap plain c.in-Seq.is ∙ plain-Seq c.in-Seq.children) (none_left (opened c.args.frame) c.in-Seq.children.items (ap children_of (ap plain c.in-Seq.is ∙ plain-Seq c.in-Seq.children)) (omega (arith, c.len.ensures))))
 
 pub returns-else-frame-len-clause-placed : goal.returns-else-frame-len-clause-placed
 returns-else-frame-len-clause-placed g c =
@@ -49,7 +49,7 @@ pub returns-else-frame-len-3-clause-keeps : goal.returns-else-frame-len-3-clause
 returns-else-frame-len-3-clause-keeps g c v =
     left_keeps c.args.self.now c.leave-in-SeqStar.new.self c.leave-in-SeqStar.result _ c.args.at c.leave-in-SeqStar.ensures.mode c.leave-in-SeqStar.ensures.stack (slice_set c.args.self.now.memory c.args.frame.number 0) (c.leave-in-SeqStar.ensures.memory ∙ c.set.ensures) c.leave-in-SeqStar.ensures.wants v
     (rest_of v (opened c.args.frame))
-    (λ s. ended_star v (opened c.args.frame) (with_parts c.args.self.now.memory c.args.self.now.wants.items s) Sequence (plains c.in-SeqStar.children.items) (ap plain c.in-SeqStar.is ∙ plain-SeqStar c.in-SeqStar.children) (none_left (opened c.args.frame) c.in-SeqStar.children.items (ap children_of (ap plain c.in-SeqStar.is ∙ plain-SeqStar c.in-SeqStar.children)) (omega (arith, c.len-in-SeqStar.ensures))))
+    (λ s. ended_star v (opened c.args.frame) (with_parts c.args.self.now.memory c.args.self.now.wants.items s) Seq (plains c.in-SeqStar.children.items) (ap plain c.in-SeqStar.is ∙ plain-SeqStar c.in-SeqStar.children) (none_left (opened c.args.frame) c.in-SeqStar.children.items (ap children_of (ap plain c.in-SeqStar.is ∙ plain-SeqStar c.in-SeqStar.children)) (omega (arith, c.len-in-SeqStar.ensures))))
 
 pub returns-else-frame-len-3-clause-placed : goal.returns-else-frame-len-3-clause-placed
 returns-else-frame-len-3-clause-placed g c =

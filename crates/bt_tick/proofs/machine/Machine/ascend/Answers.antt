@@ -1,7 +1,7 @@
 use Rattle.std.proofs.Common.{◌+◌, ap, sym, ◌∙◌, subst, refl, drop, arith}
 use Rattle.std.specs.Prelude.{slice_set}
 use Rattle.bt_nodes.specs.declared.node.Status.TheVariants.{Failure, Running}
-use Rattle.bt_nodes.specs.Plain.{plain, plains, Sequence, Fallback, Invert, Tries, Ticks}
+use Rattle.bt_nodes.specs.Plain.{plain, plains, Seq, Fallback, Not, Tries, Ticks}
 use Rattle.bt_nodes.specs.Bounds.{bounds}
 use Rattle.bt_nodes.proofs.Views.{plain-Seq, plain-Fallback, plain-SeqStar, plain-FallbackStar, plain-Not, plain-Tries, plain-Ticks}
 use Rattle.bt_nodes.proofs.Forests.{count-plains}
@@ -34,7 +34,7 @@ pub returns-in-Success : goal.returns-in-Success
 returns-in-Success g c =
     record {
       keeps = λ v s. c.advance.ensures.keeps v s
-          ∙ ap (unwind v (opens (drop 1 c.args.self.now.stack))) (line_goes v (opened c.args.frame) (with_parts c.args.self.now.memory c.args.self.now.wants.items s) Sequence (plains c.in-Seq.field-0.items) c.args.status (ap plain c.in-Seq.is ∙ plain-Seq c.in-Seq.field-0) c.in-Success.is);
+          ∙ ap (unwind v (opens (drop 1 c.args.self.now.stack))) (line_goes v (opened c.args.frame) (with_parts c.args.self.now.memory c.args.self.now.wants.items s) Seq (plains c.in-Seq.field-0.items) c.args.status (ap plain c.in-Seq.is ∙ plain-Seq c.in-Seq.field-0) c.in-Success.is);
       placed = c.advance.ensures.placed;
       falls = c.advance.ensures.falls;
       tree = c.advance.ensures.tree;
@@ -43,7 +43,7 @@ returns-in-Success g c =
 pub returns-in-Failure : goal.returns-in-Failure
 returns-in-Failure g c =
     let h = handed c.args.self.now c.stop.new.self c.stop.result _ _ (opened c.args.frame) c.args.status c.args.self.now.memory c.stop.ensures.mode c.stop.ensures.stack c.stop.ensures.memory c.stop.ensures.wants c.stop.ensures.tree
-    refl c.requires.nested (λ v s. line_stops v (opened c.args.frame) (with_parts c.args.self.now.memory c.args.self.now.wants.items s) Sequence (plains c.in-Seq.field-0.items) c.args.status (ap plain c.in-Seq.is ∙ plain-Seq c.in-Seq.field-0) c.in-Failure.is) in
+    refl c.requires.nested (λ v s. line_stops v (opened c.args.frame) (with_parts c.args.self.now.memory c.args.self.now.wants.items s) Seq (plains c.in-Seq.field-0.items) c.args.status (ap plain c.in-Seq.is ∙ plain-Seq c.in-Seq.field-0) c.in-Failure.is) in
     record { keeps = h.0; placed = h.1.0; falls = h.1.1; tree = c.stop.ensures.tree }
 
 pub advance-requires-in-Failure-status : goal.advance-requires-in-Failure-status
@@ -83,7 +83,7 @@ pub invariant_of-self : goal.invariant_of-self
 invariant_of-self g c =
     record {
       fits = star_wrote (whole_of c.args.self.now) c.args.self.now.memory _ c.args.frame.next _ _ _ (opened c.args.frame) c.args.self.now.fits c.requires.stands c.set.ensures
-          Sequence (plains c.in-SeqStar.children.items) (ap plain c.in-SeqStar.is ∙ plain-SeqStar c.in-SeqStar.children) (omega (arith, count-plains c.in-SeqStar.children.items));
+          Seq (plains c.in-SeqStar.children.items) (ap plain c.in-SeqStar.is ∙ plain-SeqStar c.in-SeqStar.children) (omega (arith, count-plains c.in-SeqStar.children.items));
     }
 
 pub advance-requires-then-frame-len : goal.advance-requires-then-frame-len
@@ -100,7 +100,7 @@ returns-then-frame-len g c =
     record {
       keeps = λ v s. c.advance-then-frame-len.ensures.keeps v s
           ∙ ap (λ m. unwind v (opens (drop 1 c.args.self.now.stack)) (rest_of v (opened c.args.frame) (with_parts m c.args.self.now.wants.items s))) c.set.ensures
-          ∙ ap (unwind v (opens (drop 1 c.args.self.now.stack))) (star_goes v (opened c.args.frame) (with_parts c.args.self.now.memory c.args.self.now.wants.items s) Sequence (plains c.in-SeqStar.children.items) c.args.status (ap plain c.in-SeqStar.is ∙ plain-SeqStar c.in-SeqStar.children) c.in-Success-status-2.is);
+          ∙ ap (unwind v (opens (drop 1 c.args.self.now.stack))) (star_goes v (opened c.args.frame) (with_parts c.args.self.now.memory c.args.self.now.wants.items s) Seq (plains c.in-SeqStar.children.items) c.args.status (ap plain c.in-SeqStar.is ∙ plain-SeqStar c.in-SeqStar.children) c.in-Success-status-2.is);
       placed = c.advance-then-frame-len.ensures.placed;
       falls = c.advance-then-frame-len.ensures.falls;
       tree = c.advance-then-frame-len.ensures.tree;
@@ -129,7 +129,7 @@ invariant_of-self-in-Failure-status-2 g c =
 pub returns-else-frame-len : goal.returns-else-frame-len
 returns-else-frame-len g c =
     let h = handed c.args.self.now c.leave.new.self c.leave.result _ _ (opened c.args.frame) c.args.status (slice_set c.args.self.now.memory c.args.frame.number 0) c.leave.ensures.mode c.leave.ensures.stack (c.leave.ensures.memory ∙ c.set-in-Success-status-2.ensures) c.leave.ensures.wants c.leave.ensures.tree
-    (closed_at _ c.args.frame.next c.args.at _ (opened c.args.frame) c.requires.stands (none_left (opened c.args.frame) c.in-SeqStar.children.items (ap children_of (ap plain c.in-SeqStar.is ∙ plain-SeqStar c.in-SeqStar.children)) (omega arith))) c.requires.nested (λ v s. end_star v (opened c.args.frame) Sequence (plains c.in-SeqStar.children.items) (with_parts c.args.self.now.memory c.args.self.now.wants.items s) (ap plain c.in-SeqStar.is ∙ plain-SeqStar c.in-SeqStar.children) (none_left (opened c.args.frame) c.in-SeqStar.children.items (ap children_of (ap plain c.in-SeqStar.is ∙ plain-SeqStar c.in-SeqStar.children)) (omega arith))
+    (closed_at _ c.args.frame.next c.args.at _ (opened c.args.frame) c.requires.stands (none_left (opened c.args.frame) c.in-SeqStar.children.items (ap children_of (ap plain c.in-SeqStar.is ∙ plain-SeqStar c.in-SeqStar.children)) (omega arith))) c.requires.nested (λ v s. end_star v (opened c.args.frame) Seq (plains c.in-SeqStar.children.items) (with_parts c.args.self.now.memory c.args.self.now.wants.items s) (ap plain c.in-SeqStar.is ∙ plain-SeqStar c.in-SeqStar.children) (none_left (opened c.args.frame) c.in-SeqStar.children.items (ap children_of (ap plain c.in-SeqStar.is ∙ plain-SeqStar c.in-SeqStar.children)) (omega arith))
     ∙ ap (λ st. close v (opened c.args.frame) (gives st (with_parts c.args.self.now.memory c.args.self.now.wants.items s))) (sym c.in-Success-status-2.is)) in
     record { keeps = h.0; placed = h.1.0; falls = h.1.1; tree = c.leave.ensures.tree }
 
@@ -140,7 +140,7 @@ stop-requires-in-Failure-status-2 g c =
 pub returns-in-Failure-status-2 : goal.returns-in-Failure-status-2
 returns-in-Failure-status-2 g c =
     let h = handed c.args.self.now c.stop-in-Failure-status-2.new.self c.stop-in-Failure-status-2.result _ _ (opened c.args.frame) c.args.status (slice_set c.args.self.now.memory c.args.frame.number 0) c.stop-in-Failure-status-2.ensures.mode c.stop-in-Failure-status-2.ensures.stack (c.stop-in-Failure-status-2.ensures.memory ∙ c.set-in-Failure-status-2.ensures) c.stop-in-Failure-status-2.ensures.wants c.stop-in-Failure-status-2.ensures.tree
-    refl c.requires.nested (λ v s. star_stops v (opened c.args.frame) (with_parts c.args.self.now.memory c.args.self.now.wants.items s) Sequence (plains c.in-SeqStar.children.items) c.args.status (ap plain c.in-SeqStar.is ∙ plain-SeqStar c.in-SeqStar.children) c.in-Failure-status-2.is) in
+    refl c.requires.nested (λ v s. star_stops v (opened c.args.frame) (with_parts c.args.self.now.memory c.args.self.now.wants.items s) Seq (plains c.in-SeqStar.children.items) c.args.status (ap plain c.in-SeqStar.is ∙ plain-SeqStar c.in-SeqStar.children) c.in-Failure-status-2.is) in
     record { keeps = h.0; placed = h.1.0; falls = h.1.1; tree = c.stop-in-Failure-status-2.ensures.tree }
 
 pub stop-requires-in-Running : goal.stop-requires-in-Running
@@ -150,7 +150,7 @@ stop-requires-in-Running g c =
 pub returns-in-Running : goal.returns-in-Running
 returns-in-Running g c =
     let h = handed c.args.self.now c.stop-in-Running.new.self c.stop-in-Running.result _ _ (opened c.args.frame) c.args.status c.args.self.now.memory c.stop-in-Running.ensures.mode c.stop-in-Running.ensures.stack c.stop-in-Running.ensures.memory c.stop-in-Running.ensures.wants c.stop-in-Running.ensures.tree
-    refl c.requires.nested (λ v s. star_runs v (opened c.args.frame) (with_parts c.args.self.now.memory c.args.self.now.wants.items s) Sequence (plains c.in-SeqStar.children.items) c.args.status (ap plain c.in-SeqStar.is ∙ plain-SeqStar c.in-SeqStar.children) c.in-Running.is) in
+    refl c.requires.nested (λ v s. star_runs v (opened c.args.frame) (with_parts c.args.self.now.memory c.args.self.now.wants.items s) Seq (plains c.in-SeqStar.children.items) c.args.status (ap plain c.in-SeqStar.is ∙ plain-SeqStar c.in-SeqStar.children) c.in-Running.is) in
     record { keeps = h.0; placed = h.1.0; falls = h.1.1; tree = c.stop-in-Running.ensures.tree }
 
 pub set-requires-then-frame-len-2 : goal.set-requires-then-frame-len-2
@@ -234,7 +234,7 @@ returns-in-Running-status g c =
 pub returns-in-Not : goal.returns-in-Not
 returns-in-Not g c =
     let h = handed c.args.self.now c.leave-in-Not.new.self c.leave-in-Not.result _ _ (opened c.args.frame) c.args.status c.args.self.now.memory c.leave-in-Not.ensures.mode c.leave-in-Not.ensures.stack c.leave-in-Not.ensures.memory c.leave-in-Not.ensures.wants c.leave-in-Not.ensures.tree
-    (only_closed (whole_of c.args.self.now) c.args.at _ (opened c.args.frame) (plain c.in-Not.field-0.value) (ap children_of (ap plain c.in-Not.is ∙ plain-Not c.in-Not.field-0)) c.requires.stands) c.requires.nested (λ v s. c.opposite.ensures (with_parts c.args.self.now.memory c.args.self.now.wants.items s) ∙ closes v (opened c.args.frame) (with_parts c.args.self.now.memory c.args.self.now.wants.items s) (Invert (plain c.in-Not.field-0.value)) (gives c.args.status (with_parts c.args.self.now.memory c.args.self.now.wants.items s)) (ap plain c.in-Not.is ∙ plain-Not c.in-Not.field-0)) in
+    (only_closed (whole_of c.args.self.now) c.args.at _ (opened c.args.frame) (plain c.in-Not.field-0.value) (ap children_of (ap plain c.in-Not.is ∙ plain-Not c.in-Not.field-0)) c.requires.stands) c.requires.nested (λ v s. c.opposite.ensures (with_parts c.args.self.now.memory c.args.self.now.wants.items s) ∙ closes v (opened c.args.frame) (with_parts c.args.self.now.memory c.args.self.now.wants.items s) (Not (plain c.in-Not.field-0.value)) (gives c.args.status (with_parts c.args.self.now.memory c.args.self.now.wants.items s)) (ap plain c.in-Not.is ∙ plain-Not c.in-Not.field-0)) in
     record { keeps = h.0; placed = h.1.0; falls = h.1.1; tree = c.leave-in-Not.ensures.tree }
 
 pub set-requires-in-Failure-status-4 : goal.set-requires-in-Failure-status-4

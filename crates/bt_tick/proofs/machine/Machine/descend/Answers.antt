@@ -1,8 +1,8 @@
 use Rattle.std.proofs.Common.{◌+◌, ◌*◌, ◌<◌, ap, sym, ◌∙◌, subst, arith, refl, true, false}
 use Rattle.std.proofs.lemmas.List.{length-map}
-use Rattle.grid_world.specs.declared.cell.Intent.TheVariants.{Take, Drop, Give}
+use Rattle.grid_world.specs.declared.cell.Intent.TheVariants as intent
 use Rattle.bt_nodes.specs.declared.node.Status.TheVariants.{Failure}
-use Rattle.bt_nodes.specs.Plain.{Sequence, Fallback, CompositeStar, Wait, Does, GivesTo, none, tree, plain, plains}
+use Rattle.bt_nodes.specs.Plain.{Seq, Fallback, Star, Wait, Does, Give, none, tree, plain, plains}
 use Rattle.bt_nodes.specs.Sizes.{size}
 use Rattle.bt_nodes.proofs.Views.{plain-Seq, plain-Fallback, plain-SeqStar, plain-FallbackStar, plain-Not, plain-Tries, plain-Ticks}
 use Rattle.game_rules.specs.Tick.{gives}
@@ -34,7 +34,7 @@ open_list-requires g c =
 pub returns-in-Seq : goal.returns-in-Seq
 returns-in-Seq g c =
     record {
-      keeps = if_ok c.open_list.result (λ m h s. h (view_of c.args.view.now) s ∙ ap (unwind (view_of c.args.view.now) (opens c.args.self.now.stack)) (line_begins (view_of c.args.view.now) (plain c.args.node.now) c.args.number (with_parts c.args.self.now.memory c.args.self.now.wants.items s) Sequence (plains c.in-Seq.field-0.items) (ap plain c.in-Seq.is ∙ plain-Seq c.in-Seq.field-0))) c.open_list.ensures.keeps;
+      keeps = if_ok c.open_list.result (λ m h s. h (view_of c.args.view.now) s ∙ ap (unwind (view_of c.args.view.now) (opens c.args.self.now.stack)) (line_begins (view_of c.args.view.now) (plain c.args.node.now) c.args.number (with_parts c.args.self.now.memory c.args.self.now.wants.items s) Seq (plains c.in-Seq.field-0.items) (ap plain c.in-Seq.is ∙ plain-Seq c.in-Seq.field-0))) c.open_list.ensures.keeps;
       placed = c.open_list.ensures.placed;
       falls = if_ok c.open_list.result (λ m h. omega (arith, h, size-children (plain c.args.node.now))) c.open_list.ensures.falls;
       tree = c.open_list.ensures.tree;
@@ -57,7 +57,7 @@ returns-in-Fallback g c =
 pub open_star-requires : goal.open_star-requires
 open_star-requires g c =
     record {
-      star = (Sequence, ap plain c.in-SeqStar.is ∙ plain-SeqStar c.in-SeqStar.children ∙ ap (λ xs. CompositeStar Sequence (plains xs)) (sym c.deref.ensures.value));
+      star = (Seq, ap plain c.in-SeqStar.is ∙ plain-SeqStar c.in-SeqStar.children ∙ ap (λ xs. Star Seq (plains xs)) (sym c.deref.ensures.value));
       sits = c.requires.sits;
       deep = c.requires.deep;
       nested = c.requires.nested;
@@ -75,7 +75,7 @@ returns-in-SeqStar g c =
 pub open_star-requires-in-FallbackStar : goal.open_star-requires-in-FallbackStar
 open_star-requires-in-FallbackStar g c =
     record {
-      star = (Fallback, ap plain c.in-FallbackStar.is ∙ plain-FallbackStar c.in-FallbackStar.children ∙ ap (λ xs. CompositeStar Fallback (plains xs)) (sym c.deref-in-FallbackStar.ensures.value));
+      star = (Fallback, ap plain c.in-FallbackStar.is ∙ plain-FallbackStar c.in-FallbackStar.children ∙ ap (λ xs. Star Fallback (plains xs)) (sym c.deref-in-FallbackStar.ensures.value));
       sits = c.requires.sits;
       deep = c.requires.deep;
       nested = c.requires.nested;
@@ -242,7 +242,7 @@ pub returns-in_ok-want-in-Take : goal.returns-in_ok-want-in-Take
 returns-in_ok-want-in-Take g c =
     let new = c.want.new.self in
     record {
-      keeps = λ s. wanted_keeps c.args.self.now new Take c.in_ok-want-in-Take.ensures.stack c.in_ok-want-in-Take.ensures.memory c.in_ok-want-in-Take.ensures.wants (view_of c.args.view.now) s ∙ ap (unwind (view_of c.args.view.now) (opens c.args.self.now.stack)) (takes (view_of c.args.view.now) (plain c.args.node.now) c.args.number (with_parts c.args.self.now.memory c.args.self.now.wants.items s) false true (ap plain c.in-Take.is ∙ plain-Take _) c.if-carries.ensures c.if-not-is_on_item.ensures);
+      keeps = λ s. wanted_keeps c.args.self.now new intent.Take c.in_ok-want-in-Take.ensures.stack c.in_ok-want-in-Take.ensures.memory c.in_ok-want-in-Take.ensures.wants (view_of c.args.view.now) s ∙ ap (unwind (view_of c.args.view.now) (opens c.args.self.now.stack)) (takes (view_of c.args.view.now) (plain c.args.node.now) c.args.number (with_parts c.args.self.now.memory c.args.self.now.wants.items s) false true (ap plain c.in-Take.is ∙ plain-Take _) c.if-carries.ensures c.if-not-is_on_item.ensures);
       placed = placed_by c.args.self.now new _ c.args.self.now.stack c.in_ok-want-in-Take.ensures.tree c.in_ok-want-in-Take.ensures.stack (answered_nested (whole_of c.args.self.now) _ c.args.number (plain c.args.node.now) (opens c.args.self.now.stack) (omega (arith, ap size (ap plain c.in-Take.is ∙ plain-Take _))) c.requires.nested) tt;
       falls = subst (λ fs. 1 + weight_all (opens fs) < 2 * size (plain c.args.node.now) + weight_all (opens c.args.self.now.stack)) (sym c.in_ok-want-in-Take.ensures.stack) (answered_falls (plain c.args.node.now) (weight_all (opens c.args.self.now.stack)));
       tree = c.in_ok-want-in-Take.ensures.tree;
@@ -252,7 +252,7 @@ pub returns-in_ok-want-in-Drop : goal.returns-in_ok-want-in-Drop
 returns-in_ok-want-in-Drop g c =
     let new = c.want-in-Drop.new.self in
     record {
-      keeps = λ s. wanted_keeps c.args.self.now new Drop c.in_ok-want-in-Drop.ensures.stack c.in_ok-want-in-Drop.ensures.memory c.in_ok-want-in-Drop.ensures.wants (view_of c.args.view.now) s ∙ ap (unwind (view_of c.args.view.now) (opens c.args.self.now.stack)) (drops (view_of c.args.view.now) (plain c.args.node.now) c.args.number (with_parts c.args.self.now.memory c.args.self.now.wants.items s) true false (ap plain c.in-Drop.is ∙ plain-Drop _) c.if-not-carries.ensures c.if-is_on_item.ensures);
+      keeps = λ s. wanted_keeps c.args.self.now new intent.Drop c.in_ok-want-in-Drop.ensures.stack c.in_ok-want-in-Drop.ensures.memory c.in_ok-want-in-Drop.ensures.wants (view_of c.args.view.now) s ∙ ap (unwind (view_of c.args.view.now) (opens c.args.self.now.stack)) (drops (view_of c.args.view.now) (plain c.args.node.now) c.args.number (with_parts c.args.self.now.memory c.args.self.now.wants.items s) true false (ap plain c.in-Drop.is ∙ plain-Drop _) c.if-not-carries.ensures c.if-is_on_item.ensures);
       placed = placed_by c.args.self.now new _ c.args.self.now.stack c.in_ok-want-in-Drop.ensures.tree c.in_ok-want-in-Drop.ensures.stack (answered_nested (whole_of c.args.self.now) _ c.args.number (plain c.args.node.now) (opens c.args.self.now.stack) (omega (arith, ap size (ap plain c.in-Drop.is ∙ plain-Drop _))) c.requires.nested) tt;
       falls = subst (λ fs. 1 + weight_all (opens fs) < 2 * size (plain c.args.node.now) + weight_all (opens c.args.self.now.stack)) (sym c.in_ok-want-in-Drop.ensures.stack) (answered_falls (plain c.args.node.now) (weight_all (opens c.args.self.now.stack)));
       tree = c.in_ok-want-in-Drop.ensures.tree;
@@ -261,8 +261,8 @@ returns-in_ok-want-in-Drop g c =
 pub returns-then-not-can_give : goal.returns-then-not-can_give
 returns-then-not-can_give g c =
     record {
-      keeps = λ s. ap (unwind (view_of c.args.view.now) (opens c.args.self.now.stack)) (hands_over (view_of c.args.view.now) (plain c.args.node.now) c.args.number (with_parts c.args.self.now.memory c.args.self.now.wants.items s) c.number-agent.result false (ap plain c.in-Give.is ∙ plain-Give _ c.in-Give.letter ∙ ap (λ b. Does (GivesTo b)) (sym c.number-agent.ensures.value)) c.if-not-can_give.ensures);
-      placed = placed_by c.args.self.now _ _ c.args.self.now.stack refl refl (answered_nested (whole_of c.args.self.now) _ c.args.number (plain c.args.node.now) (opens c.args.self.now.stack) (omega (arith, ap size (ap plain c.in-Give.is ∙ plain-Give _ c.in-Give.letter ∙ ap (λ b. Does (GivesTo b)) (sym c.number-agent.ensures.value)))) c.requires.nested) tt;
+      keeps = λ s. ap (unwind (view_of c.args.view.now) (opens c.args.self.now.stack)) (hands_over (view_of c.args.view.now) (plain c.args.node.now) c.args.number (with_parts c.args.self.now.memory c.args.self.now.wants.items s) c.number-agent.result false (ap plain c.in-Give.is ∙ plain-Give _ c.in-Give.letter ∙ ap (λ b. Does (Give b)) (sym c.number-agent.ensures.value)) c.if-not-can_give.ensures);
+      placed = placed_by c.args.self.now _ _ c.args.self.now.stack refl refl (answered_nested (whole_of c.args.self.now) _ c.args.number (plain c.args.node.now) (opens c.args.self.now.stack) (omega (arith, ap size (ap plain c.in-Give.is ∙ plain-Give _ c.in-Give.letter ∙ ap (λ b. Does (Give b)) (sym c.number-agent.ensures.value)))) c.requires.nested) tt;
       falls = answered_falls (plain c.args.node.now) (weight_all (opens c.args.self.now.stack));
       tree = refl;
     }
@@ -271,8 +271,8 @@ pub returns-in_ok-want-in-Give : goal.returns-in_ok-want-in-Give
 returns-in_ok-want-in-Give g c =
     let new = c.want-in-Give.new.self in
     record {
-      keeps = λ s. wanted_keeps c.args.self.now new (Give c.number-agent.result) c.in_ok-want-in-Give.ensures.stack c.in_ok-want-in-Give.ensures.memory c.in_ok-want-in-Give.ensures.wants (view_of c.args.view.now) s ∙ ap (unwind (view_of c.args.view.now) (opens c.args.self.now.stack)) (hands_over (view_of c.args.view.now) (plain c.args.node.now) c.args.number (with_parts c.args.self.now.memory c.args.self.now.wants.items s) c.number-agent.result true (ap plain c.in-Give.is ∙ plain-Give _ c.in-Give.letter ∙ ap (λ b. Does (GivesTo b)) (sym c.number-agent.ensures.value)) c.if-not-can_give.ensures);
-      placed = placed_by c.args.self.now new _ c.args.self.now.stack c.in_ok-want-in-Give.ensures.tree c.in_ok-want-in-Give.ensures.stack (answered_nested (whole_of c.args.self.now) _ c.args.number (plain c.args.node.now) (opens c.args.self.now.stack) (omega (arith, ap size (ap plain c.in-Give.is ∙ plain-Give _ c.in-Give.letter ∙ ap (λ b. Does (GivesTo b)) (sym c.number-agent.ensures.value)))) c.requires.nested) tt;
+      keeps = λ s. wanted_keeps c.args.self.now new (intent.Give c.number-agent.result) c.in_ok-want-in-Give.ensures.stack c.in_ok-want-in-Give.ensures.memory c.in_ok-want-in-Give.ensures.wants (view_of c.args.view.now) s ∙ ap (unwind (view_of c.args.view.now) (opens c.args.self.now.stack)) (hands_over (view_of c.args.view.now) (plain c.args.node.now) c.args.number (with_parts c.args.self.now.memory c.args.self.now.wants.items s) c.number-agent.result true (ap plain c.in-Give.is ∙ plain-Give _ c.in-Give.letter ∙ ap (λ b. Does (Give b)) (sym c.number-agent.ensures.value)) c.if-not-can_give.ensures);
+      placed = placed_by c.args.self.now new _ c.args.self.now.stack c.in_ok-want-in-Give.ensures.tree c.in_ok-want-in-Give.ensures.stack (answered_nested (whole_of c.args.self.now) _ c.args.number (plain c.args.node.now) (opens c.args.self.now.stack) (omega (arith, ap size (ap plain c.in-Give.is ∙ plain-Give _ c.in-Give.letter ∙ ap (λ b. Does (Give b)) (sym c.number-agent.ensures.value)))) c.requires.nested) tt;
       falls = subst (λ fs. 1 + weight_all (opens fs) < 2 * size (plain c.args.node.now) + weight_all (opens c.args.self.now.stack)) (sym c.in_ok-want-in-Give.ensures.stack) (answered_falls (plain c.args.node.now) (weight_all (opens c.args.self.now.stack)));
       tree = c.in_ok-want-in-Give.ensures.tree;
     }
