@@ -1,7 +1,6 @@
 // What no clause says: that calls of a board succeed where there is memory, with the answers that a walk has to get.
 use crate::walk::{LOGIC, PATH, THINK, WALKED, board_of, is_walked, walk};
-use frame_params::{LogicStep, Way};
-use frame_tasks::{BoardStep, Task, ThinkStep};
+use frame_params::{BoardStep, LogicStep, Task, ThinkStep, Way};
 use game_session::Session;
 use job_board::{Board, BoardFault, Done, Event, JobName, Refused};
 use std::alloc::Global;

@@ -1,11 +1,13 @@
 // What no clause says: that the tasks of a frame are made and worked where there is memory, and what they come to.
 ghost use Rattle.std.specs.Prelude.{◌≡◌, ◌∷◌, [], IfSome, length};
-ghost use Rattle.frame_params.specs.Names.{part_of, question_of, AreOfAllAgents};
+ghost use Rattle.frame_state.specs.Names.{part_of, question_of, AreOfAllAgents};
 
 use crate::walk::{DRAW, LOGIC, PATH, THINK, walk};
 use bt_nodes::Status;
-use frame_params::{BandOut, DrawTask, FrameParams, LogicStep, LogicTask, Thought, Turn, Way};
-use frame_tasks::{Parked, PathTask, ThinkStep, ThinkTask};
+use frame_params::{
+    BandOut, DrawTask, FrameParams, LogicStep, LogicTask, Parked, PathTask, ThinkStep, ThinkTask,
+    Thought, Turn, Way,
+};
 use game_session::Session;
 use grid_world::{Agent, Answer, Dir};
 use job_board::JobName;

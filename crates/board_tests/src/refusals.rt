@@ -3,8 +3,7 @@
 // No growth is refused where this is run as it is; `scripts/refused_growths` refuses each in turn.
 use crate::sessions::session_of;
 use bumpalo::Bump;
-use frame_params::LogicStep;
-use frame_tasks::{BoardStep, Parked, Step, Task, ThinkStep};
+use frame_params::{BoardStep, LogicStep, Parked, Step, Task, ThinkStep};
 use game_session::Session;
 use job_board::{Board, BoardFault, Done, Refused, Settings};
 use replay_log::replay;

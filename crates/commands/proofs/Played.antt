@@ -6,7 +6,7 @@ use Rattle.byte_streams.specs.Streams.{AppendsPart}
 use Rattle.byte_streams.proofs.Parts.{first_bytes}
 use Rattle.game_rules.specs.Game.{Game}
 use Rattle.game_rules.specs.Text.{texts}
-use Rattle.job_machine.specs.Numbers.{Numbers}
+use Rattle.job_scheduler.specs.Numbers.{Numbers}
 use Rattle.level_text.specs.Games.{spelled_game}
 use Rattle.play_run.specs.Plays as plays
 use Rattle.run_shared.specs.Printed.{WrotePart}

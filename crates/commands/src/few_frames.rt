@@ -1,7 +1,7 @@
 ghost use Rattle.std.specs.Prelude.{◌≡◌};
-ghost use Rattle.job_machine.specs.Numbers.{settings_of};
+ghost use Rattle.job_scheduler.specs.Numbers.{settings_of};
 
-use job_machine::Settings;
+use job_scheduler::Settings;
 
 /// How a level from standard input is played.
 pub fn few_frames() -> Settings

@@ -7,7 +7,7 @@ ghost use Rattle.level_text.specs.Games.{spelled_game};
 ghost use Rattle.commands.specs.Faults.{IsPlayFault};
 
 use job_core::names::Event;
-use job_machine::Settings;
+use job_scheduler::Settings;
 use play_run::{EveryJob, PlayFault, run_bytes};
 use std::alloc::Global;
 use std::io::Write;

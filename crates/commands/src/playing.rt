@@ -11,7 +11,7 @@ use crate::few_frames::few_frames;
 use crate::play::play_bytes;
 use crate::run_fault::play_fault;
 use byte_streams::{ReadFault, read_whole};
-use job_machine::Settings;
+use job_scheduler::Settings;
 use log_text::write_log;
 use program_fault::{Fault, read_file, read_optional_file, write_file};
 use std::alloc::Global;

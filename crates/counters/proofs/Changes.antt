@@ -3,9 +3,9 @@ use Rattle.std.proofs.Common.{◌≡◌, ◌<◌, ℕ, true, List, [], ◌∷◌
 use Rattle.std.specs.Option.{is_some}
 use Rattle.job_core.specs.Core.{Counter}
 use Rattle.job_core.proofs.ByCases.{by_eq}
-use Rattle.board_law.specs.Lists.{drop_first, change_first}
-use Rattle.board_law.specs.Board.{Row, has_key, first_row, lowered, lower}
-use Rattle.board_law.proofs.Kit.{by_bool}
+use Rattle.board_model.specs.Lists.{drop_first, change_first}
+use Rattle.board_model.specs.Board.{Row, has_key, first_row, lowered, lower}
+use Rattle.board_model.proofs.Kit.{by_bool}
 use Rattle.job_queues.specs.Places.{IsFirst, HasNone, IsFirstPlace}
 use Rattle.counters.specs.declared.counters.CounterFault.TheVariants.{Busy}
 use Rattle.counters.specs.Rows.{emptied, one_less}

@@ -1,10 +1,10 @@
 -- What two calls make together, in the board's words: a counter started and given up, started at 0 and ended.
 use Rattle.std.proofs.Common.{◌≡◌, ℕ, suc, true, List, [], ◌∷◌, ◌++◌, Some, None, if◌then◌else◌, refl, ap, ◌∙◌}
 use Rattle.job_core.specs.Core.{Counter}
-use Rattle.board_law.specs.Lists.{drop_first, change_first}
-use Rattle.board_law.specs.Board.{Row, same_counter, has_key, first_row, raise, wait, with_waiter}
-use Rattle.board_law.proofs.Kit.{by_bool}
-use Rattle.board_law.proofs.Tables.{counter_self}
+use Rattle.board_model.specs.Lists.{drop_first, change_first}
+use Rattle.board_model.specs.Board.{Row, same_counter, has_key, first_row, raise, wait, with_waiter}
+use Rattle.board_model.proofs.Kit.{by_bool}
+use Rattle.board_model.proofs.Tables.{counter_self}
 use Rattle.counters.specs.Rows.{started}
 
 -- ---- a counter that was started last

@@ -1,6 +1,6 @@
 -- The fault of each call, by the row of its key. Want of memory comes last, and has no row here.
 use Rattle.std.specs.Prelude.{◌==◌, if◌then◌else◌, Option, Some, None}
-use Rattle.board_law.specs.Board.{Row}
+use Rattle.board_model.specs.Board.{Row}
 use Rattle.counters.specs.declared.counters.CounterFault.{CounterFault}
 use Rattle.counters.specs.declared.counters.CounterFault.TheVariants.{Busy, NotThere}
 

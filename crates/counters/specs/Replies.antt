@@ -1,7 +1,7 @@
 -- What the calls on counters answer.
 use Rattle.std.specs.Prelude.{◌≡◌, ◌<◌, ℕ, ◌+◌, List, Option, Some}
 use Rattle.job_core.specs.Core.{Counter}
-use Rattle.board_law.specs.Board.{Row, first_row, waiters_in, wait}
+use Rattle.board_model.specs.Board.{Row, first_row, waiters_in, wait}
 use Rattle.counters.specs.declared.counters.Lowered.{Lowered}
 use Rattle.counters.specs.declared.counters.Lowered.TheVariants.{Left, Zero}
 use Rattle.counters.specs.declared.counters.Waits.{Waits}

@@ -1,8 +1,8 @@
 -- The rows of the table of counters, and what lowering makes of one.
 use Rattle.std.specs.Prelude.{ℕ, ◌==◌, if◌then◌else◌, List, [], Option, Some, None}
 use Rattle.job_core.specs.Core.{Counter}
-use Rattle.board_law.specs.Lists.{change_first}
-use Rattle.board_law.specs.Board.{Row, has_key, lowered}
+use Rattle.board_model.specs.Lists.{change_first}
+use Rattle.board_model.specs.Board.{Row, has_key, lowered}
 
 abbrev pub started : Counter → ℕ → Row
 started key number = record { key = key; left = number; waiters = [] }

@@ -1,5 +1,5 @@
 ghost use Rattle.std.specs.Prelude.{◌≡◌, ◌<◌, [], OnOk, OnErr};
-ghost use Rattle.board_law.specs.Board.{has_key, lowered, with_waiter};
+ghost use Rattle.board_model.specs.Board.{has_key, lowered, with_waiter};
 ghost use Rattle.counters.specs.Keys.{counter_of};
 ghost use Rattle.counters.specs.Rows.{started, emptied};
 
@@ -18,7 +18,7 @@ pub(crate) struct Counter {
 }
 
 impl Model for Counter {
-    ghost use Rattle.board_law.specs.Board.{Row};
+    ghost use Rattle.board_model.specs.Board.{Row};
     ghost use Rattle.counters.specs.Keys.{counter_of};
 
     ghost Value = { Row };

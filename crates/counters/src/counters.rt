@@ -1,6 +1,6 @@
 ghost use Rattle.std.specs.Prelude.{◌≡◌, ◌<◌, ◌++◌, ◌∷◌, [], None, Some, IsSomeAnd, MatchOption, position, unwrap_or, OnOk, OnErr, IfOk, IfErr};
-ghost use Rattle.board_law.specs.Lists.{drop_first};
-ghost use Rattle.board_law.specs.Board.{has_key, first_row, lower, woken};
+ghost use Rattle.board_model.specs.Lists.{drop_first};
+ghost use Rattle.board_model.specs.Board.{has_key, first_row, lower, woken};
 ghost use Rattle.job_queues.specs.Places.{IsFirstPlace};
 ghost use Rattle.counters.specs.Keys.{counter_of};
 ghost use Rattle.counters.specs.Rows.{started, left_in, less};
@@ -60,7 +60,7 @@ impl Drop for Counters {
 
 impl Model for Counters {
     ghost use Rattle.std.specs.Prelude.{List};
-    ghost use Rattle.board_law.specs.Board.{Row};
+    ghost use Rattle.board_model.specs.Board.{Row};
 
     ghost Value = { List Row };
 

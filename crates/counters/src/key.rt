@@ -1,5 +1,5 @@
 ghost use Rattle.std.specs.Prelude.{◌≡◌};
-ghost use Rattle.board_law.specs.Board.{same_counter};
+ghost use Rattle.board_model.specs.Board.{same_counter};
 ghost use Rattle.counters.specs.Keys.{counter_of};
 
 /// What a counter counts: frames from 1, agents and questions from 0.

@@ -1,5 +1,2 @@
-pub mod Fitting
-pub mod Ground
-pub mod Turning
+pub mod CutThoughts
 pub mod Crossing
-pub mod KnownWays

@@ -1,6 +1,3 @@
-pub mod Names
-pub mod Contents
-pub mod Logic
-pub mod Slots
-pub mod Thoughts
-pub mod Distances
+pub mod Thinks
+pub mod BoardSteps
+pub mod Tasks

@@ -2,8 +2,8 @@
 use denote.Ref.{NamedLft}
 use denote.Param.Send.{IsSend, sendable}
 use Rattle.std.proofs.Crossing.{crosses}
-use Rattle.frame_params.proofs.Crossing.{session, way, thought, turn, band_mark}
-use Rattle.frame_tasks.proofs.Crossing.{parked}
+use Rattle.frame_state.proofs.Crossing.{session, way, thought, turn, band_mark}
+use Rattle.frame_params.proofs.Crossing.{parked}
 use Rattle.task_board.proofs.Crossing.{board as tasks}
 use Rattle.job_board.specs.contracts.work.Work as Work
 use Rattle.job_board.specs.contracts.works.Works as Works

@@ -3,15 +3,15 @@ use Rattle.std.proofs.Common.{◌≡◌, ◌<◌, ℕ, true, nat_lt, refl, ap, s
 use Rattle.game_rules.specs.Game.{Game}
 use Rattle.job_core.specs.declared.names.JobName.TheVariants.{Logic, Think, Path, Draw}
 use Rattle.job_core.proofs.ByCases.{by_lt}
-use Rattle.frame_params.specs.Names.{FrameOf, PartOf, QuestionOf, frame_of, part_of, question_of, logic_of, think_of}
-use Rattle.frame_params.specs.Contents.{questions_in}
-use Rattle.frame_tasks.specs.declared.task.Task.TheVariants.{Logic as LogicTask, Think as ThinkTask, Path as PathTask, Draw as DrawTask}
-use Rattle.frame_tasks.specs.declared.board_step.BoardStep.TheVariants.{Logic as LogicStep, Think as ThinkStep, Path as PathStep, Draw as DrawStep}
-use Rattle.frame_params.specs.declared.logic_step.LogicStep.TheVariants.{Turned}
-use Rattle.frame_tasks.specs.declared.think_step.ThinkStep.TheVariants.{Ended, Asks}
-use Rattle.job_shelf.specs.Dones.{game_done, job_done, step_done}
-use Rattle.job_shelf.specs.declared.done.Done.{Done}
-use Rattle.job_shelf.specs.declared.done.Done.TheVariants.{Turned as DoneTurned, Thought as DoneThought, Way as DoneWay, Drawn as DoneDrawn}
+use Rattle.frame_state.specs.Names.{FrameOf, PartOf, QuestionOf, frame_of, part_of, question_of, logic_of, think_of}
+use Rattle.frame_state.specs.Contents.{questions_in}
+use Rattle.frame_params.specs.declared.task.Task.TheVariants.{Logic as LogicTask, Think as ThinkTask, Path as PathTask, Draw as DrawTask}
+use Rattle.frame_params.specs.declared.board_step.BoardStep.TheVariants.{Logic as LogicStep, Think as ThinkStep, Path as PathStep, Draw as DrawStep}
+use Rattle.frame_state.specs.declared.logic_step.LogicStep.TheVariants.{Turned}
+use Rattle.frame_params.specs.declared.think_step.ThinkStep.TheVariants.{Ended, Asks}
+use Rattle.job_results.specs.Dones.{game_done, job_done, step_done}
+use Rattle.job_results.specs.declared.done.Done.{Done}
+use Rattle.job_results.specs.declared.done.Done.TheVariants.{Turned as DoneTurned, Thought as DoneThought, Way as DoneWay, Drawn as DoneDrawn}
 use Rattle.job_board.specs.Works.{IsStepAt, IsOver}
 
 is_above : (k : ℕ) → 0 < k → nat_lt 0 k ≡ true

@@ -5,17 +5,17 @@ use Rattle.game_rules.specs.Game.{Game}
 use Rattle.game_session.specs.GameCode.{game_code}
 use Rattle.job_core.specs.declared.names.JobName.{JobName}
 use Rattle.job_core.specs.declared.names.JobName.TheVariants.{Logic, Think}
-use Rattle.frame_params.specs.Names.{QuestionOf}
-use Rattle.frame_params.specs.Contents.{questions_in}
-use Rattle.frame_tasks.specs.Tasks.{IsTaskAt}
-use Rattle.frame_tasks.specs.BoardSteps.{IsToldOf}
-use Rattle.frame_tasks.specs.declared.task.Task.{Task}
-use Rattle.frame_tasks.specs.declared.board_step.BoardStep.{BoardStep}
+use Rattle.frame_state.specs.Names.{QuestionOf}
+use Rattle.frame_state.specs.Contents.{questions_in}
+use Rattle.frame_params.specs.Tasks.{IsTaskAt}
+use Rattle.frame_params.specs.BoardSteps.{IsToldOf}
+use Rattle.frame_params.specs.declared.task.Task.{Task}
+use Rattle.frame_params.specs.declared.board_step.BoardStep.{BoardStep}
 use Rattle.job_core.specs.Core.{Runs, IsLegalList}
 use Rattle.task_board.specs.Boards.{Played, setup_in, state_in}
 use Rattle.task_board.specs.BoardCode.{job_code}
-use Rattle.job_shelf.specs.Dones.{game_done, job_done}
-use Rattle.job_shelf.specs.declared.done.Done.{Done}
+use Rattle.job_results.specs.Dones.{game_done, job_done}
+use Rattle.job_results.specs.declared.done.Done.{Done}
 
 pub record WorkOf : Type 0 where
   pub game : Game

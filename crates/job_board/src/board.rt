@@ -3,20 +3,19 @@ ghost use Rattle.job_core.specs.declared.names.JobName.TheVariants.{Logic, Think
 ghost use Rattle.job_core.specs.declared.names.Event.TheVariants.{Ask, Spread, Hold, Finish, Emit};
 ghost use Rattle.job_core.specs.Core.{Runs, IsLegal, IsLegalList, IsComplete};
 ghost use Rattle.task_board.specs.Boards.{setup_in, state_in, Happens, IsDoneByLogic, IsTaken, IsTakeRefused, GivesJob, IsRefused, IsEmitRefused, IsShown, IsStopped, NoOther};
-ghost use Rattle.frame_tasks.specs.BoardSteps.{IsToldIn};
+ghost use Rattle.frame_params.specs.BoardSteps.{IsToldIn};
 ghost use Rattle.task_board.specs.HandedIn.{IsHandedIn, IsHandInRefused};
-ghost use Rattle.job_shelf.specs.Dones.{game_done, job_done, IsOtherDone};
+ghost use Rattle.job_results.specs.Dones.{game_done, job_done, IsOtherDone};
 ghost use Rattle.task_board.specs.Parked.{IsOtherParked};
 ghost use Rattle.task_board.specs.Given.{NothingToShow, NobodyStarts};
 ghost use Rattle.job_board.specs.Playing.{IsOwn};
 
 use super::works::Works;
-use frame_tasks::{BoardStep, Parked, Task};
+use frame_params::{BoardStep, Parked, Task};
 use game_session::Session;
 use job_core::names::Event;
-use job_log::BoardFault;
-use job_machine::{OutOfMemory, Settings};
-use job_shelf::{Done, Shown};
+use job_results::{Done, Shown};
+use job_scheduler::{BoardFault, OutOfMemory, Settings};
 use std::alloc::Global;
 use std::marker::Model;
 use task_board::{Refused, TaskBoard};

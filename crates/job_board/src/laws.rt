@@ -2,9 +2,9 @@
 ghost use Rattle.std.specs.Prelude.{◌≡◌, false};
 ghost use Rattle.job_core.specs.declared.names.Event.{Event};
 ghost use Rattle.job_core.specs.Core.{IsLegalList, IsComplete};
-ghost use Rattle.job_machine.specs.Numbers.{IsWithinLimits};
-ghost use Rattle.job_log.specs.declared.fault.BoardFault.{BoardFault};
-ghost use Rattle.job_log.specs.declared.fault.BoardFault.TheVariants.{OutOfMemory};
+ghost use Rattle.job_scheduler.specs.Numbers.{IsWithinLimits};
+ghost use Rattle.job_scheduler.specs.declared.board_fault.BoardFault.{BoardFault};
+ghost use Rattle.job_scheduler.specs.declared.board_fault.BoardFault.TheVariants.{OutOfMemory};
 ghost use Rattle.task_board.specs.Boards.{setup_in, state_in};
 ghost use Rattle.job_board.specs.Playing.{Playing, IsOwn, IsApplyRefused, IsEnabled, IsStuck};
 

@@ -10,7 +10,6 @@ mod works;
 
 pub use board::Board;
 pub use job_core::names::{Event, JobName};
-pub use job_log::BoardFault;
-pub use job_machine::{OutOfMemory, Settings, SettingsFault};
-pub use job_shelf::{Done, Shown};
+pub use job_results::{Done, Shown};
+pub use job_scheduler::{BoardFault, OutOfMemory, Settings, SettingsFault};
 pub use task_board::Refused;

@@ -1,15 +1,14 @@
 ghost use Rattle.std.specs.Prelude.{◌≡◌, ◌<◌, true, false, IfOk, IfErr};
 ghost use Rattle.job_core.specs.declared.names.JobName.TheVariants.{Think};
-ghost use Rattle.frame_params.specs.Contents.{questions_in};
-ghost use Rattle.frame_tasks.specs.Tasks.{IsTaskAt};
-ghost use Rattle.job_shelf.specs.Dones.{game_done, job_done};
+ghost use Rattle.frame_state.specs.Contents.{questions_in};
+ghost use Rattle.frame_params.specs.Tasks.{IsTaskAt};
+ghost use Rattle.job_results.specs.Dones.{game_done, job_done};
 
 use bumpalo::Bump;
-use frame_params::LogicStep;
-use frame_tasks::{BoardStep, Parked, Task, ThinkStep};
+use frame_params::{BoardStep, LogicStep, Parked, Task, ThinkStep};
 use game_session::Session;
 use job_core::names::JobName;
-use job_shelf::Done;
+use job_results::Done;
 use std::alloc::{AllocError, Global};
 use std::marker::Model;
 

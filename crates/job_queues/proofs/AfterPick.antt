@@ -3,8 +3,8 @@ use Rattle.std.proofs.Common.{◌≡◌, ℕ, Bool, true, false, if◌then◌els
 use Rattle.job_core.specs.declared.names.JobName.{JobName}
 use Rattle.job_core.specs.Core.{same}
 use Rattle.job_core.proofs.ByCases.{by_eq}
-use Rattle.board_law.specs.Lists.{has, drop_first}
-use Rattle.board_law.specs.Pick.{lane}
+use Rattle.board_model.specs.Lists.{has, drop_first}
+use Rattle.board_model.specs.Pick.{lane}
 use Rattle.job_queues.specs.declared.lane.Lane.{Lane}
 use Rattle.job_queues.specs.declared.pick.Pick.{Pick}
 use Rattle.job_queues.specs.declared.pick.Pick.TheVariants.{Ready, New}

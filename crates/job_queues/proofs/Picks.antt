@@ -3,10 +3,10 @@ use Rattle.std.proofs.Common.{◌≡◌, ℕ, length, Bool, true, false, List, [
 use Rattle.job_core.specs.declared.names.JobName.{JobName}
 use Rattle.job_core.specs.Core.{same}
 use Rattle.job_core.proofs.ByCases.{by_same}
-use Rattle.board_law.specs.Lists.{has, drop_first}
-use Rattle.board_law.specs.Board.{Queues}
-use Rattle.board_law.specs.Pick.{Pick, Ready, New, first_new, lane, pick}
-use Rattle.board_law.proofs.Kit.{by_bool}
+use Rattle.board_model.specs.Lists.{has, drop_first}
+use Rattle.board_model.specs.Board.{Queues}
+use Rattle.board_model.specs.Pick.{Pick, Ready, New, first_new, lane, pick}
+use Rattle.board_model.proofs.Kit.{by_bool}
 
 abbrev or_else : Option Pick → Option Pick → Option Pick
 or_else None other = other

@@ -5,9 +5,9 @@ use Rattle.std.specs.Option.{is_some}
 use Rattle.std.proofs.lemmas.List.Folds.{find_at}
 use Rattle.std.proofs.lemmas.Option.{slice_get-get_or, slice_get_past}
 use borrow.Author.Tests.{ltb-true, ltb-false}
-use Rattle.board_law.specs.Lists.{has, drop_first, change_first}
-use Rattle.board_law.proofs.Kit.{by_bool}
-use Rattle.board_law.proofs.Bridges.{has_is}
+use Rattle.board_model.specs.Lists.{has, drop_first, change_first}
+use Rattle.board_model.proofs.Kit.{by_bool}
+use Rattle.board_model.proofs.Bridges.{has_is}
 use Rattle.job_queues.specs.Places.{IsFirstPlace}
 
 -- `1 + n` is `suc n`

@@ -3,9 +3,9 @@ use Rattle.std.proofs.Common.{◌≡◌, ◌<◌, ◌≤◌, ℕ, zero, suc, ◌
 use Rattle.std.specs.List.{position_or_len}
 use Rattle.std.proofs.lemmas.List.{take-replicate}
 use Rattle.std.proofs.Math.Seq.{take-set-lt}
-use Rattle.board_law.specs.Lists.{tally, write, first_place}
-use Rattle.board_law.proofs.Kit.{by_bool, has_none, tally_not}
-use Rattle.board_law.proofs.Bridges.{write_is, place_is}
+use Rattle.board_model.specs.Lists.{tally, write, first_place}
+use Rattle.board_model.proofs.Kit.{by_bool, has_none, tally_not}
+use Rattle.board_model.proofs.Bridges.{write_is, place_is}
 use Rattle.job_queues.specs.Places.{IsFirstPlace}
 use Rattle.job_queues.proofs.Places.{first_place_found}
 

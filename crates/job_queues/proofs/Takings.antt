@@ -2,7 +2,7 @@
 use Rattle.std.proofs.Common.{◌≡◌, ℕ, Bool, true, false, ◌==◌, refl, sym, ap, ◌∙◌}
 use Rattle.job_core.specs.declared.names.JobName.{JobName}
 use Rattle.job_core.specs.Core.{same}
-use Rattle.board_law.specs.Lists.{has, drop_first, all}
+use Rattle.board_model.specs.Lists.{has, drop_first, all}
 use Rattle.job_queues.specs.declared.lane.Lane.{Lane}
 use Rattle.job_queues.specs.Waiting.{with_fresh, with_ready, without_job, without_fiber}
 use Rattle.job_queues.proofs.Places.{drop_first_none}

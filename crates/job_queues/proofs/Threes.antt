@@ -1,7 +1,7 @@
 -- Lists of three priorities: which list an item is taken from.
 use Rattle.std.proofs.Common.{◌≡◌, Bool, true, false, List, [], ◌∷◌, ◌++◌, if◌then◌else◌, refl, ap, ◌∙◌}
-use Rattle.board_law.specs.Lists.{has, drop_first, Three, all, take_from}
-use Rattle.board_law.proofs.Kit.{by_bool}
+use Rattle.board_model.specs.Lists.{has, drop_first, Three, all, take_from}
+use Rattle.board_model.proofs.Kit.{by_bool}
 
 pub has_append : {X : Type 0} (p : X → Bool) (xs ys : List X) → has p (xs ++ ys) ≡ (if has p xs then true else has p ys)
 has_append p [] ys = refl

@@ -7,7 +7,7 @@ use Rattle.job_core.specs.Core.{same, size_of}
 use Rattle.job_queues.specs.declared.free.Free.{Free}
 use Rattle.job_queues.specs.declared.pick.Pick.{Pick}
 use Rattle.job_queues.specs.declared.pick.Pick.TheVariants.{Ready, New}
-use Rattle.board_law.specs.Lists.{has, drop_first}
+use Rattle.board_model.specs.Lists.{has, drop_first}
 
 abbrev pub free_of : Free → Size → ℕ
 free_of free Small = free.small

@@ -3,8 +3,8 @@ use Rattle.job_queues.specs.declared.priority.Priority.{Priority as CodePriority
 use Rattle.job_queues.specs.declared.priority.Priority.TheVariants as code
 use Rattle.job_queues.specs.declared.pick.Pick.{Pick as CodePick}
 use Rattle.job_queues.specs.declared.pick.Pick.TheVariants as pick
-use Rattle.board_law.specs.Lists.{Priority, High, Normal, Low}
-use Rattle.board_law.specs.Pick.{Pick, Ready, New}
+use Rattle.board_model.specs.Lists.{Priority, High, Normal, Low}
+use Rattle.board_model.specs.Pick.{Pick, Ready, New}
 
 abbrev pub level : CodePriority → Priority
 level code.High = High

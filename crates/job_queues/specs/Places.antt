@@ -1,6 +1,6 @@
 -- The place of the first item of a list that passes a test, in the words of lists.
 use Rattle.std.specs.Prelude.{◌≡◌, ◌<◌, ℕ, Bool, true, false, List, Option, Some, None, length, find, slice_index_or, slice_set, remove}
-use Rattle.board_law.specs.Lists.{has, drop_first, change_first}
+use Rattle.board_model.specs.Lists.{has, drop_first, change_first}
 
 pub record IsFirst {X : Type 0} (p : X → Bool) (xs : List X) (i : ℕ) : Type 0 where
   pub bound : i < length xs

@@ -1,6 +1,6 @@
 -- A pool of fibers: how many of them are small, which are the first, and which are taken.
 use Rattle.std.specs.Prelude.{ℕ, ◌+◌, Bool, false, List, replicate}
-use Rattle.board_law.specs.Lists.{write}
+use Rattle.board_model.specs.Lists.{write}
 
 pub record Pool : Type 0 where
   pub small : ℕ

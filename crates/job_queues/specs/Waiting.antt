@@ -2,8 +2,8 @@
 use Rattle.std.specs.Prelude.{ℕ, ◌==◌}
 use Rattle.job_core.specs.declared.names.JobName.{JobName}
 use Rattle.job_core.specs.Core.{same}
-use Rattle.board_law.specs.Lists.{Three, none, Priority, add, take_from}
-use Rattle.board_law.specs.Board.{Queues, priority_of}
+use Rattle.board_model.specs.Lists.{Three, none, Priority, add, take_from}
+use Rattle.board_model.specs.Board.{Queues, priority_of}
 
 pub record BoundedQueues : Type 0 where
   pub queues : Queues

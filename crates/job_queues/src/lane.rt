@@ -1,8 +1,8 @@
 ghost use Rattle.std.specs.Prelude.{◌≡◌, ◌<◌, ◌≤◌, ◌+◌, ◌++◌, ◌∷◌, [], ◌==◌, true, false, position, option_map, IfOk, OnOk, OnErr, None};
 ghost use Rattle.std.specs.VecDeque.{deque_len, deque_capacity};
 ghost use Rattle.job_core.specs.Core.{same};
-ghost use Rattle.board_law.specs.Lists.{has, drop_first};
-ghost use Rattle.board_law.specs.Pick.{lane};
+ghost use Rattle.board_model.specs.Lists.{has, drop_first};
+ghost use Rattle.board_model.specs.Pick.{lane};
 ghost use Rattle.job_queues.specs.Names.{picked};
 ghost use Rattle.job_queues.specs.Places.{IsFirstPlace};
 ghost use Rattle.job_queues.specs.Lanes.{may_start, IsPickedFrom};

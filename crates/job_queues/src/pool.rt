@@ -1,6 +1,6 @@
 ghost use Rattle.std.specs.Prelude.{◌≡◌, ◌+◌, ◌<◌, ◌≤◌, ◌≢◌, not, true, false, length, slice_get, Some, position, IfOk, IfSome, OnOk, OnErr};
-ghost use Rattle.board_law.specs.Lists.{tally};
-ghost use Rattle.board_law.specs.Board.{part, lowest_in};
+ghost use Rattle.board_model.specs.Lists.{tally};
+ghost use Rattle.board_model.specs.Board.{part, lowest_in};
 ghost use Rattle.job_queues.specs.Pool.{all_free, with_fiber};
 ghost use Rattle.job_core.specs.declared.names.Size.TheVariants.{Small, Large};
 
@@ -29,7 +29,7 @@ pub struct FiberPool {
 
 impl Model for FiberPool {
     ghost use Rattle.std.specs.Prelude.{◌≡◌, ◌≤◌, Bool, List, not, take, drop};
-    ghost use Rattle.board_law.specs.Lists.{tally};
+    ghost use Rattle.board_model.specs.Lists.{tally};
     ghost use Rattle.job_queues.specs.Pool.{Pool};
 
     ghost Value = { Pool };

@@ -1,6 +1,6 @@
 ghost use Rattle.std.specs.Prelude.{◌≡◌};
 ghost use Rattle.job_core.specs.Core.{same};
-ghost use Rattle.board_law.specs.Board.{priority_of};
+ghost use Rattle.board_model.specs.Board.{priority_of};
 ghost use Rattle.job_queues.specs.Names.{level};
 
 use job_core::names::JobName;

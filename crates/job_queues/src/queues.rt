@@ -1,8 +1,8 @@
 ghost use Rattle.std.specs.Prelude.{◌≡◌, ◌<◌, length, ◌==◌, true, false, option_map, IfOk, IfErr, OnOk, OnErr};
 ghost use Rattle.job_core.specs.Core.{same};
-ghost use Rattle.board_law.specs.Lists.{all, has};
-ghost use Rattle.board_law.specs.Board.{put_all};
-ghost use Rattle.board_law.specs.Pick.{pick};
+ghost use Rattle.board_model.specs.Lists.{all, has};
+ghost use Rattle.board_model.specs.Board.{put_all};
+ghost use Rattle.board_model.specs.Pick.{pick};
 ghost use Rattle.job_queues.specs.Names.{level, picked};
 ghost use Rattle.job_queues.specs.Lanes.{may_start, free_fibers};
 ghost use Rattle.job_queues.specs.Waiting.{empty, with_fresh, put_new, put_ready, without_job, without_fiber};

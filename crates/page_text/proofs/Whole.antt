@@ -2,7 +2,7 @@
 use Rattle.std.proofs.Common.{◌≡◌, ◌∙◌, ℕ, List, [], ◌++◌, length, take, drop, refl, sym, ap, ap₂, append_assoc}
 use Rattle.std.specs.Prelude.{OnOk, Result, Ok, Err}
 use Rattle.job_core.specs.declared.names.Event.{Event}
-use Rattle.job_machine.specs.Numbers.{Numbers}
+use Rattle.job_scheduler.specs.Numbers.{Numbers}
 use Rattle.log_text.specs.Text.{log_text_of}
 use Rattle.event_slices.specs.declared.span.FrameSpan.{FrameSpan}
 use Rattle.page_text.specs.Emits.{emits_text}

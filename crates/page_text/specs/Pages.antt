@@ -1,7 +1,7 @@
 -- The text of a page: fixed parts, and between them what it holds.
 use Rattle.std.specs.Prelude.{ℕ, List, ◌++◌, codes, decimal, length, take, drop}
 use Rattle.job_core.specs.declared.names.Event.{Event}
-use Rattle.job_machine.specs.Numbers.{Numbers}
+use Rattle.job_scheduler.specs.Numbers.{Numbers}
 use Rattle.log_text.specs.Text.{log_text_of}
 use Rattle.event_slices.specs.declared.span.FrameSpan.{FrameSpan}
 use Rattle.page_text.specs.Escapes.{escaped}

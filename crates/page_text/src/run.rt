@@ -5,7 +5,7 @@ ghost use Rattle.page_text.specs.Pages.{counts_text, run_text};
 use crate::escaped::push_held;
 use crate::numbers::push_number;
 use job_core::names::Event;
-use job_machine::Settings;
+use job_scheduler::Settings;
 use log_text::write_log;
 use std::alloc::{AllocError, Global};
 

@@ -17,7 +17,7 @@ use Rattle.std.specs.contracts.alloc.Global as global
 use Rattle.run_shared.specs.declared.ledger.RunLedger as run_ledger
 use Rattle.band_mail.proofs.putter.Putter.TheSendSync as putter_crossing
 use Rattle.band_mail.specs.contracts.putter.Putter as putter
-use Rattle.frame_params.proofs.Crossing as params
+use Rattle.frame_state.proofs.Crossing as params
 use Rattle.run_shared.specs.contracts.run_band.RunBand as run_band
 use Rattle.game_session.specs.contracts.session.Session as session
 use Rattle.run_shared.specs.contracts.shared.Shared as shared

@@ -2,7 +2,7 @@
 use Rattle.std.proofs.Common.{◌≡◌, ℕ, List, Option, Some, Ok, refl, sym, subst}
 use Rattle.std.specs.Prelude.{IsSomeAnd}
 use Rattle.game_rules.specs.Game.{Game}
-use Rattle.job_machine.specs.Numbers.{Numbers}
+use Rattle.job_scheduler.specs.Numbers.{Numbers}
 use Rattle.play_run.specs.Plays.{IsPlayed}
 use Rattle.play_run.specs.declared.report.RunReport.{RunReport}
 use Rattle.game_rules.specs.declared.change.Change.{Change}

@@ -7,8 +7,8 @@ use Rattle.level_text.specs.Levels.{spelled, IsFaultOf}
 use Rattle.level_text.specs.Scripts.{script_of}
 use Rattle.level_text.specs.declared.script_file.ScriptFault.TheVariants.{OutOfMemory}
 use Rattle.job_core.specs.Core.{IsComplete}
-use Rattle.job_machine.specs.Numbers.{Numbers}
-use Rattle.frame_params.specs.Contents.{bands_in}
+use Rattle.job_scheduler.specs.Numbers.{Numbers}
+use Rattle.frame_state.specs.Contents.{bands_in}
 use Rattle.run_shared.specs.Counts.{names_worker}
 use Rattle.task_board.specs.Setups.{setup_for}
 use Rattle.run_shared.specs.Printed.{WrotePart}

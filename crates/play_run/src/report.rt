@@ -1,6 +1,6 @@
 ghost use Rattle.std.specs.Prelude.{◌≡◌, ◌*◌, IfOk, IfErr, count_by, sum, Some};
 ghost use Rattle.job_core.specs.Core.{IsComplete};
-ghost use Rattle.frame_params.specs.Contents.{bands_in};
+ghost use Rattle.frame_state.specs.Contents.{bands_in};
 ghost use Rattle.run_shared.specs.Counts.{names_worker};
 ghost use Rattle.task_board.specs.Setups.{setup_for};
 ghost use Rattle.play_run.specs.Reports.{AreStepsOf, AreBandsOf};

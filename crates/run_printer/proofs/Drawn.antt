@@ -12,8 +12,8 @@ use Rattle.game_rules.specs.Text.{text, frame_text}
 use Rattle.draw_list.specs.declared.band.Band.{Band}
 use Rattle.draw_list.specs.Bands.{bands_of, band_count}
 use Rattle.draw_list.proofs.Counting.{count_up-zero, count_up-suc, count_up-append}
-use Rattle.frame_params.specs.Contents.{world_after, signals_in, statuses_in, bands_in, band_in}
-use Rattle.frame_params.proofs.Turning.{height_stays}
+use Rattle.frame_state.specs.Contents.{world_after, signals_in, statuses_in, bands_in, band_in}
+use Rattle.frame_state.proofs.Turning.{height_stays}
 
 -- one band more
 pub one_more : (g : Game) (f n : ℕ) (drawn : List Band) (band : Band) → drawn ≡ map (band_in g f) (count_up 0 n) → band ≡ band_in g f n

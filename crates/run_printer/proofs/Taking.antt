@@ -4,7 +4,7 @@ use Rattle.std.proofs.Common.{◌≡◌, ◌≢◌, ℕ, ◌+◌, ◌<◌, ◌�
 use Rattle.std.proofs.lemmas.List.{get_or-set_other}
 use Rattle.game_rules.specs.Game.{Game}
 use Rattle.draw_list.specs.declared.band.Band.{Band}
-use Rattle.frame_params.specs.Contents.{band_in}
+use Rattle.frame_state.specs.Contents.{band_in}
 use Rattle.run_printer.specs.Tables.{AreAtTheirNumbers, AreFirstBands}
 use Rattle.run_printer.proofs.Drawn.{first_more}
 use Rattle.run_printer.proofs.Places.{some_same}

@@ -4,7 +4,7 @@ use Rattle.std.specs.Prelude.{◌≡◌, ◌≢◌, ◌%◌, ℕ, List, [], Opti
 use Rattle.grid_world.specs.Map.{count_up}
 use Rattle.game_rules.specs.Game.{Game}
 use Rattle.draw_list.specs.declared.band.Band.{Band}
-use Rattle.frame_params.specs.Contents.{band_in}
+use Rattle.frame_state.specs.Contents.{band_in}
 
 -- no bands
 abbrev pub no_bands : (frames bands : ℕ) → List (List (Option ℕ))

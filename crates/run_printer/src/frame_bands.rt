@@ -1,6 +1,6 @@
 ghost use Rattle.std.specs.Prelude.{◌≡◌, ◌≢◌, ◌≤◌, ◌⊎◌, Some, None, replicate, slice_index_or, slice_set, vec_len, IfOk, OnOk, IfSome, IfNone};
 ghost use Rattle.game_rules.specs.Game.{Game};
-ghost use Rattle.frame_params.specs.Contents.{band_in};
+ghost use Rattle.frame_state.specs.Contents.{band_in};
 ghost use Rattle.run_printer.specs.Tables.{with_place, AreFirstBands};
 
 use draw_list::Band;

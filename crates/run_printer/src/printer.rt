@@ -2,7 +2,7 @@ ghost use Rattle.std.specs.Prelude.{◌≡◌, ◌+◌, ◌<◌, IfOk, OnOk, IfE
 ghost use Rattle.std.specs.Io.KnownBytes.{Appends};
 ghost use Rattle.game_rules.specs.Game.{Game};
 ghost use Rattle.game_rules.specs.Text.{frame_text, texts};
-ghost use Rattle.frame_params.specs.Contents.{bands_in};
+ghost use Rattle.frame_state.specs.Contents.{bands_in};
 ghost use Rattle.run_shared.specs.Printed.{WrotePart};
 ghost use Rattle.run_printer.specs.Tables.{AreFirstBands};
 

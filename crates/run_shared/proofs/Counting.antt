@@ -6,17 +6,17 @@ use Rattle.job_core.specs.declared.names.JobName.{JobName}
 use Rattle.job_core.specs.declared.names.JobName.TheVariants.{Logic, Think, Path, Draw}
 use Rattle.job_core.specs.declared.names.Event.{Event}
 use Rattle.job_core.specs.declared.names.Event.TheVariants.{Start, Resume, Ask, Spread, Hold, Finish, Emit, Stop}
-use Rattle.frame_tasks.specs.Tasks.{game_of, job_of, IsTaskAt}
-use Rattle.frame_tasks.specs.declared.task.Task.{Task}
-use Rattle.frame_tasks.specs.declared.task.Task.TheVariants.{Logic as LogicTask, Think as ThinkTask, Path as PathTask, Draw as DrawTask}
+use Rattle.frame_params.specs.Tasks.{game_of, job_of, IsTaskAt}
+use Rattle.frame_params.specs.declared.task.Task.{Task}
+use Rattle.frame_params.specs.declared.task.Task.TheVariants.{Logic as LogicTask, Think as ThinkTask, Path as PathTask, Draw as DrawTask}
 use Rattle.job_core.specs.Core.{Setup, State, IsComplete, after, after_all, opening, state}
-use Rattle.frame_params.specs.Names.{FrameOf}
+use Rattle.frame_state.specs.Names.{FrameOf}
 use Rattle.task_board.specs.Boards.{Played, Happens, IsTaken, IsShown, setup_in}
-use Rattle.frame_tasks.specs.declared.board_step.BoardStep.{BoardStep}
+use Rattle.frame_params.specs.declared.board_step.BoardStep.{BoardStep}
 use Rattle.task_board.specs.HandedIn.{IsHandedIn}
 use Rattle.task_board.proofs.Handing.{IsBy, handed_by}
 use Rattle.run_shared.specs.Counts.{names_worker, is_emit}
-use Rattle.job_machine.specs.Numbers.{Numbers}
+use Rattle.job_scheduler.specs.Numbers.{Numbers}
 use Rattle.task_board.specs.Setups.{setup_for}
 
 -- the run with one event more, of a worker

@@ -10,8 +10,8 @@ use Rattle.std.specs.declared.sync.ledger.Ledger as ledger
 use Rattle.std.specs.contracts.sync.Mutex as lock
 use Rattle.std.specs.contracts.marker.PhantomData as PhantomData
 use Rattle.task_board.proofs.Crossing.{board}
-use Rattle.frame_params.proofs.Crossing.{session, band_out}
-use Rattle.frame_params.specs.contracts.band_out.BandOut as BandOut
+use Rattle.frame_state.proofs.Crossing.{session, band_out}
+use Rattle.frame_state.specs.contracts.band_out.BandOut as BandOut
 use Rattle.band_mail.proofs.mail.BandMail.TheSendSync as mail_crossing
 use Rattle.band_mail.specs.contracts.mail.BandMail as mail
 use Rattle.run_shared.specs.declared.ledger.RunLedger as run_ledger

@@ -5,7 +5,7 @@ use std::sync::ledger::Ledger;
 pub trait RunLedger: Ledger {
     ghost use Rattle.std.specs.Prelude.{Option};
     ghost use Rattle.game_rules.specs.Game.{Game};
-    ghost use Rattle.job_machine.specs.Numbers.{Numbers};
+    ghost use Rattle.job_scheduler.specs.Numbers.{Numbers};
 
     ghost game: { Option Game };
 

@@ -1,7 +1,7 @@
 ghost use Rattle.std.specs.Prelude.{◌≡◌, Some, IfSome, IfNone};
 ghost use Rattle.std.specs.Coded.{Coded-set, coded_option};
 ghost use Rattle.game_session.specs.GameCode.{game_code};
-ghost use Rattle.frame_params.specs.Contents.{band_in};
+ghost use Rattle.frame_state.specs.Contents.{band_in};
 
 use crate::ledger::RunLedger;
 use draw_list::Band;

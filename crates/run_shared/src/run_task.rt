@@ -1,10 +1,10 @@
 ghost use Rattle.std.specs.Prelude.{◌≡◌, Some};
 ghost use Rattle.std.specs.Coded.{Coded-set, coded_option};
 ghost use Rattle.game_session.specs.GameCode.{game_code};
-ghost use Rattle.frame_tasks.specs.Tasks.{game_of};
+ghost use Rattle.frame_params.specs.Tasks.{game_of};
 
 use crate::ledger::RunLedger;
-use frame_tasks::Task;
+use frame_params::Task;
 use std::marker::PhantomData;
 
 /// A task of the run that `L` names: whoever has it knows that it is of this run's game.

@@ -1,8 +1,8 @@
 ghost use Rattle.std.specs.Prelude.{IfOk, IsOk};
-ghost use Rattle.frame_tasks.specs.Tasks.{IsStepOf, IsBeginning};
+ghost use Rattle.frame_params.specs.Tasks.{IsStepOf, IsBeginning};
 
 use bumpalo::Bump;
-use frame_tasks::{Step, Task};
+use frame_params::{Step, Task};
 use std::alloc::{AllocError, Global};
 
 /// A worker's own arena, which each of its jobs finds empty. It can't leave the thread that made it.

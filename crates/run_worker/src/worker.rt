@@ -2,8 +2,8 @@ ghost use Rattle.std.specs.Prelude.{◌≡◌, ◌+◌, ◌<◌, IfOk, MatchResu
 ghost use Rattle.std.specs.Coded.{Coded-set, coded_option};
 ghost use Rattle.game_session.specs.GameCode.{game_code};
 ghost use Rattle.band_mail.specs.Mails.{IsPutterOf, with_put};
-ghost use Rattle.frame_tasks.specs.BoardSteps.{IsToldIn};
-ghost use Rattle.frame_tasks.specs.Tasks.{game_of};
+ghost use Rattle.frame_params.specs.BoardSteps.{IsToldIn};
+ghost use Rattle.frame_params.specs.Tasks.{game_of};
 ghost use Rattle.run_worker.specs.Own.{IsWorkIn};
 ghost use Rattle.run_worker.specs.declared.delivered.Delivered.TheVariants.{Told, Stopped};
 
@@ -12,7 +12,7 @@ use crate::gate::Gate;
 use crate::given::Given;
 use crate::scratch::Scratch;
 use band_mail::Putter;
-use frame_tasks::{BoardStep, Step, Task};
+use frame_params::{BoardStep, Step, Task};
 use game_session::Session;
 use run_shared::{Cause, RunBand, RunLedger, RunTask, Shared, Worked};
 use std::alloc::Global;

@@ -2,8 +2,8 @@
 use Rattle.std.proofs.Common.{ℕ, Result, Ok, Err, OnOk, IfErr, inr}
 use Rattle.job_core.specs.declared.names.JobName.TheVariants.{Logic}
 use Rattle.job_core.specs.declared.names.Event.TheVariants.{Spread, Hold}
-use Rattle.job_log.specs.declared.fault.BoardFault.{BoardFault}
-use Rattle.job_log.specs.declared.fault.BoardFault.TheVariants.{Illegal}
+use Rattle.job_scheduler.specs.declared.board_fault.BoardFault.{BoardFault}
+use Rattle.job_scheduler.specs.declared.board_fault.BoardFault.TheVariants.{Illegal}
 use Rattle.task_board.specs.Boards.{Played, IsDoneByLogic, IsRefused, NoOther}
 use Rattle.task_board.specs.HandedIn.{HasBegun, IsBeginRefused}
 

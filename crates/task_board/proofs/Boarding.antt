@@ -11,28 +11,28 @@ use Rattle.job_core.proofs.Moves.{shape_of}
 use Rattle.bt_nodes.specs.Sizes.{size}
 use Rattle.game_rules.proofs.Ways.{few}
 use Rattle.game_jobs.specs.Instance.{asked_in, tree_of}
-use Rattle.job_log.specs.Logged.{Logged, setup_of, IsNext, IsNextOn, IsNextAt, with_event as jobs_with_event}
-use Rattle.job_log.specs.Looks.{Always, IsIdleOr, IsNotRunning, IsToShow}
-use Rattle.job_log.specs.declared.fault.BoardFault.{BoardFault}
-use Rattle.job_log.specs.declared.fault.BoardFault.TheVariants.{Stopped, NoWorker, Busy, NotRunning, WrongResult, Illegal, OutOfMemory}
+use Rattle.job_scheduler.specs.Logged.{Logged, setup_of, IsNext, IsNextOn, IsNextAt, with_event as jobs_with_event}
+use Rattle.job_scheduler.specs.Looks.{Always, IsIdleOr, IsNotRunning, IsToShow}
+use Rattle.job_scheduler.specs.declared.board_fault.BoardFault.{BoardFault}
+use Rattle.job_scheduler.specs.declared.board_fault.BoardFault.TheVariants.{Stopped, NoWorker, Busy, NotRunning, WrongResult, Illegal, OutOfMemory}
 use Rattle.job_core.specs.declared.names.JobName.{JobName}
 use Rattle.job_core.specs.declared.names.JobName.TheVariants.{Logic, Think, Path, Draw}
 use Rattle.job_core.specs.declared.names.Event.TheVariants.{Start, Resume, Ask, Spread, Hold, Finish, Emit}
-use Rattle.board_law.specs.Lists.{first_place}
-use Rattle.board_law.specs.Board.{Held, core_of, holds}
-use Rattle.board_law.specs.Pick.{New}
-use Rattle.frame_tasks.specs.Tasks.{IsTaskAt}
-use Rattle.frame_tasks.specs.declared.task.Task.{Task}
+use Rattle.board_model.specs.Lists.{first_place}
+use Rattle.board_model.specs.Board.{Held, core_of, holds}
+use Rattle.board_model.specs.Pick.{New}
+use Rattle.frame_params.specs.Tasks.{IsTaskAt}
+use Rattle.frame_params.specs.declared.task.Task.{Task}
 use Rattle.task_board.specs.Boards.{Played, jobs_of, setup_in, state_in, with_event, Happens, IsStart, IsResume, Starts, Resumes, IsOn, IsBeginning, NeedsBeginning, IsRefused, IsTakeRefused, IsEmitRefused, NoOther, IsBoard}
-use Rattle.frame_params.specs.Names.{QuestionOf}
-use Rattle.frame_params.specs.Contents.{questions_in, seen, memory_before, world_after, memories_after}
-use Rattle.job_shelf.specs.Dones.{game_done, job_done, IsOtherDone, IsDoneAt}
-use Rattle.job_shelf.specs.declared.done.Done.{Done}
-use Rattle.job_shelf.specs.declared.done.Done.TheVariants.{Turned, Thought, Way, Drawn}
-use Rattle.board_law.specs.Stored.{store}
-use Rattle.board_law.specs.Needed.{HasParts, IsThere}
-use Rattle.job_machine.specs.Numbers.{IsWithinLimits}
-use Rattle.job_shelf.specs.Shelf.{Shelved, Stores, sizes}
+use Rattle.frame_state.specs.Names.{QuestionOf}
+use Rattle.frame_state.specs.Contents.{questions_in, seen, memory_before, world_after, memories_after}
+use Rattle.job_results.specs.Dones.{game_done, job_done, IsOtherDone, IsDoneAt}
+use Rattle.job_results.specs.declared.done.Done.{Done}
+use Rattle.job_results.specs.declared.done.Done.TheVariants.{Turned, Thought, Way, Drawn}
+use Rattle.board_model.specs.Stored.{store}
+use Rattle.board_model.specs.Needed.{HasParts, IsThere}
+use Rattle.job_scheduler.specs.Numbers.{IsWithinLimits}
+use Rattle.job_results.specs.Shelf.{Shelved, Stores, sizes}
 use Rattle.task_board.proofs.Sized.{shelf_of, there_of, stored_next}
 use Rattle.task_board.specs.Given.{MayBeTakenUp}
 use Rattle.task_board.specs.Parked.{IsOtherParked}

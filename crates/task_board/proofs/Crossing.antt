@@ -2,10 +2,10 @@
 use denote.Ref.{NamedLft}
 use denote.Param.Send.{IsSend, sendable}
 use Rattle.std.proofs.Crossing.{crosses}
-use Rattle.job_log.proofs.jobs.JobLog.TheSendSync.{the_send as job_log}
-use Rattle.frame_params.proofs.Crossing.{session}
-use Rattle.job_shelf.proofs.Crossing.{shelf}
+use Rattle.job_scheduler.proofs.jobs.JobLog.TheSendSync.{the_send as job_scheduler}
+use Rattle.frame_state.proofs.Crossing.{session}
+use Rattle.job_results.proofs.Crossing.{shelf}
 use Rattle.task_board.specs.contracts.board.TaskBoard as TaskBoard
 
 pub board : (κ : NamedLft) → IsSend (TaskBoard.the_row κ)
-board κ = search (session, shelf, job_log, sendable, crosses) depth 40
+board κ = search (session, shelf, job_scheduler, sendable, crosses) depth 40

@@ -4,18 +4,18 @@ use Rattle.game_rules.specs.Game.{Game}
 use Rattle.job_core.specs.declared.names.JobName.{JobName}
 use Rattle.job_core.specs.Core.{IsReady, IsLegalList}
 use Rattle.job_core.specs.Priorities.{GoesFirst}
-use Rattle.board_law.specs.Lists.{first_place}
-use Rattle.board_law.specs.Board.{core_of, holds}
-use Rattle.board_law.specs.Pick.{Ready, New, given}
-use Rattle.board_law.proofs.Priorities.{new_is_first, resume_is_first}
-use Rattle.frame_tasks.specs.Tasks.{IsTaskAt}
-use Rattle.frame_tasks.specs.declared.task.Task.{Task}
-use Rattle.job_log.specs.Logged.{Logged, setup_of, kept}
-use Rattle.job_log.specs.Looks.{Always, IsGivenTo, IsPlace, as_pick}
-use Rattle.job_log.specs.declared.next.Next.{Next}
-use Rattle.job_log.specs.declared.next.Next.TheVariants as next
-use Rattle.job_log.specs.declared.fault.BoardFault.TheVariants.{OutOfMemory}
-use Rattle.job_shelf.specs.Shelf.{Shelved}
+use Rattle.board_model.specs.Lists.{first_place}
+use Rattle.board_model.specs.Board.{core_of, holds}
+use Rattle.board_model.specs.Pick.{Ready, New, given}
+use Rattle.board_model.proofs.Priorities.{new_is_first, resume_is_first}
+use Rattle.frame_params.specs.Tasks.{IsTaskAt}
+use Rattle.frame_params.specs.declared.task.Task.{Task}
+use Rattle.job_scheduler.specs.Logged.{Logged, setup_of, kept}
+use Rattle.job_scheduler.specs.Looks.{Always, IsGivenTo, IsPlace, as_pick}
+use Rattle.job_scheduler.specs.declared.next.Next.{Next}
+use Rattle.job_scheduler.specs.declared.next.Next.TheVariants as next
+use Rattle.job_scheduler.specs.declared.board_fault.BoardFault.TheVariants.{OutOfMemory}
+use Rattle.job_results.specs.Shelf.{Shelved}
 use Rattle.task_board.specs.Boards.{Played, setup_in, state_in, pick_in, Happens, IsBoard, IsTaken, IsTakeRefused}
 use Rattle.task_board.specs.Found.{IsFound, event_of, job_next, step_next}
 use Rattle.task_board.specs.Given.{MayBeTakenUp}

@@ -3,10 +3,10 @@ use Rattle.std.proofs.Common.{◌≡◌, ℕ, refl, ⊎_elim}
 use Rattle.job_core.specs.declared.names.JobName.TheVariants.{Logic as LogicJob, Think as ThinkJob, Path as PathJob, Draw as DrawJob}
 use Rattle.job_core.specs.declared.names.Event.{Event}
 use Rattle.job_core.specs.declared.names.Event.TheVariants.{Start, Resume, Ask, Spread, Hold, Finish, Emit, Stop}
-use Rattle.frame_tasks.specs.declared.board_step.BoardStep.{BoardStep}
-use Rattle.frame_tasks.specs.declared.board_step.BoardStep.TheVariants.{Logic, Think, Path, Draw}
-use Rattle.frame_params.specs.declared.logic_step.LogicStep.TheVariants.{Begins, Turned}
-use Rattle.frame_tasks.specs.declared.think_step.ThinkStep.TheVariants.{Ended, Asks}
+use Rattle.frame_params.specs.declared.board_step.BoardStep.{BoardStep}
+use Rattle.frame_params.specs.declared.board_step.BoardStep.TheVariants.{Logic, Think, Path, Draw}
+use Rattle.frame_state.specs.declared.logic_step.LogicStep.TheVariants.{Begins, Turned}
+use Rattle.frame_params.specs.declared.think_step.ThinkStep.TheVariants.{Ended, Asks}
 use Rattle.task_board.specs.Boards.{Played, Happens}
 use Rattle.task_board.specs.HandedIn.{IsHandedIn}
 

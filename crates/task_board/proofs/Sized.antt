@@ -3,11 +3,11 @@ use Rattle.std.proofs.Common.{◌≡◌, ◌<◌, ◌++◌, ℕ, [], ◌∷◌, 
 use Rattle.job_core.specs.declared.names.JobName.{JobName}
 use Rattle.job_core.specs.declared.names.Event.{Event}
 use Rattle.job_core.specs.Core.{IsLegal, IsLegalList}
-use Rattle.board_law.specs.Stored.{store, stored_after}
-use Rattle.board_law.specs.Needed.{HasParts, IsThere}
-use Rattle.board_law.proofs.Stores.{needed_is_there, places_are, stored_more}
-use Rattle.job_shelf.specs.Shelf.{Shelved, sizes}
-use Rattle.job_shelf.proofs.SameSizes.{same_parts, same_store, same_there}
+use Rattle.board_model.specs.Stored.{store, stored_after}
+use Rattle.board_model.specs.Needed.{HasParts, IsThere}
+use Rattle.board_model.proofs.Stores.{needed_is_there, places_are, stored_more}
+use Rattle.job_results.specs.Shelf.{Shelved, sizes}
+use Rattle.job_results.proofs.SameSizes.{same_parts, same_store, same_there}
 use Rattle.task_board.specs.Boards.{Played, setup_in, state_in}
 
 abbrev pub shelf_of : Played → Shelved

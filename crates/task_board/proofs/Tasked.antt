@@ -3,9 +3,9 @@ use Rattle.std.proofs.Common.{◌≡◌, ℕ, ap}
 use Rattle.game_rules.specs.Game.{Game}
 use Rattle.job_core.specs.declared.names.JobName.{JobName}
 use Rattle.job_core.specs.declared.names.JobName.TheVariants.{Logic, Think, Path, Draw}
-use Rattle.frame_tasks.specs.Tasks.{job_of, IsTaskAt}
-use Rattle.frame_tasks.specs.declared.task.Task.{Task}
-use Rattle.frame_tasks.specs.declared.task.Task.TheVariants.{Logic as LogicTask, Think as ThinkTask, Path as PathTask, Draw as DrawTask}
+use Rattle.frame_params.specs.Tasks.{job_of, IsTaskAt}
+use Rattle.frame_params.specs.declared.task.Task.{Task}
+use Rattle.frame_params.specs.declared.task.Task.TheVariants.{Logic as LogicTask, Think as ThinkTask, Path as PathTask, Draw as DrawTask}
 
 pub job_is : (g : Game) (j : JobName) (step : ℕ) (task : Task) → IsTaskAt g j step task → job_of task ≡ j
 job_is g (Logic f) step (LogicTask l) e = ap (λ x. Logic x.frame) e

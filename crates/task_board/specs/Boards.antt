@@ -8,19 +8,19 @@ use Rattle.job_core.specs.declared.names.Event.TheVariants.{Start, Resume, Emit,
 use Rattle.job_core.specs.Core.{Setup, State, Runs, Waits, IsIdle, IsLegal, IsLegalList, state}
 use Rattle.job_core.specs.Priorities.{GoesFirst}
 use Rattle.game_jobs.specs.Instance.{asked_in}
-use Rattle.board_law.specs.Lists.{first_place}
-use Rattle.board_law.specs.Board.{Held, core_of, holds}
-use Rattle.board_law.specs.Pick.{Pick, Ready, New, given}
-use Rattle.frame_params.specs.Names.{FrameOf}
-use Rattle.frame_params.specs.Contents.{bands_in}
-use Rattle.frame_tasks.specs.Tasks.{job_of, IsTaskAt}
-use Rattle.frame_tasks.specs.declared.task.Task.{Task}
-use Rattle.board_law.specs.Stored.{stored_after}
-use Rattle.job_machine.specs.Numbers.{Numbers, IsWithinLimits}
-use Rattle.job_log.specs.Logged.{Logged, setup_of}
-use Rattle.job_log.specs.declared.fault.BoardFault.{BoardFault}
-use Rattle.job_shelf.specs.Shelf.{Shelved}
-use Rattle.job_log.specs.declared.fault.BoardFault.TheVariants.{Stopped, NoWorker, Busy, NotRunning, WrongResult, Illegal, OutOfMemory}
+use Rattle.board_model.specs.Lists.{first_place}
+use Rattle.board_model.specs.Board.{Held, core_of, holds}
+use Rattle.board_model.specs.Pick.{Pick, Ready, New, given}
+use Rattle.frame_state.specs.Names.{FrameOf}
+use Rattle.frame_state.specs.Contents.{bands_in}
+use Rattle.frame_params.specs.Tasks.{job_of, IsTaskAt}
+use Rattle.frame_params.specs.declared.task.Task.{Task}
+use Rattle.board_model.specs.Stored.{stored_after}
+use Rattle.job_scheduler.specs.Numbers.{Numbers, IsWithinLimits}
+use Rattle.job_scheduler.specs.Logged.{Logged, setup_of}
+use Rattle.job_scheduler.specs.declared.board_fault.BoardFault.{BoardFault}
+use Rattle.job_results.specs.Shelf.{Shelved}
+use Rattle.job_scheduler.specs.declared.board_fault.BoardFault.TheVariants.{Stopped, NoWorker, Busy, NotRunning, WrongResult, Illegal, OutOfMemory}
 
 -- the game, the numbers of the run, and the events so far
 pub record Played : Type 0 where

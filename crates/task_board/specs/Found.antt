@@ -3,8 +3,8 @@ use Rattle.std.specs.Prelude.{ℕ, zero}
 use Rattle.job_core.specs.declared.names.JobName.{JobName}
 use Rattle.job_core.specs.declared.names.Event.{Event}
 use Rattle.job_core.specs.declared.names.Event.TheVariants.{Start as StartEvent, Resume as ResumeEvent}
-use Rattle.job_log.specs.declared.next.Next.{Next}
-use Rattle.job_log.specs.declared.next.Next.TheVariants.{Start, Resume}
+use Rattle.job_scheduler.specs.declared.next.Next.{Next}
+use Rattle.job_scheduler.specs.declared.next.Next.TheVariants.{Start, Resume}
 use Rattle.task_board.specs.Boards.{Played, IsStart, IsResume}
 
 abbrev pub job_next : Next → JobName

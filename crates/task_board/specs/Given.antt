@@ -5,9 +5,9 @@ use Rattle.job_core.specs.declared.names.Event.{Event}
 use Rattle.job_core.specs.declared.names.Event.TheVariants.{Start, Resume, Emit}
 use Rattle.job_core.specs.Core.{Waits, IsIdle, IsLegal}
 use Rattle.job_core.specs.Priorities.{GoesFirst}
-use Rattle.board_law.specs.Lists.{first_place}
-use Rattle.board_law.specs.Board.{core_of, holds}
-use Rattle.board_law.specs.Pick.{Ready, New}
+use Rattle.board_model.specs.Lists.{first_place}
+use Rattle.board_model.specs.Board.{core_of, holds}
+use Rattle.board_model.specs.Pick.{Ready, New}
 use Rattle.task_board.specs.Boards.{Played, setup_in, state_in, pick_in}
 
 -- a worker may start the job, or go on with it where it stands

@@ -3,16 +3,16 @@ use Rattle.std.specs.Prelude.{◌≡◌, ℕ, ◌⊎◌}
 use Rattle.job_core.specs.declared.names.JobName.TheVariants.{Logic, Think, Path, Draw}
 use Rattle.job_core.specs.declared.names.Event.TheVariants.{Ask, Spread, Hold, Finish}
 use Rattle.job_core.specs.Core.{Runs}
-use Rattle.frame_tasks.specs.declared.board_step.BoardStep.{BoardStep}
-use Rattle.frame_tasks.specs.declared.board_step.BoardStep.TheVariants.{Logic as LogicStep, Think as ThinkStep, Path as PathStep, Draw as DrawStep}
-use Rattle.frame_params.specs.declared.logic_step.LogicStep.TheVariants.{Begins, Turned}
-use Rattle.frame_tasks.specs.declared.think_step.ThinkStep.TheVariants.{Ended, Asks}
-use Rattle.job_log.specs.declared.fault.BoardFault.{BoardFault}
-use Rattle.job_log.specs.declared.fault.BoardFault.TheVariants.{Illegal}
+use Rattle.frame_params.specs.declared.board_step.BoardStep.{BoardStep}
+use Rattle.frame_params.specs.declared.board_step.BoardStep.TheVariants.{Logic as LogicStep, Think as ThinkStep, Path as PathStep, Draw as DrawStep}
+use Rattle.frame_state.specs.declared.logic_step.LogicStep.TheVariants.{Begins, Turned}
+use Rattle.frame_params.specs.declared.think_step.ThinkStep.TheVariants.{Ended, Asks}
+use Rattle.job_scheduler.specs.declared.board_fault.BoardFault.{BoardFault}
+use Rattle.job_scheduler.specs.declared.board_fault.BoardFault.TheVariants.{Illegal}
 use Rattle.task_board.specs.Boards.{Played, state_in, Happens, IsDoneByLogic, IsRefused, NoOther}
-use Rattle.job_shelf.specs.Dones.{IsOtherDone}
+use Rattle.job_results.specs.Dones.{IsOtherDone}
 use Rattle.task_board.specs.Parked.{IsOtherParked}
-use Rattle.job_shelf.specs.declared.done.Done.TheVariants.{Turned as TurnedDone, Thought as ThoughtDone, Way as WayDone, Drawn as DrawnDone}
+use Rattle.job_results.specs.declared.done.Done.TheVariants.{Turned as TurnedDone, Thought as ThoughtDone, Way as WayDone, Drawn as DrawnDone}
 
 -- a frame that begins has spread, or holds
 abbrev pub HasBegun : (old new : Played) → ℕ → Type 0

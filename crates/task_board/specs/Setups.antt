@@ -3,7 +3,7 @@ use Rattle.game_rules.specs.Game.{Game}
 use Rattle.job_core.specs.Core.{Setup}
 use Rattle.game_jobs.specs.Instance.{setup}
 use Rattle.draw_list.specs.Bands.{band_count}
-use Rattle.job_machine.specs.Numbers.{Numbers}
+use Rattle.job_scheduler.specs.Numbers.{Numbers}
 
 -- the jobs of a game's frames under these numbers
 abbrev pub setup_for : Game → Numbers → Setup

@@ -1,13 +1,13 @@
 ghost use Rattle.std.specs.Prelude.{◌≡◌, ◌<◌, ◌⊎◌, true, false, ◌↔◌, IsTrue};
 ghost use Rattle.job_core.specs.declared.names.JobName.TheVariants.{Think};
-ghost use Rattle.frame_params.specs.Contents.{questions_in};
-ghost use Rattle.job_shelf.specs.Dones.{job_done};
+ghost use Rattle.frame_state.specs.Contents.{questions_in};
+ghost use Rattle.job_results.specs.Dones.{job_done};
 
-use frame_tasks::Parked;
+use frame_params::Parked;
 use job_core::names::JobName;
-use job_machine::Held;
 use job_queues::is_same;
-use job_shelf::Done;
+use job_results::Done;
+use job_scheduler::Held;
 
 // Whether it is the end of this job.
 pub(crate) fn is_of(done: &Done, job: JobName) -> bool

@@ -1,16 +1,15 @@
 ghost use Rattle.std.specs.Prelude.{◌≡◌, IfErr, OnOk, OnErr};
 ghost use Rattle.job_core.specs.declared.names.Event.TheVariants.{Finish};
 ghost use Rattle.task_board.specs.Boards.{Happens, IsRefused};
-ghost use Rattle.job_shelf.specs.Dones.{game_done, job_done, step_done, IsOtherDone};
-ghost use Rattle.frame_tasks.specs.BoardSteps.{IsToldIn};
+ghost use Rattle.job_results.specs.Dones.{game_done, job_done, step_done, IsOtherDone};
+ghost use Rattle.frame_params.specs.BoardSteps.{IsToldIn};
 ghost use Rattle.task_board.specs.HandedIn.{HasBegun, IsBeginRefused, IsHandedIn, IsHandInRefused};
 
 use super::board::TaskBoard;
 use super::refused::Refused;
-use frame_params::LogicStep;
-use frame_tasks::{BoardStep, ThinkStep};
-use job_log::BoardFault;
-use job_shelf::{Done, Spent};
+use frame_params::{BoardStep, LogicStep, ThinkStep};
+use job_results::{Done, Spent};
+use job_scheduler::BoardFault;
 
 impl<'t> TaskBoard<'t> {
     /// Hands in what a worker's task came to: a frame that begins is spread, or held where it has no slot; a Think that

@@ -11,7 +11,6 @@ mod results;
 
 pub use board::TaskBoard;
 pub use job_core::names::{Event, JobName};
-pub use job_log::BoardFault;
-pub use job_machine::{OutOfMemory, Settings, SettingsFault};
-pub use job_shelf::{Done, Shown, Spent};
+pub use job_results::{Done, Shown, Spent};
+pub use job_scheduler::{BoardFault, OutOfMemory, Settings, SettingsFault};
 pub use refused::Refused;

@@ -1,17 +1,17 @@
 ghost use Rattle.std.specs.Prelude.{◌≡◌, ℕ, ◌≤◌, ◌+◌, None, IfOk, IfSome, OnOk, OnErr, true, false, ◌↔◌, IsTrue};
 ghost use Rattle.job_core.specs.declared.names.Event.TheVariants.{Start, Resume, Emit};
 ghost use Rattle.job_core.specs.Core.{Runs, Waits, IsLegal};
-ghost use Rattle.frame_tasks.specs.Tasks.{IsTaskAt};
-ghost use Rattle.board_law.specs.Lists.{first_place};
-ghost use Rattle.board_law.specs.Board.{core_of, holds};
+ghost use Rattle.frame_params.specs.Tasks.{IsTaskAt};
+ghost use Rattle.board_model.specs.Lists.{first_place};
+ghost use Rattle.board_model.specs.Board.{core_of, holds};
 ghost use Rattle.task_board.specs.Boards.{setup_in, state_in, Happens};
 ghost use Rattle.task_board.specs.Given.{MayBeTakenUp, NothingToShow};
 
 use super::board::TaskBoard;
-use frame_tasks::Task;
+use frame_params::Task;
 use job_core::names::JobName;
-use job_machine::{Fiber, Held, OutOfMemory};
 use job_queues::is_same;
+use job_scheduler::{Fiber, Held, OutOfMemory};
 
 // What is done for a given event, where it is legal.
 impl<'t> TaskBoard<'t> {

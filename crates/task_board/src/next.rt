@@ -5,7 +5,7 @@ ghost use Rattle.task_board.specs.Given.{AllBusy, IsGiven, NobodyStarts};
 
 use super::board::TaskBoard;
 use job_core::names::Event;
-use job_log::Next;
+use job_scheduler::Next;
 
 // What comes next, of a board that is not stopped. None of these takes memory.
 impl<'t> TaskBoard<'t> {

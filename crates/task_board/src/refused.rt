@@ -1,4 +1,4 @@
-use job_log::BoardFault;
+use job_scheduler::BoardFault;
 
 /// A value that was handed in and comes back, and why.
 #[derive(Drop)]

@@ -2,17 +2,17 @@ ghost use Rattle.std.specs.Prelude.{◌≡◌, IfOk, IfErr, OnOk, OnErr};
 ghost use Rattle.job_core.specs.declared.names.JobName.TheVariants.{Think};
 ghost use Rattle.job_core.specs.declared.names.Event.TheVariants.{Ask, Finish};
 ghost use Rattle.job_core.specs.Core.{Runs, IsLegal};
-ghost use Rattle.job_log.specs.declared.fault.BoardFault.TheVariants.{OutOfMemory};
+ghost use Rattle.job_scheduler.specs.declared.board_fault.BoardFault.TheVariants.{OutOfMemory};
 ghost use Rattle.task_board.specs.Boards.{setup_in, state_in, Happens, IsRefused, IsEmitRefused, IsShown, IsStopped};
-ghost use Rattle.job_shelf.specs.Dones.{game_done, job_done, IsOtherDone};
+ghost use Rattle.job_results.specs.Dones.{game_done, job_done, IsOtherDone};
 ghost use Rattle.task_board.specs.Parked.{IsOtherParked};
 
 use super::board::TaskBoard;
 use super::fitting::{is_of, is_parked_at};
 use super::refused::Refused;
-use frame_tasks::Parked;
-use job_log::BoardFault;
-use job_shelf::{Done, Shown, next_of};
+use frame_params::Parked;
+use job_results::{Done, Shown, next_of};
+use job_scheduler::BoardFault;
 
 // The calls that hand a result in, and those that hand one out.
 impl<'t> TaskBoard<'t> {

@@ -3,7 +3,7 @@ use Rattle.std.specs.Prelude.{ℕ, zero, suc, ◌+◌, ◌-◌, List, [], ◌∷
 use Rattle.std.specs.List.{flat_map}
 use Rattle.job_core.specs.declared.names.Event.{Event}
 use Rattle.job_core.specs.declared.names.Event.TheVariants.{Emit}
-use Rattle.job_machine.specs.Numbers.{Numbers}
+use Rattle.job_scheduler.specs.Numbers.{Numbers}
 use Rattle.event_slices.specs.declared.slice.Slice.{Slice}
 use Rattle.event_slices.specs.declared.span.FrameSpan.{FrameSpan}
 use Rattle.event_slices.specs.Slices.{slices_of}

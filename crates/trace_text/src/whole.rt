@@ -7,7 +7,7 @@ use crate::lanes::push_lanes;
 use crate::slices::push_slices;
 use event_slices::{FrameSpan, Slice, slices_of};
 use job_core::names::Event;
-use job_machine::Settings;
+use job_scheduler::Settings;
 use std::alloc::{AllocError, Global};
 
 const HEAD: &str =

@@ -7,7 +7,7 @@ use Rattle.byte_streams.specs.Streams.{AppendsPart}
 use Rattle.game_rules.specs.Game.{Game}
 use Rattle.job_core.specs.declared.names.Event.{Event}
 use Rattle.job_core.specs.Core.{IsLegalList}
-use Rattle.job_machine.specs.Numbers.{Numbers}
+use Rattle.job_scheduler.specs.Numbers.{Numbers}
 use Rattle.log_text.specs.Readings.{IsLog}
 use Rattle.task_board.specs.Setups.{setup_for}
 use Rattle.replay_log.specs.Replays.{IsIllegalAt, emits}

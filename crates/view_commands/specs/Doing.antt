@@ -3,7 +3,7 @@ use Rattle.std.specs.Prelude.{ℕ, ◌≡◌, ◌⊎◌, List, Option}
 use Rattle.std.specs.Io.KnownBytes.{Appends, Keeps}
 use Rattle.byte_streams.specs.Streams.{AppendsPart}
 use Rattle.job_core.specs.declared.names.Event.{Event}
-use Rattle.job_machine.specs.Numbers.{Numbers}
+use Rattle.job_scheduler.specs.Numbers.{Numbers}
 use Rattle.log_text.specs.Readings.{IsLog}
 use Rattle.event_slices.specs.declared.span.FrameSpan.{FrameSpan}
 use Rattle.trace_text.specs.Trace.{trace_of}

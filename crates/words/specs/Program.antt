@@ -6,7 +6,7 @@ use Rattle.clap.specs.declared.error.kind.ErrorKind.TheVariants as kinds
 use Rattle.clap.specs.Simple.{on_top}
 use Rattle.clap.specs.declared.builder.value_parser.ValueParser.{ValueParser}
 use Rattle.clap.specs.declared.builder.value_parser.ValueParser.TheVariants as parsers
-use Rattle.job_machine.specs.Numbers.{Numbers}
+use Rattle.job_scheduler.specs.Numbers.{Numbers}
 use Rattle.words.specs.declared.fault.WordsFault.{WordsFault}
 use Rattle.words.specs.declared.fault.WordsFault.TheVariants.{Help}
 use Rattle.words.specs.declared.request.Words.{Words}

@@ -11,7 +11,7 @@ use crate::request::Words;
 use crate::table::{SUBCOMMANDS, Subcommand};
 use clap::error::ErrorKind;
 use clap::{ArgMatches, Error};
-use job_machine::Settings;
+use job_scheduler::Settings;
 use std::alloc::Global;
 
 /// What is said of words of these commands for which clap answers an error: its text, or that of its help. A number below 0

@@ -1,4 +1,4 @@
-use job_machine::Settings;
+use job_scheduler::Settings;
 
 /// What the words ask for. Each text but the settings is the path of a file.
 #[derive(Debug, Drop)]

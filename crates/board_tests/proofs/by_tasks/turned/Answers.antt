@@ -1,6 +1,6 @@
 use Rattle.std.proofs.Common.{ℕ, ◌≡◌, ◌∷◌, [], ◌∙◌, ap, sym, subst, map}
 use Rattle.grid_world.specs.Map.{count_up}
-use Rattle.frame_params.specs.Names.{PartOf, QuestionOf, part_of}
+use Rattle.frame_state.specs.Names.{PartOf, QuestionOf, part_of}
 use Rattle.board_tests.proofs.by_tasks.turned.Goals as goal
 
 -- one agent, so one thought

@@ -1,4 +1,4 @@
-use Rattle.board_law.specs.Board.{has_key}
+use Rattle.board_model.specs.Board.{has_key}
 use Rattle.job_queues.proofs.Places.{first_place_found}
 use Rattle.counters.specs.Keys.{counter_of}
 use Rattle.counters.proofs.counters.place.Goals as goal

@@ -1,6 +1,6 @@
 use Rattle.std.proofs.Common.{◌≡◌, ◌∙◌, Some, unwrap_or, sym, ap}
 use Rattle.counters.specs.Keys.{counter_of}
-use Rattle.board_law.specs.Board.{with_waiter}
+use Rattle.board_model.specs.Board.{with_waiter}
 use Rattle.counters.specs.declared.counters.CounterFault.TheVariants.{OutOfMemory}
 use Rattle.counters.specs.Rows.{left_in}
 use Rattle.counters.specs.Faults.{absent_fault}

@@ -1,5 +1,5 @@
 use Rattle.std.proofs.Common.{◌≡◌, ◌≤◌, ◌<◌, ◌+◌, ◌-◌, ℕ, Bool, List, not, true, false, Some, length, length-take, length-drop, slice_get, slice_index_or, slice_set, take, drop, sym, ap, ◌∙◌, arith}
-use Rattle.board_law.specs.Lists.{tally, write}
+use Rattle.board_model.specs.Lists.{tally, write}
 use Rattle.job_queues.proofs.Pools.{front_write, front_get, few_pass, one_more, take_write, take_write_past, drop_write, drop_write_before, get_in_front, get_behind}
 use Rattle.job_queues.proofs.pool.FiberPool.give.Goals as goal
 

@@ -1,5 +1,5 @@
 use Rattle.std.proofs.Common.{◌≡◌, ◌+◌, false, not, take, drop, replicate, sym, ap, ◌∙◌, arith}
-use Rattle.board_law.specs.Lists.{tally}
+use Rattle.board_model.specs.Lists.{tally}
 use Rattle.job_queues.proofs.Pools.{front_replicate, all_free_small, all_free_large}
 use Rattle.job_queues.proofs.pool.FiberPool.new.Goals as goal
 

@@ -1,5 +1,5 @@
 use Rattle.std.proofs.Common.{◌≡◌, ◌<◌, ◌+◌, ℕ, Bool, List, Some, not, true, length, length-take, position, slice_set, take, drop, sym, ap, ◌∙◌, subst, arith}
-use Rattle.board_law.specs.Lists.{tally, write}
+use Rattle.board_model.specs.Lists.{tally, write}
 use Rattle.job_queues.proofs.Pools.{front_write, none_passes, first_found, one_less, take_write, drop_write_before}
 use Rattle.job_queues.proofs.pool.FiberPool.take_small.Goals as goal
 

@@ -1,7 +1,7 @@
 use Rattle.std.proofs.Common.{◌≡◌, ◌+◌, ◌-◌, ◌≤◌, ℕ, List, length, drop}
 use Rattle.std.specs.VecDeque.{deque_len, deque_capacity}
 use Rattle.job_core.specs.declared.names.JobName.{JobName}
-use Rattle.board_law.specs.Board.{put_all}
+use Rattle.board_model.specs.Board.{put_all}
 use Rattle.job_queues.specs.Waiting.{BoundedQueues, with_fresh}
 use Rattle.job_queues.specs.declared.lane.Lane.{Lane}
 use Rattle.job_queues.specs.contracts.queues.Queues.{the_view}

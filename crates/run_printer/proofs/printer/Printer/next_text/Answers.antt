@@ -1,7 +1,7 @@
 use Rattle.std.proofs.Common.{◌≡◌, ◌+◌, ◌<◌, Some, length, map, sym, ap, ◌∙◌, arith}
 use Rattle.grid_world.specs.Map.{count_up}
 use Rattle.game_rules.specs.Text.{frame_text}
-use Rattle.frame_params.specs.Contents.{band_in, bands_in}
+use Rattle.frame_state.specs.Contents.{band_in, bands_in}
 use Rattle.run_printer.proofs.Drawn.{same_game, written_is}
 use Rattle.run_printer.proofs.printer.Printer.next_text.Goals as goal
 

@@ -1,7 +1,7 @@
 use Rattle.std.proofs.Common.{Ok, Err, ap, ◌∙◌, inr, sym, subst}
 use Rattle.job_core.specs.declared.names.Event.TheVariants.{Ask}
-use Rattle.job_log.specs.Looks.{IsRunning}
-use Rattle.job_log.specs.declared.fault.BoardFault.TheVariants.{WrongResult}
+use Rattle.job_scheduler.specs.Looks.{IsRunning}
+use Rattle.job_scheduler.specs.declared.board_fault.BoardFault.TheVariants.{WrongResult}
 use Rattle.task_board.specs.Boards.{Played, IsRefused}
 use Rattle.task_board.specs.Parked.{IsOtherParked}
 use Rattle.task_board.proofs.Boarding.{known, not_running, other_result, seen_as}

@@ -1,7 +1,7 @@
 use Rattle.std.proofs.Common.{◌≡◌, Ok, Err, sym, ap, ◌∙◌, inl, inr, ⊎_elim, subst}
 use Rattle.job_core.specs.declared.names.Event.TheVariants.{Ask}
-use Rattle.job_log.specs.Looks.{IsRunning}
-use Rattle.job_log.specs.declared.fault.BoardFault.TheVariants.{WrongResult, OutOfMemory}
+use Rattle.job_scheduler.specs.Looks.{IsRunning}
+use Rattle.job_scheduler.specs.declared.board_fault.BoardFault.TheVariants.{WrongResult, OutOfMemory}
 use Rattle.job_core.specs.Core.{Runs}
 use Rattle.task_board.specs.Boards.{Played, IsRefused, state_in}
 use Rattle.task_board.specs.Parked.{IsOtherParked}

@@ -1,7 +1,7 @@
 use Rattle.std.proofs.Common.{OnOk, IfErr, subst}
 use Rattle.job_core.specs.declared.names.JobName.TheVariants.{Logic}
 use Rattle.job_core.specs.declared.names.Event.TheVariants.{Spread, Hold}
-use Rattle.job_log.specs.declared.fault.BoardFault.{BoardFault}
+use Rattle.job_scheduler.specs.declared.board_fault.BoardFault.{BoardFault}
 use Rattle.task_board.specs.Boards.{Played, IsDoneByLogic, IsRefused, NoOther}
 use Rattle.task_board.proofs.Beginning.{held_begins, held_refused}
 use Rattle.task_board.proofs.board.TaskBoard.begin_frame.Goals as goal

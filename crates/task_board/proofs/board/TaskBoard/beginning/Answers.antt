@@ -1,8 +1,8 @@
 use Rattle.std.proofs.Common.{◌≡◌, Ok, Err, sym, ap, ◌∙◌, arith}
-use Rattle.board_law.specs.Board.{Held}
+use Rattle.board_model.specs.Board.{Held}
 use Rattle.job_core.specs.declared.names.JobName.TheVariants.{Logic}
 use Rattle.job_core.specs.Core.{Runs}
-use Rattle.job_log.specs.Looks.{IsRunning}
+use Rattle.job_scheduler.specs.Looks.{IsRunning}
 use Rattle.task_board.specs.Boards.{state_in}
 use Rattle.task_board.proofs.Boarding.{known, not_running, not_a_logic, not_at_start, seen_as}
 use Rattle.task_board.specs.Boards.{NoOther}

@@ -1,6 +1,6 @@
 use Rattle.std.proofs.Common.{◌≡◌, refl, ap, ◌∙◌, arith}
-use Rattle.job_machine.proofs.Tests.{is_not}
-use Rattle.job_machine.specs.Numbers.{Numbers}
+use Rattle.job_scheduler.proofs.Tests.{is_not}
+use Rattle.job_scheduler.specs.Numbers.{Numbers}
 use Rattle.task_board.proofs.Idling.{busy_more}
 use Rattle.task_board.proofs.board.TaskBoard.first_idle.Goals as goal
 

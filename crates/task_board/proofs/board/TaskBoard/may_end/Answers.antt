@@ -1,12 +1,12 @@
 use Rattle.std.proofs.Common.{◌≡◌, Ok, Err, sym, ap, ◌∙◌, inl, subst}
-use Rattle.job_machine.proofs.Tests.{is_not}
+use Rattle.job_scheduler.proofs.Tests.{is_not}
 use Rattle.job_core.specs.declared.names.Event.TheVariants.{Finish}
 use Rattle.job_core.specs.Core.{Runs, IsLegal}
-use Rattle.board_law.specs.Board.{Held}
-use Rattle.job_log.specs.Looks.{IsRunning}
-use Rattle.job_log.specs.declared.fault.BoardFault.TheVariants.{WrongResult, Illegal, OutOfMemory}
+use Rattle.board_model.specs.Board.{Held}
+use Rattle.job_scheduler.specs.Looks.{IsRunning}
+use Rattle.job_scheduler.specs.declared.board_fault.BoardFault.TheVariants.{WrongResult, Illegal, OutOfMemory}
 use Rattle.task_board.specs.Boards.{Played, IsRefused, setup_in, state_in}
-use Rattle.job_shelf.specs.Dones.{game_done, IsOtherDone}
+use Rattle.job_results.specs.Dones.{game_done, IsOtherDone}
 use Rattle.task_board.proofs.Boarding.{known, not_running, other_result, finish_legal, finish_full, finish_refused, seen_as}
 use Rattle.task_board.proofs.board.TaskBoard.may_end.Goals as goal
 

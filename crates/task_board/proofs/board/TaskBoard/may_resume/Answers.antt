@@ -1,9 +1,9 @@
 use Rattle.std.proofs.Common.{◌≡◌}
 use Rattle.job_core.specs.declared.names.Event.TheVariants.{Resume}
 use Rattle.job_core.specs.Core.{Waits, IsLegal}
-use Rattle.board_law.specs.Lists.{first_place}
-use Rattle.board_law.specs.Board.{holds}
-use Rattle.job_log.specs.Logged.{kept}
+use Rattle.board_model.specs.Lists.{first_place}
+use Rattle.board_model.specs.Board.{holds}
+use Rattle.job_scheduler.specs.Logged.{kept}
 use Rattle.task_board.proofs.Boarding.{known, known_of}
 use Rattle.task_board.proofs.board.TaskBoard.may_resume.Goals as goal
 

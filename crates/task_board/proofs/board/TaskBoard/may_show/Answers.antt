@@ -1,4 +1,4 @@
-use Rattle.job_machine.proofs.Tests.{passes, fails}
+use Rattle.job_scheduler.proofs.Tests.{passes, fails}
 use Rattle.task_board.proofs.board.TaskBoard.may_show.Goals as goal
 
 pub returns-in-Some : goal.returns-in-Some

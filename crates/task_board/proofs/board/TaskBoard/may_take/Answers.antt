@@ -1,8 +1,8 @@
 use Rattle.std.proofs.Common.{◌≡◌, ◌<◌, true, false, Some, None, sym, ◌∙◌, arith}
-use Rattle.job_machine.proofs.Tests.{passes, fails}
-use Rattle.board_law.specs.Pick.{given}
+use Rattle.job_scheduler.proofs.Tests.{passes, fails}
+use Rattle.board_model.specs.Pick.{given}
 use Rattle.job_queues.specs.Names.{picked}
-use Rattle.job_log.specs.Logged.{kept}
+use Rattle.job_scheduler.specs.Logged.{kept}
 use Rattle.task_board.proofs.Boarding.{known, known_of, seen_as}
 use Rattle.task_board.proofs.Idling.{nobody_given}
 use Rattle.task_board.proofs.board.TaskBoard.may_take.Goals as goal

@@ -2,12 +2,12 @@ use Rattle.std.proofs.Common.{◌≡◌, ℕ, Ok, Err, Some, None, option_map, s
 use Rattle.job_core.specs.declared.names.Event.TheVariants.{Start, Resume}
 use Rattle.job_core.specs.Core.{IsIdle, IsLegal, IsLegalList}
 use Rattle.job_core.specs.Priorities.{GoesFirst}
-use Rattle.board_law.specs.Lists.{first_place}
-use Rattle.board_law.specs.Board.{Held, core_of, holds}
-use Rattle.board_law.specs.Pick.{Ready, New, given}
-use Rattle.job_log.specs.Logged.{setup_of, kept}
-use Rattle.job_log.specs.Looks.{Always, IsGivenTo, IsPlace, as_pick}
-use Rattle.job_log.specs.declared.next.Next.TheVariants as next
+use Rattle.board_model.specs.Lists.{first_place}
+use Rattle.board_model.specs.Board.{Held, core_of, holds}
+use Rattle.board_model.specs.Pick.{Ready, New, given}
+use Rattle.job_scheduler.specs.Logged.{setup_of, kept}
+use Rattle.job_scheduler.specs.Looks.{Always, IsGivenTo, IsPlace, as_pick}
+use Rattle.job_scheduler.specs.declared.next.Next.TheVariants as next
 use Rattle.task_board.specs.Boards.{setup_in, state_in, pick_in}
 use Rattle.task_board.specs.Given.{NobodyStarts}
 use Rattle.task_board.proofs.Boarding.{known, known_of, seen_as}

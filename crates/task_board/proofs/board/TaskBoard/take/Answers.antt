@@ -1,10 +1,10 @@
 use Rattle.std.proofs.Common.{◌≡◌, Ok, Err, None, refl, sym, ap, ◌∙◌, subst}
-use Rattle.board_law.specs.Board.{Held}
-use Rattle.frame_tasks.specs.Tasks.{IsTaskAt}
-use Rattle.job_log.specs.Looks.{Always, IsGivenTo}
-use Rattle.job_shelf.specs.Shelf.{Shelved, sizes}
-use Rattle.board_law.specs.Needed.{HasParts}
-use Rattle.job_log.specs.declared.fault.BoardFault.TheVariants.{OutOfMemory}
+use Rattle.board_model.specs.Board.{Held}
+use Rattle.frame_params.specs.Tasks.{IsTaskAt}
+use Rattle.job_scheduler.specs.Looks.{Always, IsGivenTo}
+use Rattle.job_results.specs.Shelf.{Shelved, sizes}
+use Rattle.board_model.specs.Needed.{HasParts}
+use Rattle.job_scheduler.specs.declared.board_fault.BoardFault.TheVariants.{OutOfMemory}
 use Rattle.task_board.specs.Boards.{Played, IsTaken, IsTakeRefused}
 use Rattle.task_board.specs.Found.{IsFound, job_next, step_next}
 use Rattle.task_board.proofs.Boarding.{known, idle_or, seen_as, task_there}

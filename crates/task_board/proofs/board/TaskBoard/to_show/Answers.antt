@@ -1,5 +1,5 @@
 use Rattle.std.proofs.Common.{Ok, Err}
-use Rattle.job_log.specs.Looks.{IsToShow}
+use Rattle.job_scheduler.specs.Looks.{IsToShow}
 use Rattle.task_board.proofs.Boarding.{known, nothing_shown, seen_as}
 use Rattle.task_board.proofs.board.TaskBoard.to_show.Goals as goal
 

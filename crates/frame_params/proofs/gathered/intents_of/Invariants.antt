@@ -1,7 +1,0 @@
-use Rattle.std.proofs.Common.{◌≡◌, ◌++◌, map, drop}
-use Rattle.frame_params.specs.Contents.{thought_for}
-use Rattle.frame_params.proofs.gathered.intents_of.Given as goal
-
-abbrev pub invariant-thoughts : goal.invariant-thoughts
-invariant-thoughts l =
-    l.intents.items ++ map (λ p. (thought_for p).intent) (drop l.thought-index l.thoughts) ≡ map (λ p. (thought_for p).intent) l.thoughts

@@ -1,0 +1,154 @@
+ghost use Rattle.std.specs.Prelude.{◌≡◌, IfOk};
+ghost use Rattle.frame_state.specs.Contents.{signals_in, way_in};
+ghost use Rattle.frame_state.specs.Distances.{IsUnderIf};
+
+use crate::parked::Parked;
+use frame_state::{FrameParams, FrameStart, KeptDistances, Way};
+use grid_world::{Answer, Place};
+use job_core::names::JobName;
+use std::alloc::{AllocError, Allocator, Global};
+use std::marker::Model;
+use std::sync::Arc;
+
+/// A path question of an agent in a frame that is to be answered.
+pub struct PathTask<'t> {
+    start: Arc<FrameStart<'t>>,
+    agent: u32,
+    question: u32,
+    place: Place,
+    // The way, where the tick that asks has gone on with it.
+    answer: Option<Answer>,
+    // The distances to the place, where they are known.
+    known: Option<KeptDistances<'t>>,
+}
+
+impl<'t> Drop for PathTask<'t> {
+    fn drop(self) {
+        let Self {
+            start: _,
+            agent: _,
+            question: _,
+            place: _,
+            answer: _,
+            known: _,
+        } = self;
+    }
+}
+
+impl<'t> Model for PathTask<'t> {
+    ghost use Rattle.std.specs.Prelude.{◌<◌, IfSome, length};
+    ghost use Rattle.std.specs.Arc.{arc_value};
+    ghost use Rattle.frame_state.specs.Names.{QuestionOf, question_code};
+
+    ghost Value = { QuestionOf };
+
+    ghost coded = { question_code };
+
+    ghost use Rattle.frame_state.specs.Contents.{signals_in};
+    ghost use Rattle.frame_state.specs.Thoughts.{IsWayOf};
+    ghost use Rattle.frame_params.specs.Thinks.{AsksFor};
+    ghost use Rattle.frame_state.specs.Distances.{IsGivenIf};
+
+    ghost view = { λ t. record {
+      game = (arc_value t.start).game;
+      frame = (arc_value t.start).frame;
+      agent = t.agent;
+      question = t.question;
+    } };
+
+    ghost invariant = { λ t. (t.agent < length (arc_value t.start).game.trees)
+        × AsksFor (arc_value t.start).game (arc_value t.start).frame t.agent t.question t.place
+        × IfSome t.answer (IsWayOf (arc_value t.start).game (arc_value t.start).frame t.agent t.question)
+        × IsGivenIf (arc_value t.start).game (signals_in (arc_value t.start).game (arc_value t.start).frame) t.place t.known };
+}
+
+impl<'t> PathTask<'t> {
+    /// The search for the way to the place that a parked tick of the frame asks for. What it reads is the frame's own, and so
+    /// are the distances to the place where they are known; nothing is copied.
+    #[inline(always)]
+    pub fn of(
+        _alloc: Global,
+        params: &FrameParams<'t>,
+        parked: &Parked<'t>,
+    ) -> Result<PathTask<'t>, AllocError>
+        requires game { parked.now.game ≡ params.now.game }
+        requires frame { parked.now.frame ≡ params.now.frame }
+        ensures { IfOk result (λ t. t ≡ parked.now) }
+    {
+        let place = parked.place;
+        let answer = parked.ahead.answer();
+        let known = match answer {
+            Some(_) => None,
+            None => params.known_to(place)?,
+        };
+        Ok(PathTask {
+            start: params.share()?,
+            agent: parked.agent,
+            question: parked.question,
+            place,
+            answer,
+            known,
+        })
+    }
+
+    /// The job whose task it is.
+    pub fn name(&self) -> JobName
+        ensures { result ≡ JobName.Path self.now.frame self.now.agent self.now.question }
+    {
+        JobName::Path {
+            frame: self.start.frame(),
+            agent: self.agent,
+            question: self.question,
+        }
+    }
+
+    // The way, and the distances if they were not known.
+    fn answered<A: Allocator + Clone>(
+        &self,
+        alloc: Global,
+        scratch: A,
+    ) -> Result<(Answer, Option<KeptDistances<'t>>), AllocError>
+        ensures way { IfOk result (λ parts. parts.0 ≡ way_in self.now.game self.now.frame self.now.agent self.now.question) }
+        ensures found { IfOk result (λ parts. IsUnderIf self.now.game (signals_in self.now.game self.now.frame) parts.1) }
+    {
+        if let Some(answer) = self.answer {
+            return Ok((answer, None));
+        }
+        let start: &FrameStart<'t> = &self.start;
+        if let Some(known) = &self.known {
+            return Ok((start.way_by(known, self.place, self.agent), None));
+        }
+        match KeptDistances::to(alloc, scratch, start.session(), start.signals(), self.place)? {
+            None => Ok((Answer::NoWay, None)),
+            Some(found) => Ok((start.way_by(&found, self.place, self.agent), Some(found))),
+        }
+    }
+
+    /// Answers the question, over the world and the signals of the frame: by the distances where they are known, and else
+    /// by one search, whose distances the way carries to those who want them.
+    pub fn work(&self, alloc: Global) -> Result<Way<'t>, AllocError>
+        ensures { IfOk result (λ way. way ≡ self.now) }
+    {
+        self.work_in(alloc, alloc)
+    }
+
+    /// The same, where the table and the queue of the search lie in `scratch`. From `alloc` it takes memory for the
+    /// distances and for their being shared, and none where they are known.
+    pub fn work_in<A: Allocator + Clone>(
+        &self,
+        alloc: Global,
+        scratch: A,
+    ) -> Result<Way<'t>, AllocError>
+        ensures { IfOk result (λ way. way ≡ self.now) }
+    {
+        let (answer, found) = self.answered(alloc, scratch)?;
+        Ok(Way::new(
+            self.start.session(),
+            self.start.frame(),
+            self.agent,
+            self.question,
+            answer,
+            found,
+        ))
+    }
+}

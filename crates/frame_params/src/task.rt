@@ -1,0 +1,66 @@
+ghost use Rattle.std.specs.Prelude.{◌≡◌, IfOk, IsOk};
+ghost use Rattle.frame_params.specs.Tasks.{job_of, IsStepOf, IsBeginning};
+
+use crate::path_task::PathTask;
+use crate::step::Step;
+use crate::think_task::ThinkTask;
+use frame_state::{DrawTask, LogicTask};
+use job_core::names::JobName;
+use std::alloc::{AllocError, Allocator, Global};
+
+/// The work that a job stands at.
+pub enum Task<'t> {
+    Logic(LogicTask<'t>),
+    Think(ThinkTask<'t>),
+    Path(PathTask<'t>),
+    Draw(DrawTask<'t>),
+}
+
+impl<'t> Drop for Task<'t> {
+    fn drop(self) {
+        match self {
+            Self::Logic(_) | Self::Think(_) | Self::Path(_) | Self::Draw(_) => {}
+        }
+    }
+}
+
+impl<'t> Task<'t> {
+    /// The job whose task it is.
+    pub fn name(&self) -> JobName
+        ensures { result ≡ job_of self.now }
+    {
+        match self {
+            Task::Logic(task) => task.name(),
+            Task::Think(task) => task.name(),
+            Task::Path(task) => task.name(),
+            Task::Draw(task) => task.name(),
+        }
+    }
+
+    /// Does the work. The only fault is want of memory; the task is as it was, and may be worked again.
+    pub fn work(&self, alloc: Global) -> Result<Step<'t>, AllocError>
+        ensures step { IfOk result (λ step. IsStepOf self.now step) }
+        ensures begins { IsBeginning self.now → IsOk result }
+    {
+        self.work_in(alloc, alloc)
+    }
+
+    /// The same, where what is kept for the work alone lies in `scratch`, as an arena of the worker's own: of a thought the
+    /// open nodes and the wants, of a path question the table and the queue of its search. Nothing of it is left there when
+    /// the work is done.
+    pub fn work_in<A: Allocator + Clone>(
+        &self,
+        alloc: Global,
+        scratch: A,
+    ) -> Result<Step<'t>, AllocError>
+        ensures step { IfOk result (λ step. IsStepOf self.now step) }
+        ensures begins { IsBeginning self.now → IsOk result }
+    {
+        match self {
+            Task::Logic(task) => Ok(Step::Logic(task.work(alloc)?)),
+            Task::Think(task) => Ok(Step::Think(task.work_in(alloc, scratch)?)),
+            Task::Path(task) => Ok(Step::Path(task.work_in(alloc, scratch)?)),
+            Task::Draw(task) => Ok(Step::Draw(task.work(alloc)?)),
+        }
+    }
+}

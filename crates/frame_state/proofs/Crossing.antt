@@ -1,0 +1,88 @@
+-- Which parameters, results and tasks of frames cross threads: one lemma a type, so that no search opens the types below.
+use denote.Ref.{NamedLft}
+use denote.Param.Send.{IsSend, IsSync, sendable}
+use Rattle.std.proofs.Crossing.{crosses}
+use Rattle.bt_nodes.proofs.node.Node.TheLaws.TheKnot.{both_send-Node, both_sync-Node, send-Node, sync-Node}
+use Rattle.grid_world.proofs.world.World.TheSendSync.{the_send as world_send, the_sync as world_sync}
+use Rattle.grid_world.proofs.cell.Answer.TheSendSync.{the_send as answer_send, the_sync as answer_sync}
+use Rattle.grid_world.proofs.cell.Intent.TheSendSync.{the_send as intent_send, the_sync as intent_sync}
+use Rattle.grid_world.proofs.place.Place.TheSendSync.{the_send as place_send, the_sync as place_sync}
+use Rattle.grid_world.proofs.signal.Signals.TheSendSync.{the_send as signals_send, the_sync as signals_sync}
+use Rattle.game_session.proofs.script.Script.TheSendSync.{the_send as script_send, the_sync as script_sync}
+use Rattle.bt_tick.proofs.memory.Memory.TheSendSync.{the_send as memory_send, the_sync as memory_sync}
+use Rattle.frame_state.proofs.kept_memory.KeptMemory.TheSendSync.{the_send as kept_send, the_sync as kept_sync}
+use Rattle.grid_path.proofs.distances.Distances.TheSendSync.{the_send as distances_send, the_sync as distances_sync}
+use Rattle.game_session.specs.contracts.session.Session as Session
+use Rattle.frame_state.specs.contracts.kept_distances.KeptDistances as KeptDistances
+use Rattle.frame_state.specs.contracts.known.Known as Known
+use Rattle.frame_state.specs.contracts.frame_start.FrameStart as FrameStart
+use Rattle.frame_state.specs.contracts.gathered.Gathered as Gathered
+use Rattle.frame_state.specs.contracts.way.Way as Way
+use Rattle.frame_state.specs.contracts.thought.Thought as Thought
+use Rattle.frame_state.specs.contracts.turn.Turn as Turn
+use Rattle.frame_state.specs.contracts.band_out.BandOut as BandOut
+use Rattle.frame_state.specs.contracts.band_mark.BandMark as BandMark
+use Rattle.frame_state.specs.contracts.draw_task.DrawTask as DrawTask
+use Rattle.frame_state.specs.contracts.logic_task.LogicTask as LogicTask
+use Rattle.frame_state.specs.contracts.params.FrameParams as FrameParams
+use Rattle.frame_state.specs.contracts.slots.Slots as Slots
+
+ruleset of_parts = (world_send, world_sync, answer_send, answer_sync, intent_send, intent_sync, place_send, place_sync, signals_send, signals_sync, script_send, script_sync, memory_send, memory_sync, kept_send, kept_sync, distances_send, distances_sync)
+
+ruleset of_knots = (both_send-Node, both_sync-Node, send-Node, sync-Node)
+
+pub session : IsSync Session.the_row
+session = search (of_parts, of_knots, sendable, crosses) depth 40
+
+-- ---- what tasks and results share
+
+pub kept_distances_send : (κ : NamedLft) → IsSend (KeptDistances.the_row κ)
+kept_distances_send κ = search (session, of_parts, sendable, crosses) depth 40
+
+pub kept_distances_sync : (κ : NamedLft) → IsSync (KeptDistances.the_row κ)
+kept_distances_sync κ = search (session, of_parts, sendable, crosses) depth 40
+
+pub known : (κ : NamedLft) → IsSend (Known.the_row κ)
+known κ = search (session, of_parts, kept_distances_send, kept_distances_sync, sendable, crosses) depth 40
+
+pub frame_start_send : (κ : NamedLft) → IsSend (FrameStart.the_row κ)
+frame_start_send κ = search (session, of_parts, kept_distances_send, kept_distances_sync, sendable, crosses) depth 40
+
+pub frame_start_sync : (κ : NamedLft) → IsSync (FrameStart.the_row κ)
+frame_start_sync κ = search (session, of_parts, kept_distances_send, kept_distances_sync, sendable, crosses) depth 40
+
+pub gathered : (κ : NamedLft) → IsSend (Gathered.the_row κ)
+gathered κ = search (of_parts, known, frame_start_send, frame_start_sync, sendable, crosses) depth 40
+
+-- ---- results
+
+pub way : (κ : NamedLft) → IsSend (Way.the_row κ)
+way κ = search (session, of_parts, kept_distances_send, sendable, crosses) depth 40
+
+pub thought : (κ : NamedLft) → IsSend (Thought.the_row κ)
+thought κ = search (session, of_parts, sendable, crosses) depth 40
+
+pub turn : (κ : NamedLft) → IsSend (Turn.the_row κ)
+turn κ = search (session, of_parts, known, sendable, crosses) depth 40
+
+pub band_out : (κ : NamedLft) → IsSend (BandOut.the_row κ)
+band_out κ = search (session, of_parts, sendable, crosses) depth 40
+
+pub band_mark : (κ : NamedLft) → IsSend (BandMark.the_row κ)
+band_mark κ = search (session, of_parts, sendable, crosses) depth 40
+
+-- ---- tasks
+
+pub draw_task : (κ : NamedLft) → IsSend (DrawTask.the_row κ)
+draw_task κ = search (session, of_parts, sendable, crosses) depth 40
+
+pub logic_task : (κ : NamedLft) → IsSend (LogicTask.the_row κ)
+logic_task κ = search (session, gathered, sendable, crosses) depth 40
+
+-- ---- what tasks are made of
+
+pub params : (κ : NamedLft) → IsSend (FrameParams.the_row κ)
+params κ = search (frame_start_send, frame_start_sync, known, sendable, crosses) depth 40
+
+pub slots : (κ : NamedLft) → IsSend (Slots.the_row κ)
+slots κ = search (params, sendable, crosses) depth 40

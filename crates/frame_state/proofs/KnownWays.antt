@@ -1,0 +1,31 @@
+-- Ways that are read off distances.
+use Rattle.std.proofs.Common.{◌≡◌, ℕ, ◌-◌, ◌∙◌, Bool, List, Option, None, refl, ap}
+use Rattle.std.specs.Prelude.{MatchOption}
+use Rattle.grid_world.specs.Grid.{Grid, Point, agent_of, place_of, point_of}
+use Rattle.grid_world.specs.Way.{way}
+use Rattle.grid_world.specs.declared.cell.Answer.TheVariants.{NoWay}
+use Rattle.game_rules.specs.Game.{Game}
+use Rattle.game_rules.specs.View.{cell_of}
+use Rattle.frame_state.specs.Contents.{signals_in, seen, way_to_in, world_after}
+use Rattle.frame_state.specs.Distances.{DistancesOf, distances_of}
+use Rattle.frame_state.proofs.Ground.{way_stays, no_way}
+
+-- what a search comes to
+abbrev pub IsMade : Game → List Bool → ℕ → Option DistancesOf → Type 0
+IsMade g on place made = MatchOption made (place_of g.world place ≡ None) (λ (d : DistancesOf). d ≡ distances_of g on place)
+
+module _ (g : Game) (f a place : ℕ) where
+  pub read_way : (p : Point) → p ≡ cell_of (seen g f a) → way g.world (signals_in g f) p place ≡ way_to_in g f a place
+  unfolding seen
+  read_way p here =
+      way_stays g (f - 1) (world_after g (f - 1)) refl (signals_in g f) p place
+      ∙ ap (λ (q : Point). way (world_after g (f - 1)) (signals_in g f) q place) here
+
+  pub unread_way : place_of g.world place ≡ None → NoWay ≡ way_to_in g f a place
+  unfolding seen
+  unread_way none = no_way g (f - 1) (world_after g (f - 1)) refl (signals_in g f) (cell_of (seen g f a)) place none
+
+-- an agent's cell in what it sees
+pub cell_seen : (g : Game) (f a : ℕ) (world : Grid) → world ≡ world_after g (f - 1) → point_of (agent_of world a) ≡ cell_of (seen g f a)
+unfolding seen
+cell_seen g f a world is = ap (λ (w : Grid). point_of (agent_of w a)) is

@@ -1,0 +1,6 @@
+pub mod Names
+pub mod Contents
+pub mod Logic
+pub mod Slots
+pub mod Thoughts
+pub mod Distances

@@ -1,0 +1,35 @@
+-- What a frame's logic has when all agents have thought, and what comes of its work.
+use Rattle.std.specs.Prelude.{ℕ, ◌≡◌, ◌<◌, true, false, List, [], length, slice_index_or, Option, Some, None, Box, box_value}
+use Rattle.std.specs.declared.alloc.Global.{Global}
+use Rattle.grid_world.specs.declared.cell.Intent.{Intent}
+use Rattle.bt_nodes.specs.declared.node.Status.{Status}
+use Rattle.bt_nodes.specs.Bounds.{Fits}
+use Rattle.game_jobs.specs.Instance.{tree_of}
+use Rattle.frame_state.specs.Names.{FrameOf, PartOf, LogicOf, frame_of}
+use Rattle.frame_state.specs.Contents.{memories_after, intents_in, statuses_in, AllFit}
+use Rattle.frame_state.specs.Distances.{KnownOf}
+use Rattle.frame_state.specs.declared.logic_step.LogicStep.{LogicStep}
+use Rattle.frame_state.specs.declared.logic_step.LogicStep.TheVariants.{Begins, Turned}
+
+-- what all agents want to do and come to in a frame, and distances on the game's ground
+pub record AreGathered (p : FrameOf) (intents : List Intent) (statuses : List Status) (memories : List (List ℕ)) (known : KnownOf) : Type 0 where
+  pub intents_are : intents ≡ intents_in p.game p.frame
+  pub statuses_are : statuses ≡ statuses_in p.game p.frame
+  pub memories_are : 0 < p.frame → memories ≡ memories_after p.game p.frame
+  pub fit : AllFit p.game.trees memories
+  pub known_is : known.game ≡ p.game
+
+abbrev pub AreGatheredIf : FrameOf → Option (Box FrameOf Global) → Type 0
+AreGatheredIf p None = Unit {0}
+AreGatheredIf p (Some x) = box_value x ≡ p
+
+-- each memory fits the tree of the thought at its place
+abbrev pub AllFitOwn : List PartOf → List (List ℕ) → Type 0
+AllFitOwn parts memories =
+    (k : ℕ) (d : PartOf) → k < length parts
+    → let p : PartOf = slice_index_or parts k d in Fits (tree_of p.game p.number) (slice_index_or memories k [])
+
+-- it begins exactly where it has not spread, and else it comes to the turn of its frame
+abbrev pub IsLogicStep : LogicOf → LogicStep → Type 0
+IsLogicStep l Begins = l.has_spread ≡ false
+IsLogicStep l (Turned turn) = (l.has_spread ≡ true) × (turn ≡ frame_of l.game l.frame)

@@ -1,0 +1,102 @@
+ghost use Rattle.std.specs.Prelude.{◌≡◌, ◌<◌, IfOk};
+ghost use Rattle.frame_state.specs.Contents.{bands_in};
+
+use crate::band_mark::BandMark;
+use crate::band_out::BandOut;
+use crate::turn::Turn;
+use draw_list::{DrawFault, draw_band};
+use game_session::Session;
+use grid_world::World;
+use job_core::names::JobName;
+use std::alloc::{AllocError, Global};
+use std::marker::Model;
+use std::sync::Arc;
+
+/// A band of a turned frame that is to be drawn.
+pub struct DrawTask<'t> {
+    session: &'t Session,
+    frame: u32,
+    band: u32,
+    world: Arc<World>,
+}
+
+impl<'t> Drop for DrawTask<'t> {
+    fn drop(self) {
+        let Self {
+            session: _,
+            frame: _,
+            band: _,
+            world: _,
+        } = self;
+    }
+}
+
+impl<'t> Model for DrawTask<'t> {
+    ghost use Rattle.std.specs.Prelude.{◌≡◌, ◌<◌};
+    ghost use Rattle.std.specs.Arc.{arc_value};
+    ghost use Rattle.draw_list.specs.Bands.{band_count};
+    ghost use Rattle.frame_state.specs.Names.{PartOf, part_code};
+    ghost use Rattle.frame_state.specs.Contents.{world_after};
+
+    ghost Value = { PartOf };
+
+    ghost coded = { part_code };
+
+    ghost view = { λ t. record { game = t.session.now; frame = t.frame; number = t.band } };
+
+    ghost invariant = { λ t. (arc_value t.world ≡ world_after t.session.now t.frame)
+        × (t.band < band_count (arc_value t.world).height) };
+}
+
+impl<'t> DrawTask<'t> {
+    /// The drawing of a band that is there. The world is the turn's own, so nothing is copied.
+    pub fn of(_alloc: Global, turn: &Turn<'t>, band: u32) -> Result<DrawTask<'t>, AllocError>
+        requires { band < bands_in turn.now.game }
+        ensures { IfOk result (λ t. t ≡ record { game = turn.now.game; frame = turn.now.frame; number = band }) }
+    {
+        Ok(DrawTask {
+            session: turn.session,
+            frame: turn.frame,
+            band,
+            world: Arc::try_clone(&turn.world)?,
+        })
+    }
+
+    /// The job whose task it is.
+    pub fn name(&self) -> JobName
+        ensures { result ≡ JobName.Draw self.now.frame self.now.number }
+    {
+        JobName::Draw {
+            frame: self.frame,
+            band: self.band,
+        }
+    }
+
+    /// The mark of the band that it draws, for who tells a board of the work and draws the frame when it is shown. Takes
+    /// no memory.
+    pub fn mark(&self) -> BandMark<'t>
+        ensures { result ≡ self.now }
+    {
+        BandMark {
+            session: self.session,
+            frame: self.frame,
+            number: self.band,
+        }
+    }
+
+    /// Draws the band. Its rows are allocated once.
+    pub fn work(&self, alloc: Global) -> Result<BandOut<'t>, AllocError>
+        ensures { IfOk result (λ band. band ≡ self.now) }
+    {
+        let signals = self.session.script().signals(self.frame);
+        match draw_band(alloc, &self.world, signals, self.band) {
+            Ok(band) => Ok(BandOut {
+                session: self.session,
+                frame: self.frame,
+                band,
+            }),
+            Err(DrawFault::OutOfMemory) => Err(AllocError),
+            Err(DrawFault::NoBand | DrawFault::Gap { band: _ }) => unreachable!(),
+        }
+    }
+}

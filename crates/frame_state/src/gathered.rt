@@ -1,0 +1,141 @@
+ghost use Rattle.std.specs.Prelude.{◌≡◌, IfOk, length, map};
+ghost use Rattle.grid_world.specs.Intents.{apply_all};
+ghost use Rattle.frame_state.specs.Names.{AreOfAllAgents};
+ghost use Rattle.frame_state.specs.Contents.{thought_for};
+ghost use Rattle.frame_state.specs.Logic.{AllFitOwn};
+
+use crate::frame_start::FrameStart;
+use crate::kept_memory::KeptMemory;
+use crate::known::Known;
+use crate::params::FrameParams;
+use crate::thought::Thought;
+use crate::turn::Turn;
+use bt_nodes::Status;
+use grid_world::{Intent, ResolveFault, Signals, World, resolve};
+use std::alloc::{AllocError, Global};
+use std::marker::Model;
+use std::sync::Arc;
+
+// What a turn is made of: what its frame starts from, and what all agents came to there, by agent number.
+pub(crate) struct Gathered<'t> {
+    start: Arc<FrameStart<'t>>,
+    intents: Vec<Intent>,
+    statuses: Arc<Vec<Status>>,
+    memories: Arc<Vec<KeptMemory>>,
+    known: Known<'t>,
+}
+
+impl<'t> Drop for Gathered<'t> {
+    fn drop(self) {
+        let Self {
+            start: _,
+            intents: _,
+            statuses: _,
+            memories: _,
+            known: _,
+        } = self;
+    }
+}
+
+impl<'t> Model for Gathered<'t> {
+    ghost use Rattle.std.specs.Arc.{arc_value};
+    ghost use Rattle.frame_state.specs.Names.{FrameOf, frame_code};
+    ghost use Rattle.frame_state.specs.Logic.{AreGathered};
+
+    ghost Value = { FrameOf };
+
+    ghost coded = { frame_code };
+
+    ghost view = { λ x. arc_value x.start };
+
+    ghost invariant = { λ x. AreGathered (arc_value x.start) x.intents.items (arc_value x.statuses).items (arc_value x.memories).items x.known };
+}
+
+// What each agent wants to do.
+fn intents_of(alloc: Global, thoughts: &[Thought]) -> Result<Vec<Intent>, AllocError>
+    ensures { IfOk result (λ v. v.items ≡ map (λ p. (thought_for p).intent) thoughts.now) }
+{
+    let mut intents = Vec::with_capacity(alloc, thoughts.len())?;
+    'thoughts: for thought in thoughts {
+        intents.push(thought.intent())?;
+    }
+    Ok(intents)
+}
+
+// Each tick's answer.
+fn statuses_of(alloc: Global, thoughts: &[Thought]) -> Result<Vec<Status>, AllocError>
+    ensures { IfOk result (λ v. v.items ≡ map (λ p. (thought_for p).status) thoughts.now) }
+{
+    let mut statuses = Vec::with_capacity(alloc, thoughts.len())?;
+    'thoughts: for thought in thoughts {
+        statuses.push(thought.status())?;
+    }
+    Ok(statuses)
+}
+
+// Each agent's memory.
+fn memories_of(alloc: Global, thoughts: &[Thought]) -> Result<Vec<KeptMemory>, AllocError>
+    ensures value { IfOk result (λ v. v.items ≡ map (λ p. (thought_for p).memory) thoughts.now) }
+    ensures fit { IfOk result (λ v. AllFitOwn thoughts.now v.items) }
+{
+    let mut memories = Vec::with_capacity(alloc, thoughts.len())?;
+    'thoughts: for thought in thoughts {
+        memories.push(thought.memory().share()?)?;
+    }
+    Ok(memories)
+}
+
+// The world after an intent of each agent.
+fn resolved(
+    alloc: Global,
+    world: &World,
+    signals: Signals,
+    intents: &[Intent],
+) -> Result<World, AllocError>
+    requires { length intents.now ≡ length world.now.agents }
+    ensures { IfOk result (λ after. after ≡ apply_all world.now signals 0 intents.now) }
+{
+    match resolve(alloc, world, signals, intents) {
+        Ok(after) => Ok(after),
+        Err(ResolveFault::OutOfMemory) => Err(AllocError),
+        Err(ResolveFault::Count) => unreachable!(),
+    }
+}
+
+impl<'t> Gathered<'t> {
+    // The thoughts of all agents in a frame, in order; it shares their memories.
+    pub(crate) fn of(
+        alloc: Global,
+        params: &FrameParams<'t>,
+        thoughts: &[Thought<'t>],
+    ) -> Result<Gathered<'t>, AllocError>
+        requires { AreOfAllAgents params.now thoughts.now }
+        ensures { IfOk result (λ gathered. gathered ≡ params.now) }
+    {
+        let memories = memories_of(alloc, thoughts)?;
+        let statuses = statuses_of(alloc, thoughts)?;
+        Ok(Gathered {
+            start: params.share()?,
+            intents: intents_of(alloc, thoughts)?,
+            statuses: Arc::new(alloc, statuses)?,
+            memories: Arc::new(alloc, memories)?,
+            known: params.known.share()?,
+        })
+    }
+
+    // What all agents want to do, applied by agent number.
+    pub(crate) fn turn(&self, alloc: Global) -> Result<Turn<'t>, AllocError>
+        ensures { IfOk result (λ turn. turn ≡ self.now) }
+    {
+        let start: &FrameStart<'t> = &self.start;
+        let world = resolved(alloc, start.world(), start.signals(), &self.intents)?;
+        Ok(Turn {
+            session: start.session(),
+            frame: start.frame(),
+            world: Arc::new(alloc, world)?,
+            memories: Arc::try_clone(&self.memories)?,
+            statuses: Arc::try_clone(&self.statuses)?,
+            known: self.known.share()?,
+        })
+    }
+}

@@ -1,0 +1,188 @@
+ghost use Rattle.std.specs.Prelude.{◌≡◌, Contains, IfOk, IfSome};
+ghost use Rattle.frame_state.specs.Distances.{AllOf};
+
+use crate::kept_distances::KeptDistances;
+use game_session::Session;
+use grid_world::{Place, Signals};
+use std::alloc::{AllocError, Global};
+use std::marker::Model;
+use std::sync::Arc;
+
+// How many are kept at most: those to ten places under four states of the signals. Doors that go on and off mostly come
+// back to a state that they had.
+const MOST: usize = 40;
+
+// The distances that were found on the ground of a session: under the signals of now for a place once at most, and behind
+// them those under the states before, the latest first.
+pub(crate) struct Known<'t> {
+    session: &'t Session,
+    signals: Signals,
+    all: Arc<Vec<KeptDistances<'t>>>,
+}
+
+impl<'t> Drop for Known<'t> {
+    fn drop(self) {
+        let Self {
+            session: _,
+            signals: _,
+            all: _,
+        } = self;
+    }
+}
+
+impl<'t> Model for Known<'t> {
+    ghost use Rattle.std.specs.Arc.{arc_value};
+    ghost use Rattle.frame_state.specs.Distances.{KnownOf, known_code, AllOf};
+
+    ghost Value = { KnownOf };
+
+    ghost coded = { known_code };
+
+    ghost view = { λ k. record { game = k.session.now; signals = k.signals } };
+
+    ghost invariant = { λ k. AllOf k.session.now (arc_value k.all).items };
+}
+
+// Those to a place under these signals.
+fn to_place<'a, 't>(
+    all: &'a [KeptDistances<'t>],
+    signals: Signals,
+    place: Place,
+) -> Option<&'a KeptDistances<'t>>
+    ensures place { IfSome result (λ d. d.now.place ≡ place) }
+    ensures signals { IfSome result (λ d. d.now.signals ≡ signals) }
+    ensures one { IfSome result (λ d. Contains all.now d.now) }
+{
+    all.iter()
+        .find(|d| d.place() == place && d.is_under(signals))
+}
+
+// Those under these signals once more, and the others behind them.
+fn ordered<'t>(
+    alloc: Global,
+    session: &Session,
+    all: &[KeptDistances<'t>],
+    signals: Signals,
+) -> Result<Vec<KeptDistances<'t>>, AllocError>
+    requires { AllOf session.now all.now }
+    ensures { IfOk result (λ them. AllOf session.now them.items) }
+{
+    let _ = session;
+    let mut them = Vec::with_capacity(alloc, all.len())?;
+    'these: for known in all {
+        if known.is_under(signals) {
+            them.push(known.share()?)?;
+        }
+    }
+    'others: for known in all {
+        if !known.is_under(signals) {
+            them.push(known.share()?)?;
+        }
+    }
+    Ok(them)
+}
+
+// The same ones once more behind another, as many as are kept.
+fn behind<'t>(
+    alloc: Global,
+    session: &Session,
+    found: &KeptDistances<'t>,
+    all: &[KeptDistances<'t>],
+) -> Result<Vec<KeptDistances<'t>>, AllocError>
+    requires found { found.now.game ≡ session.now }
+    requires all { AllOf session.now all.now }
+    ensures { IfOk result (λ them. AllOf session.now them.items) }
+{
+    let _ = session;
+    let mut them = Vec::with_capacity(alloc, MOST)?;
+    them.push(found.share()?)?;
+    'known: for known in all {
+        if them.len() < MOST {
+            them.push(known.share()?)?;
+        }
+    }
+    Ok(them)
+}
+
+impl<'t> Known<'t> {
+    ghost use Rattle.frame_state.specs.Distances.{known_of, distances_of, IsGivenIf};
+
+    // None are known.
+    pub(crate) fn none(
+        alloc: Global,
+        session: &'t Session,
+        signals: Signals,
+    ) -> Result<Known<'t>, AllocError>
+        ensures { IfOk result (λ k. k ≡ known_of session.now signals) }
+    {
+        Ok(Known {
+            session,
+            signals,
+            all: Arc::new(alloc, Vec::new(alloc))?,
+        })
+    }
+
+    // The same ones once more; nothing is copied.
+    pub(crate) fn share(&self) -> Result<Known<'t>, AllocError>
+        ensures { IfOk result (λ k. k ≡ self.now) }
+    {
+        Ok(Known {
+            session: self.session,
+            signals: self.signals,
+            all: Arc::try_clone(&self.all)?,
+        })
+    }
+
+    // What is known under these signals: the same ones while they are equal, and else those that were found when the
+    // signals were these before.
+    pub(crate) fn under(&self, alloc: Global, signals: Signals) -> Result<Known<'t>, AllocError>
+        ensures { IfOk result (λ k. k ≡ known_of self.now.game signals) }
+    {
+        if signals == self.signals {
+            return Ok(self.share()?);
+        }
+        let all = ordered(alloc, self.session, &self.all, signals)?;
+        Ok(Known {
+            session: self.session,
+            signals,
+            all: Arc::new(alloc, all)?,
+        })
+    }
+
+    // Those to a place, where they are known.
+    pub(crate) fn to(&self, place: Place) -> Option<&KeptDistances<'t>>
+        ensures { IfSome result (λ d. d.now ≡ distances_of self.now.game self.now.signals place) }
+    {
+        to_place(&self.all, self.signals, place)
+    }
+
+    // Those to a place once more, where they are known; nothing is copied.
+    pub(crate) fn shared_to(&self, place: Place) -> Result<Option<KeptDistances<'t>>, AllocError>
+        ensures { IfOk result (IsGivenIf self.now.game self.now.signals place) }
+    {
+        match self.to(place) {
+            None => Ok(None),
+            Some(known) => Ok(Some(known.share()?)),
+        }
+    }
+
+    // These and those that were found, where none were known to their place.
+    pub(crate) fn with(
+        &self,
+        alloc: Global,
+        found: &KeptDistances<'t>,
+    ) -> Result<Known<'t>, AllocError>
+        requires game { found.now.game ≡ self.now.game }
+        ensures { IfOk result (λ k. k ≡ self.now) }
+    {
+        if self.to(found.place()).is_some() {
+            return Ok(self.share()?);
+        }
+        let all = behind(alloc, self.session, found, &self.all)?;
+        Ok(Known {
+            session: self.session,
+            signals: self.signals,
+            all: Arc::new(alloc, all)?,
+        })
+    }
+}

@@ -1,2 +1,0 @@
-pub mod CutThoughts
-pub mod Crossing

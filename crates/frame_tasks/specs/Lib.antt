@@ -1,3 +1,0 @@
-pub mod Thinks
-pub mod BoardSteps
-pub mod Tasks

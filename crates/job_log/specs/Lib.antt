@@ -1,3 +1,0 @@
-pub mod Logged
-pub mod Ends
-pub mod Looks

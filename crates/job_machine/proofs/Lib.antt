@@ -1,5 +1,0 @@
-pub mod Entries
-pub mod Steps
-pub mod Rows
-pub mod Woken
-pub mod Tests

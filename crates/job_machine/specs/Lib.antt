@@ -1,4 +1,0 @@
-pub mod Numbers
-pub mod Limits
-pub mod Seats
-pub mod Opening

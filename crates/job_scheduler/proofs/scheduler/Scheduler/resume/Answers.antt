@@ -1,0 +1,11 @@
+use Rattle.std.proofs.Common.{Some, sym, ap, ◌∙◌}
+use Rattle.job_scheduler.specs.contracts.held.Held.{the_view as held_view}
+use Rattle.job_scheduler.specs.contracts.scheduler.Scheduler.{the_view}
+use Rattle.job_scheduler.proofs.Steps.{resumed}
+use Rattle.job_scheduler.proofs.scheduler.Scheduler.resume.Goals as goal
+
+pub returns : goal.returns
+returns c = λ s job first.
+    let table = rw (← c.self.view_is) at c.requires.table in
+    let place = rw (← c.self.view_is) at first in
+    rw (← c.self.view_is) (c.hold_on.ensures ∙ rw c.in-Ok.ensures.after (resumed (the_view c.self.inside) table s c.args.worker c.args.fiber job (held_view c.held.inside) place (sym c.in-Some.ensures ∙ ap Some (sym c.held.view_is))))

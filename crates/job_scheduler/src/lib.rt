@@ -1,0 +1,29 @@
+//! The jobs of a run without its game: the scheduler, which keeps them event by event, its settings, and the list of the events
+//! that brought it where it is, by which may be said what comes next.
+#![tactic(auto)]
+
+mod board_fault;
+mod counting;
+mod fault;
+mod held;
+mod jobs;
+mod looks;
+mod names;
+mod next;
+mod readers;
+mod scheduler;
+mod settings;
+mod steps;
+mod tables;
+mod waking;
+
+pub use board_fault::BoardFault;
+pub use counters::CounterKey;
+pub use fault::OutOfMemory;
+pub use held::Held;
+pub use job_core::names::{Event, JobName};
+pub use job_queues::{Fiber, Pick};
+pub use jobs::JobLog;
+pub use next::Next;
+pub use scheduler::Scheduler;
+pub use settings::{Settings, SettingsFault};

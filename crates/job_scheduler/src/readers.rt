@@ -1,0 +1,103 @@
+ghost use Rattle.std.specs.Prelude.{◌≡◌, ◌<◌, ◌^◌, ◌==◌, MatchOption, option_map, length, ◌↔◌, IsTrue};
+ghost use Rattle.job_core.specs.Core.{same};
+ghost use Rattle.board_model.specs.Lists.{all, has, tally, at};
+ghost use Rattle.board_model.specs.Board.{has_fiber, holds};
+ghost use Rattle.board_model.specs.Pick.{given};
+ghost use Rattle.board_model.specs.Passes.{on_fiber};
+ghost use Rattle.job_queues.specs.Names.{picked};
+ghost use Rattle.job_scheduler.specs.Seats.{IsHolder, IsDrawn};
+
+use super::held::Held;
+use super::scheduler::Scheduler;
+use super::tables::{entry, place_of};
+use counters::CounterKey;
+use job_core::names::JobName;
+use job_queues::{Fiber, Pick, Size, size_of};
+
+// What a board asks its scheduler before it does an event. None of these takes memory.
+impl Scheduler {
+    /// What an idle worker is given, with nothing taken out.
+    #[inline(always)]
+    pub fn peek(&self) -> Option<Pick>
+        ensures { option_map picked result ≡ given self.now }
+    {
+        self.queues
+            .peek(self.pool.free(Size::Small), self.pool.free(Size::Large))
+    }
+
+    /// The job that a worker runs, if it runs one.
+    pub fn runs(&self, worker: u32) -> Option<Held>
+        ensures { result ≡ on_fiber self.now.seats (at self.now.seats.workers worker) }
+    {
+        let fiber = entry(&self.workers, worker)?;
+        self.held_by(fiber)
+    }
+
+    /// The job that a fiber holds, if it holds one.
+    pub fn held_by(&self, fiber: Fiber) -> Option<Held>
+        ensures { result ≡ at self.now.seats.jobs fiber }
+    {
+        entry(&self.jobs, fiber.0)
+    }
+
+    /// The fiber that holds a job, if one does.
+    pub fn holder(&self, job: JobName) -> Option<Fiber>
+        requires { length self.now.seats.jobs < 2 ^ 32 }
+        ensures { MatchOption result (tally (holds job) self.now.seats.jobs ≡ 0) (IsHolder job self.now.seats.jobs) }
+    {
+        let Some(place) = place_of(&self.jobs, job) else {
+            return None;
+        };
+        Some(Fiber(place as u32))
+    }
+
+    /// Whether a job is queued, still to be started. Takes time linear in the number of queued jobs.
+    pub fn is_queued(&self, job: JobName) -> bool
+        ensures { result ≡ has (same job) (all self.now.queues.fresh) }
+    {
+        self.queues.is_queued(job)
+    }
+
+    /// Whether a fiber is ready to go on. Takes time linear in the number of ready fibers.
+    pub fn is_ready(&self, fiber: Fiber) -> bool
+        ensures { result ≡ has (λ other. fiber == other) (all self.now.queues.ready) }
+    {
+        self.queues.is_ready(fiber)
+    }
+
+    /// Whether a fiber of a job's size is free.
+    pub fn has_fiber(&self, job: JobName) -> bool
+        ensures { result ≡ has_fiber self.now.seats job }
+    {
+        self.pool.free(size_of(job)) > 0
+    }
+
+    /// How many frames are shown.
+    pub fn emitted(&self) -> u32
+        ensures { result ≡ self.now.emitted }
+    {
+        self.emitted
+    }
+
+    /// Whether the board is stopped; it stays so.
+    pub fn is_stopped(&self) -> bool
+        ensures { result ≡ self.now.stopped }
+    {
+        self.stopped
+    }
+
+    /// Whether a frame is drawn and still to be shown.
+    pub fn is_drawn(&self, frame: u32) -> bool
+        requires { length self.now.seats.jobs < 2 ^ 32 }
+        ensures { IsTrue result ↔ IsDrawn self.now frame }
+    {
+        if self.counters.left(CounterKey::Shown { frame }).is_none() {
+            return false;
+        }
+        // The counters are few, and mostly say no: the fibers are looked at last.
+        if self.counters.left(CounterKey::Draws { frame }).is_some() {
+            return false;
+        }
+        self.holder(JobName::Logic { frame }).is_none()
+    }
+}
