@@ -1,5 +1,5 @@
 pub mod Entries
-pub mod Steps
+pub mod Writes
 pub mod Rows
 pub mod Woken
 pub mod Tests

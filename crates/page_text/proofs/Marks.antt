@@ -1,6 +1,6 @@
 -- What is put into a page has no `<`.
-use Rattle.std.proofs.Common.{◌≡◌, ◌≢◌, ◌∙◌, ◌==◌, ℕ, suc, Bool, true, false, if◌then◌else◌, List, [], ◌∷◌, ◌++◌, length, refl, sym, ap, ap₂, subst, arith, codes}
-use Rattle.std.specs.List.{All}
+use Rattle.std.proofs.Common.{◌≡◌, ◌≢◌, ◌∙◌, ◌==◌, ◌||◌, ℕ, suc, Bool, true, false, if◌then◌else◌, List, [], ◌∷◌, ◌++◌, length, refl, sym, ap, ap₂, subst, arith, codes}
+use Rattle.std.specs.List.{All, list_any}
 use Rattle.std.proofs.lemmas.Bool.{eq-eqb, ne_eqb}
 use Rattle.std.proofs.lemmas.List.Concat.{flat_map-cons}
 use Rattle.std.proofs.lemmas.List.Elements.{All-nil, All-cons, All-append}
@@ -34,3 +34,15 @@ escaped_same (c ∷ text) other =
     let plain : (c == 60) ≡ false = ne_eqb c 60 (other 0 c (omega arith)) in
     flat_map-cons escaped_byte c text
     ∙ ap₂ (λ l m. l ++ m) (ap (λ mark. if mark then codes "\\u003c" else c ∷ []) plain) (escaped_same text (λ k d l. other (suc k) d (omega (arith, l))))
+
+-- ---- a text that is looked through
+
+neither : (one other : Bool) → (one || other) ≡ false → (one ≡ false) × (other ≡ false)
+neither true other e = cc
+neither false other e = (refl, e)
+
+pub unmarked : (text : List ℕ) → list_any (λ c. c == 60) text ≡ false → escaped text ≡ text
+unmarked [] none = refl
+unmarked (c ∷ text) none =
+    let both = neither (c == 60) (list_any (λ d. d == 60) text) none in
+    flat_map-cons escaped_byte c text ∙ ap₂ (λ l m. l ++ m) (ap (λ mark. if mark then codes "\\u003c" else c ∷ []) both.0) (unmarked text both.1)

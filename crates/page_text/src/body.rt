@@ -31,7 +31,7 @@ pub const BODY: &str = r#"<body>
   <canvas id="lanes" tabindex="0" aria-label="timeline of the jobs"></canvas>
 </section>
 <div id="tip"></div>
-<div id="help" role="dialog" aria-label="keys"><div><h2 style="margin:0 0 8px;font-size:17px">Keys</h2><table>
+<div id="help" role="dialog" aria-modal="true" aria-label="keys"><div id="helpText" tabindex="-1"><h2 style="margin:0 0 8px;font-size:17px">Keys</h2><table>
 <tr><td><kbd>Space</kbd></td><td>play, pause</td></tr>
 <tr><td><kbd>Left</kbd> <kbd>Right</kbd></td><td>one frame back, on (with <kbd>Shift</kbd>, or <kbd>PageUp</kbd> <kbd>PageDown</kbd>: ten)</td></tr>
 <tr><td><kbd>Home</kbd> <kbd>End</kbd></td><td>first and last frame</td></tr>

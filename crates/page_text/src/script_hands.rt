@@ -55,7 +55,14 @@ function zoomMap(by, x, y) {
   drawMap();
 }
 function setTall(on) { document.body.classList.toggle('tall', on); $('tall').textContent = on ? 'Map and jobs' : 'Map only'; resized(); }
-const setHelp = on => { $('help').style.display = on ? 'flex' : 'none'; };
+// The help takes the focus, and gives it back.
+let asker = null;
+const isAsked = () => $('help').style.display === 'flex';
+function setHelp(on) {
+  if (on === isAsked()) return;
+  $('help').style.display = on ? 'flex' : 'none';
+  if (on) { asker = document.activeElement; $('helpText').focus(); } else asker.focus();
+}
 function resized() { drawJobs(); buildAgents(); show(shown, true); }
 
 // ---- the head
@@ -148,7 +155,8 @@ document.addEventListener('keydown', event => {
     case 'End': show(N); return done();
     case 'ArrowDown': seekChange(1); return done();
     case 'ArrowUp': seekChange(-1); return done();
-    case 'Escape': setHelp(false); if (typing) event.target.blur(); choose(-1); return done();
+    case 'Escape': if (isAsked()) setHelp(false); else { if (typing) event.target.blur(); choose(-1); } return done();
+    case 'Tab': if (isAsked()) done(); return;
     case ',': case '.': { const s = $('speed'); s.selectedIndex = Math.max(0, Math.min(s.options.length - 1, s.selectedIndex + (event.key === '.' ? 1 : -1))); return done(); }
     case '+': zoomJobs(1 / 1.3); return done();
     case '-': zoomJobs(1.3); return done();
@@ -157,7 +165,7 @@ document.addEventListener('keydown', event => {
     case ']': zoomMap(1.3); return done();
     case '=': mapZoom = 1; mapX = mapY = 0; drawMap(); return done();
     case '1': setTall(!document.body.classList.contains('tall')); return done();
-    case '?': setHelp($('help').style.display !== 'flex'); return done();
+    case '?': setHelp(!isAsked()); return done();
   }
   if (/^[a-zA-Z]$/.test(event.key)) { const a = event.key.toUpperCase().charCodeAt(0) - 65; if (a < A) choose(a === chosen ? -1 : a); }
 });

@@ -52,7 +52,7 @@ td canvas { display: block; }
 button, label, #of, #jobsHead b { white-space: nowrap; }
 button { font: inherit; color: var(--ink); background: #fff; border: 1px solid #b8c0ca; border-radius: 5px; min-width: 34px; height: 28px; padding: 0 8px; cursor: pointer; }
 button:hover { background: #eef4fb; }
-button:focus-visible, input:focus-visible, select:focus-visible, canvas:focus-visible { outline: 2px solid var(--mark); outline-offset: 1px; }
+button:focus-visible, input:focus-visible, select:focus-visible, [tabindex]:focus-visible { outline: 2px solid var(--mark); outline-offset: 1px; }
 #play { min-width: 74px; font-weight: 650; background: var(--mark); border-color: var(--mark); color: #fff; }
 #number { width: 74px; height: 28px; font: inherit; text-align: right; border: 1px solid #b8c0ca; border-radius: 5px; padding: 0 4px; }
 #bar label { color: var(--soft); display: flex; align-items: center; gap: 5px; }

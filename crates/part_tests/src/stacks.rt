@@ -1,3 +1,5 @@
+ghost use Rattle.std.specs.Prelude.{◌<◌};
+
 use bt_nodes::Node;
 use bumpalo::Bump;
 use fiber_stack::{Frame, Pile, Stack};

@@ -5,7 +5,7 @@ use Rattle.board_model.specs.Board.{Core, fiber_of}
 use Rattle.job_scheduler.specs.contracts.scheduler.Scheduler.{the_view}
 use Rattle.job_scheduler.proofs.Entries.{run_worker, run_fiber, run_held}
 use Rattle.job_scheduler.proofs.Rows.{awaited_undone}
-use Rattle.job_scheduler.proofs.Steps.{asked}
+use Rattle.job_scheduler.proofs.Writes.{asked}
 use Rattle.job_scheduler.proofs.scheduler.Scheduler.ask.Goals as goal
 
 pub fiber_of-fiber-requires : goal.fiber_of-fiber-requires

@@ -4,7 +4,7 @@ use Rattle.job_core.specs.Core.{Shown}
 use Rattle.board_model.specs.Board.{Core, fiber_of, first_row}
 use Rattle.job_scheduler.specs.contracts.scheduler.Scheduler.{the_view}
 use Rattle.job_scheduler.proofs.Entries.{run_worker, run_fiber, run_held, some_case}
-use Rattle.job_scheduler.proofs.Steps.{waited}
+use Rattle.job_scheduler.proofs.Writes.{waited}
 use Rattle.job_scheduler.proofs.scheduler.Scheduler.hold.Goals as goal
 
 pub fiber_of-fiber-requires : goal.fiber_of-fiber-requires

@@ -1,7 +1,7 @@
 use Rattle.std.proofs.Common.{Some, sym, ap, ◌∙◌}
 use Rattle.job_scheduler.specs.contracts.held.Held.{the_view as held_view}
 use Rattle.job_scheduler.specs.contracts.scheduler.Scheduler.{the_view}
-use Rattle.job_scheduler.proofs.Steps.{resumed}
+use Rattle.job_scheduler.proofs.Writes.{resumed}
 use Rattle.job_scheduler.proofs.scheduler.Scheduler.resume.Goals as goal
 
 pub returns : goal.returns

@@ -5,7 +5,7 @@ use Rattle.job_scheduler.specs.contracts.scheduler.Scheduler.{the_view}
 use Rattle.board_model.proofs.Bridges.{write_is}
 use Rattle.job_scheduler.proofs.Entries.{run_worker, run_fiber, run_held}
 use Rattle.job_scheduler.proofs.Rows.{frame_undone}
-use Rattle.job_scheduler.proofs.Steps.{spread}
+use Rattle.job_scheduler.proofs.Writes.{spread}
 use Rattle.job_scheduler.proofs.scheduler.Scheduler.spread.Goals as goal
 
 pub fiber_of-fiber-requires : goal.fiber_of-fiber-requires

@@ -4,7 +4,7 @@ use Rattle.board_model.specs.Board.{Core, fiber_of}
 use Rattle.job_scheduler.specs.contracts.scheduler.Scheduler.{the_view}
 use Rattle.job_scheduler.proofs.Entries.{busy_worker, busy_fiber, busy_taken}
 use Rattle.job_scheduler.proofs.Rows.{raise_undone}
-use Rattle.job_scheduler.proofs.Steps.{put_more}
+use Rattle.job_scheduler.proofs.Writes.{put_more}
 use Rattle.job_scheduler.proofs.scheduler.Scheduler.turn.Goals as goal
 
 pub fiber_of-fiber-requires : goal.fiber_of-fiber-requires
