@@ -96,10 +96,8 @@ fn behind<'t>(
     let _ = session;
     let mut them = Vec::with_capacity(alloc, MOST)?;
     them.push(found.share()?)?;
-    'known: for known in all {
-        if them.len() < MOST {
-            them.push(known.share()?)?;
-        }
+    'known: for known in all.iter().take(MOST - 1) {
+        them.push(known.share()?)?;
     }
     Ok(them)
 }
