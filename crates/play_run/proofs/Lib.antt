@@ -2,5 +2,7 @@ mod Spelled
 mod Tallies
 mod Sums
 mod Once
-mod Reported
+mod Putting
+mod Places
+mod Delivered
 pub mod Leaving

@@ -130,5 +130,8 @@ sum_counts s counts one for_each es numbers legal (len, each) =
 pub sum_steps : (s : Setup) (es : List Event) (steps : List ℕ) → IsLegalList s es → AreStepsOf s.workers es steps → sum steps ≡ count_by names_worker es
 sum_steps s es steps legal are = sum_counts s names names_worker (names_one s) es steps legal are
 
+pub sum_drawn : (s : Setup) (es : List Event) (bands : List ℕ) → IsLegalList s es → AreBandsOf s.workers es bands → sum bands ≡ count_by ends_draw es
+sum_drawn s es bands legal are = sum_counts s ends_draw_of ends_draw (draws_one s) es bands legal are
+
 pub sum_bands : (s : Setup) (es : List Event) (bands : List ℕ) → IsComplete s es → AreBandsOf s.workers es bands → sum bands ≡ s.frames * s.bands
-sum_bands s es bands complete are = sum_counts s ends_draw_of ends_draw (draws_one s) es bands complete.0 are ∙ draws_ended s es complete
+sum_bands s es bands complete are = sum_drawn s es bands complete.0 are ∙ draws_ended s es complete

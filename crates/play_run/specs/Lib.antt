@@ -2,3 +2,4 @@ pub mod Games
 pub mod Plays
 pub mod Reports
 pub mod Once
+pub mod Puts

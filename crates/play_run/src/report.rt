@@ -28,18 +28,20 @@ fn fault(cause: Cause, frames: u32) -> RunFault
     RunFault { cause, frames }
 }
 
-/// The report of a board that no other thread has, once all frames are written and all shares are joined. The steps of the
-/// workers are those that their shares count.
-pub fn report_on<L: RunLedger, M: Ledger>(
+/// The report of a board that no other thread has, once all frames are written and all shares are joined. Steps and bands of
+/// the workers are those that their shares count, and the bands are those that the printer took.
+pub fn report_on<L: RunLedger, M: Ledger, D: Ledger>(
     alloc: Global,
     session: &Session,
     settings: Settings,
-    board: SharedBoard<'_, L, M>,
+    board: SharedBoard<'_, L, M, D>,
     all: &mut Share<L>,
     emits: &mut Share<M>,
+    draws: &mut Share<D>,
+    taken: &[u64],
 ) -> Result<RunReport, RunFault>
     requires run { (L.game ≡ Some session.now) × (L.numbers ≡ Some settings) }
-    requires whole { (all.old.parts ≡ L.parts) × (emits.old.parts ≡ M.parts) }
+    requires whole { (all.old.parts ≡ L.parts) × (emits.old.parts ≡ M.parts) × (draws.old.parts ≡ D.parts) }
     ensures fault { IfErr result (λ e. e.frames ≡ settings.frames) }
     ensures frames { IfOk result (λ r. r.frames ≡ settings.frames) }
     ensures complete { IfOk result (λ r. IsComplete (setup_for session.now settings) r.events.items) }
@@ -47,9 +49,10 @@ pub fn report_on<L: RunLedger, M: Ledger>(
     ensures sum { IfOk result (λ r. sum r.steps.items ≡ count_by names_worker r.events.items) }
     ensures bands { IfOk result (λ r. AreBandsOf settings.workers r.events.items r.bands.items) }
     ensures band_sum { IfOk result (λ r. sum r.bands.items ≡ settings.frames * bands_in session.now) }
-    ensures shares { IfOk result (λ r. sum r.steps.items ≡ all.old.amount) }
+    ensures shares { IfOk result (λ r. (sum r.steps.items ≡ all.old.amount) × (sum r.bands.items ≡ draws.old.amount)) }
+    ensures taken { IfOk result (λ r. r.bands.items ≡ taken.now) }
 {
-    let Some(events) = board.into_events(all, emits) else {
+    let Some(events) = board.into_events(all, emits, draws) else {
         return Err(fault(Cause::Stranger, settings.frames()));
     };
     let Ok(steps) = Counted::Steps.of_all(alloc, &events, settings.workers()) else {
@@ -58,6 +61,10 @@ pub fn report_on<L: RunLedger, M: Ledger>(
     let Ok(bands) = Counted::Bands.of_all(alloc, &events, settings.workers()) else {
         return Err(fault(Cause::OutOfMemory, settings.frames()));
     };
+    // Each band that a worker drew came to the printer.
+    if bands.as_slice() != taken {
+        return Err(fault(Cause::Stranger, settings.frames()));
+    }
     Ok(RunReport {
         frames: settings.frames(),
         events,

@@ -1,3 +1,4 @@
 mod Places
 mod Drawn
 mod Taking
+mod Counting

@@ -3,6 +3,8 @@
 
 mod band_table;
 mod frame_bands;
+mod inbox;
 mod printer;
 
+pub use inbox::Inbox;
 pub use printer::{Printer, print};

@@ -7,11 +7,11 @@ ghost use Rattle.run_shared.specs.Printed.{WrotePart};
 ghost use Rattle.run_printer.specs.Tables.{AreFirstBands};
 
 use crate::band_table::BandTable;
-use band_mail::Taker;
+use crate::inbox::Inbox;
 use byte_streams::write_whole;
 use draw_list::{Band, band_count, frame_text};
 use game_session::Session;
-use run_shared::{Cause, RunBand, RunFault, RunLedger, Shared};
+use run_shared::{Cause, RunFault, RunLedger, Shared};
 use std::alloc::{AllocError, Global};
 use std::io::Write;
 use std::sync::Wait;
@@ -26,10 +26,10 @@ fn bands_of(session: &Session) -> u32
     band_count(session.world().height())
 }
 
-/// The printer's side of the bands: the Taker of the mail, and what it took and did not print yet.
+/// The printer's side of the bands: its end of the mail, and what it took and did not print yet.
 #[derive(Drop)]
 pub struct Printer<'t, L: RunLedger> {
-    pub taker: Taker<RunBand<'t, L>>,
+    pub inbox: Inbox<'t, L>,
     table: BandTable<'t, L>,
     // The bands of the frame that is printed next, from the top, as far as they came.
     next: Vec<Band>,
@@ -39,28 +39,32 @@ impl<'t, L: RunLedger> Printer<'t, L> {
     /// A printer that has taken nothing, for so many frames at a time.
     pub fn new(
         alloc: Global,
-        taker: Taker<RunBand<'t, L>>,
+        inbox: Inbox<'t, L>,
         session: &Session,
         frames: u32,
     ) -> Result<Printer<'t, L>, AllocError>
-        ensures { IfOk result (λ printer. printer.taker ≡ taker.entry) }
+        ensures { IfOk result (λ printer. printer.inbox.taker ≡ inbox.entry.taker) }
     {
         let bands = bands_of(session);
         let table = BandTable::new(alloc, frames, bands)?;
         let next = Vec::with_capacity(alloc, bands as usize)?;
-        Ok(Printer { taker, table, next })
+        Ok(Printer { inbox, table, next })
     }
 
     // Moves all bands from the mail into the table. Whether there were any: then a worker may have waited for room.
-    fn take_bands<M: Ledger, R: Wait>(&mut self, rt: &R, shared: &Shared<'t, L, M>) -> bool
-        requires { self.old.taker.mail ≡ shared.now.mail }
-        ensures mail { self.new.taker.mail ≡ shared.now.mail }
+    fn take_bands<M: Ledger, D: Ledger, R: Wait>(
+        &mut self,
+        rt: &R,
+        shared: &Shared<'t, L, M, D>,
+    ) -> bool
+        requires { self.old.inbox.taker.mail ≡ shared.now.mail }
+        ensures mail { self.new.inbox.taker.mail ≡ shared.now.mail }
         ensures next { self.new.next ≡ self.old.next }
     {
         let mut any = false;
         for _ in rt.forever() {
-            match shared.mail.take(rt, &mut self.taker) {
-                Some((_, band)) => self.table.keep(band),
+            match self.inbox.take(rt, &shared.mail) {
+                Some(band) => self.table.keep(band),
                 None => break,
             }
             any = true;
@@ -72,16 +76,16 @@ impl<'t, L: RunLedger> Printer<'t, L> {
     }
 
     // Waits until all bands of a frame are there.
-    fn gather<M: Ledger, R: Wait>(
+    fn gather<M: Ledger, D: Ledger, R: Wait>(
         &mut self,
         rt: &R,
-        shared: &Shared<'t, L, M>,
+        shared: &Shared<'t, L, M, D>,
         frame: u32,
         bands: u32,
         rest: &mut Rest,
     ) -> Result<(), Cause>
-        requires { self.old.taker.mail ≡ shared.now.mail }
-        ensures mail { self.new.taker.mail ≡ shared.now.mail }
+        requires { self.old.inbox.taker.mail ≡ shared.now.mail }
+        ensures mail { self.new.inbox.taker.mail ≡ shared.now.mail }
         ensures all { OnOk result (vec_len self.new.next ≡ bands) }
         ensures first { OnOk result ((g : Game) → L.game ≡ Some g → AreFirstBands g frame self.new.next.items) }
     {
@@ -106,21 +110,21 @@ impl<'t, L: RunLedger> Printer<'t, L> {
     }
 
     // The text of the next frame, once all of it is drawn.
-    fn next_text<M: Ledger, R: Wait>(
+    fn next_text<M: Ledger, D: Ledger, R: Wait>(
         &mut self,
         rt: &R,
         alloc: Global,
         session: &Session,
-        shared: &Shared<'t, L, M>,
+        shared: &Shared<'t, L, M, D>,
         frame: u32,
         rest: &mut Rest,
         emits: &mut Share<M>,
     ) -> Result<Vec<u8>, Cause>
         requires run { L.game ≡ Some session.now }
-        requires mail { self.old.taker.mail ≡ shared.now.mail }
+        requires mail { self.old.inbox.taker.mail ≡ shared.now.mail }
         requires emits { (emits.old.parts ≡ M.parts) × (0 < M.parts) }
         requires frame { frame ≡ emits.old.amount + 1 }
-        ensures mail { self.new.taker.mail ≡ shared.now.mail }
+        ensures mail { self.new.inbox.taker.mail ≡ shared.now.mail }
         ensures parts { emits.new.parts ≡ emits.old.parts }
         ensures counted { OnOk result (emits.new.amount ≡ emits.old.amount + 1) }
         ensures text { IfOk result (λ text. text.items ≡ frame_text session.now frame) }
@@ -138,9 +142,9 @@ impl<'t, L: RunLedger> Printer<'t, L> {
 
 // Shows the next frame, whose bands are all there, once its last Draw is finished. A worker is called where there is a job to
 // take then: a Logic may have waited for the frame's slot.
-fn show<'t, L: RunLedger, M: Ledger, R: Wait>(
+fn show<'t, L: RunLedger, M: Ledger, D: Ledger, R: Wait>(
     rt: &R,
-    shared: &Shared<'t, L, M>,
+    shared: &Shared<'t, L, M, D>,
     emits: &mut Share<M>,
     rest: &mut Rest,
 ) -> Result<Shown<'t>, Cause>
@@ -172,21 +176,21 @@ fn show<'t, L: RunLedger, M: Ledger, R: Wait>(
 }
 
 /// Shows and writes all frames in order, and flushes. At a fault it stops the board.
-pub fn print<'t, W: Write, L: RunLedger, M: Ledger, R: Wait>(
+pub fn print<'t, W: Write, L: RunLedger, M: Ledger, D: Ledger, R: Wait>(
     rt: &R,
     alloc: Global,
     session: &Session,
     settings: Settings,
     out: &mut W,
-    shared: &Shared<'t, L, M>,
+    shared: &Shared<'t, L, M, D>,
     emits: &mut Share<M>,
     printer: &mut Printer<'t, L>,
 ) -> Result<(), RunFault>
     requires run { L.game ≡ Some session.now }
     requires emits { (emits.old.parts ≡ M.parts) × (0 < M.parts) × (emits.old.amount ≡ 0) }
-    requires mail { printer.old.taker.mail ≡ shared.now.mail }
+    requires mail { printer.old.inbox.taker.mail ≡ shared.now.mail }
     ensures parts { emits.new.parts ≡ emits.old.parts }
-    ensures mail { printer.new.taker.mail ≡ shared.now.mail }
+    ensures mail { printer.new.inbox.taker.mail ≡ shared.now.mail }
     ensures emits { OnOk result (emits.new.amount ≡ settings.frames) }
     ensures ok { OnOk result (Appends (W.contents out.old) (W.contents out.new) (texts session.now settings.frames)) }
     ensures err { IfErr result (λ e. WrotePart (W.contents out.old) (W.contents out.new) session.now settings.frames e.frames) }

@@ -35,15 +35,15 @@ module _ (κ : NamedLft) (L : RattleType) (p : run_ledger.Ghosts L.Denot) (l : l
   pub run_band_sync : IsSync (RunBand.the_row κ L p l)
   run_band_sync = declared_sync (RunBand.the_type κ L p l) (band_out_sync κ, (nothing_sync L, tt))
 
-module _ (κ : NamedLft) (L M : RattleType) (p : run_ledger.Ghosts L.Denot) (l : ledger.Ghosts L.Denot) (m : ledger.Ghosts M.Denot) where
-  board_send : IsSend (SharedBoard.the_row κ L M p l m)
+module _ (κ : NamedLft) (L M D : RattleType) (p : run_ledger.Ghosts L.Denot) (l : ledger.Ghosts L.Denot) (m : ledger.Ghosts M.Denot) (d : ledger.Ghosts D.Denot) where
+  board_send : IsSend (SharedBoard.the_row κ L M D p l m d)
   board_send = search (board, book.the_send, crosses, sendable) depth 60 fits 20000
 
-  lock_sync : IsSync (lock.the_row (SharedBoard.the_row κ L M p l m))
+  lock_sync : IsSync (lock.the_row (SharedBoard.the_row κ L M D p l m d))
   lock_sync = search (board_send, mutex.the_sync, crosses, sendable) depth 60 fits 20000
 
   mail_sync : IsSync (mail.the_row (RunBand.the_row κ L p l))
   mail_sync = search (run_band_send κ L p l, run_band_sync κ L p l, mail_crossing.the_sync, crosses, sendable) depth 60 fits 20000
 
-  pub shared_sync : IsSync (Shared.the_row κ L M p l m)
+  pub shared_sync : IsSync (Shared.the_row κ L M D p l m d)
   shared_sync = search (lock_sync, mail_sync, crosses, sendable) depth 60 fits 20000

@@ -1,7 +1,9 @@
--- Which events name a worker, and which show a frame.
+-- Which events name a worker, and which show a frame; how many Draws end with a step.
 use Rattle.std.specs.Prelude.{ℕ, Bool, true, false, ◌==◌, List, count_by}
 use Rattle.job_core.specs.declared.names.Event.{Event}
 use Rattle.job_core.specs.declared.names.Event.TheVariants.{Start, Resume, Ask, Spread, Hold, Finish, Emit, Stop}
+use Rattle.frame_params.specs.declared.board_step.BoardStep.{BoardStep}
+use Rattle.frame_params.specs.declared.board_step.BoardStep.TheVariants.{Draw}
 
 abbrev pub names_worker : Event → Bool
 names_worker (Start w j) = true
@@ -31,3 +33,8 @@ names worker Stop = false
 -- the steps of a worker
 abbrev pub steps_of : ℕ → List Event → ℕ
 steps_of worker events = count_by (names worker) events
+
+-- how many Draws end with what a board is told
+abbrev pub draws_ended : BoardStep → ℕ
+draws_ended (Draw mark) = 1
+draws_ended step = 0

@@ -3,13 +3,14 @@ ghost use Rattle.std.specs.Coded.{Coded-set, coded_option};
 ghost use Rattle.game_rules.specs.Game.{Game};
 ghost use Rattle.game_session.specs.GameCode.{game_code};
 ghost use Rattle.job_core.specs.Core.{IsComplete, IsLegal};
+ghost use Rattle.job_core.specs.Draws.{ends_draw};
 ghost use Rattle.job_core.specs.declared.names.Event.TheVariants.{Emit};
 ghost use Rattle.job_scheduler.specs.Numbers.{Numbers};
 ghost use Rattle.frame_params.specs.BoardSteps.{IsToldIn};
 ghost use Rattle.task_board.specs.Boards.{setup_in, state_in, GivesJob, IsTaken, IsTakeRefused, IsShown, IsEmitRefused, IsStopped};
 ghost use Rattle.task_board.specs.HandedIn.{IsHandedIn, IsHandInRefused};
 ghost use Rattle.task_board.specs.Setups.{setup_for};
-ghost use Rattle.run_shared.specs.Counts.{names_worker, is_emit};
+ghost use Rattle.run_shared.specs.Counts.{names_worker, is_emit, draws_ended};
 
 use crate::ledger::RunLedger;
 use crate::run_task::RunTask;
@@ -18,21 +19,23 @@ use std::marker::Model;
 use std::sync::ledger::{Book, Ledger, Share};
 use task_board::{BoardFault, Event, Shown, Spent, TaskBoard};
 
-/// The board of a run with two books: one of its events that name a worker, one of those that show a frame. Each call that
-/// makes an event happen makes one, and adds one to the share of the thread that calls it; a call that is refused changes
-/// nothing.
+/// The board of a run with three books: one of its events that name a worker, one of those that show a frame, one of those
+/// that end a Draw. Each call that makes an event happen makes one, and adds one to a share of the thread that calls it, or to
+/// two where a Draw ends; a call that is refused changes nothing.
 #[derive(Drop)]
-pub struct SharedBoard<'t, L: RunLedger, M: Ledger> {
+pub struct SharedBoard<'t, L: RunLedger, M: Ledger, D: Ledger> {
     board: TaskBoard<'t>,
     named: Book<L>,
     emitted: Book<M>,
+    drawn: Book<D>,
     ghost game_is: { L.game ≡ Some board.game } by { Coded-set (coded_option game_code) L.game (Some board.game) },
     ghost numbers_are: { L.numbers ≡ Some board.numbers },
     ghost named_is: { named.total ≡ count_by names_worker board.events },
     ghost emitted_is: { emitted.total ≡ count_by is_emit board.events },
+    ghost drawn_is: { drawn.total ≡ count_by ends_draw board.events },
 }
 
-impl<'t, L: RunLedger, M: Ledger> Model for SharedBoard<'t, L, M> {
+impl<'t, L: RunLedger, M: Ledger, D: Ledger> Model for SharedBoard<'t, L, M, D> {
     ghost use Rattle.task_board.specs.Boards.{Played};
     ghost use Rattle.task_board.specs.BoardCode.{played_code};
 
@@ -43,18 +46,36 @@ impl<'t, L: RunLedger, M: Ledger> Model for SharedBoard<'t, L, M> {
     ghost view = { λ b. b.board };
 }
 
-impl<'t, L: RunLedger, M: Ledger> SharedBoard<'t, L, M> {
+/// How many Draws end with what a board is told.
+pub fn draws_in(step: &BoardStep<'_>) -> u64
+    ensures { result ≡ draws_ended step.now }
+{
+    match step {
+        BoardStep::Draw(_) => 1,
+        BoardStep::Logic(_) => 0,
+        BoardStep::Think(_) => 0,
+        BoardStep::Path(_) => 0,
+    }
+}
+
+impl<'t, L: RunLedger, M: Ledger, D: Ledger> SharedBoard<'t, L, M, D> {
     /// A board on which nothing has happened, with empty books.
-    pub fn new(board: TaskBoard<'t>, named: Book<L>, emitted: Book<M>) -> SharedBoard<'t, L, M>
+    pub fn new(
+        board: TaskBoard<'t>,
+        named: Book<L>,
+        emitted: Book<M>,
+        drawn: Book<D>,
+    ) -> SharedBoard<'t, L, M, D>
         requires run { (L.game ≡ Some board.game) × (L.numbers ≡ Some board.numbers) }
         requires log { board.events ≡ [] }
-        requires books { (named.total ≡ 0) × (emitted.total ≡ 0) }
+        requires books { (named.total ≡ 0) × (emitted.total ≡ 0) × (drawn.total ≡ 0) }
         ensures { result ≡ board.entry }
     {
         SharedBoard {
             board,
             named,
             emitted,
+            drawn,
         }
     }
 
@@ -88,19 +109,28 @@ impl<'t, L: RunLedger, M: Ledger> SharedBoard<'t, L, M> {
         worker: u32,
         step: BoardStep<'t>,
         mine: &mut Share<L>,
+        draws: &mut Share<D>,
     ) -> Result<(), BoardFault>
         requires own { IsSomeAnd L.game (λ g. IsToldIn g step) }
-        requires part { 0 < mine.old.parts }
+        requires part { (0 < mine.old.parts) × (0 < draws.old.parts) }
         ensures handed_in { OnOk result (IsHandedIn self.old self.new worker step.entry) }
         ensures refused { IfErr result (IsHandInRefused self.old worker step.entry) }
         ensures unchanged { OnErr result (self.new ≡ self.old) }
-        ensures parts { mine.new.parts ≡ mine.old.parts }
+        ensures parts { (mine.new.parts ≡ mine.old.parts) × (draws.new.parts ≡ draws.old.parts) }
         ensures counted { MatchResult result (λ _. mine.new.amount ≡ mine.old.amount + 1) (λ _. mine.new.amount ≡ mine.old.amount) }
+        ensures drawn { MatchResult result (λ _. draws.new.amount ≡ draws.old.amount + draws_ended step.entry) (λ _. draws.new.amount ≡ draws.old.amount) }
     {
-        let SharedBoard { board, named, .. } = self;
+        let ended = draws_in(&step);
+        let SharedBoard {
+            board,
+            named,
+            drawn,
+            ..
+        } = self;
         match board.hand_in(worker, step) {
             Ok(()) => {
                 named.add(mine, 1);
+                drawn.add(draws, ended);
                 Ok(())
             }
             Err(refused) => Err(refused.fault),
@@ -173,19 +203,27 @@ impl<'t, L: RunLedger, M: Ledger> SharedBoard<'t, L, M> {
     }
 
     /// The events, once all shares are joined; None where they are not a complete list.
-    pub fn into_events(self, all: &mut Share<L>, emits: &mut Share<M>) -> Option<Vec<Event>>
-        requires whole { (all.old.parts ≡ L.parts) × (emits.old.parts ≡ M.parts) }
+    pub fn into_events(
+        self,
+        all: &mut Share<L>,
+        emits: &mut Share<M>,
+        draws: &mut Share<D>,
+    ) -> Option<Vec<Event>>
+        requires whole { (all.old.parts ≡ L.parts) × (emits.old.parts ≡ M.parts) × (draws.old.parts ≡ D.parts) }
         ensures complete { IfSome result (λ events. (g : Game) (n : Numbers) → L.game ≡ Some g → L.numbers ≡ Some n → IsComplete (setup_for g n) events.items) }
         ensures named { IfSome result (λ events. count_by names_worker events.items ≡ all.old.amount) }
         ensures emitted { IfSome result (λ events. count_by is_emit events.items ≡ emits.old.amount) }
+        ensures drawn { IfSome result (λ events. count_by ends_draw events.items ≡ draws.old.amount) }
     {
         let SharedBoard {
             board,
             mut named,
             mut emitted,
+            mut drawn,
         } = self;
         named.audit(all);
         emitted.audit(emits);
+        drawn.audit(draws);
         if board.is_done() {
             return Some(board.into_events());
         }

@@ -11,7 +11,7 @@ mod shared;
 mod waiting;
 mod worked;
 
-pub use board::SharedBoard;
+pub use board::{SharedBoard, draws_in};
 pub use fault::{Cause, RunFault};
 pub use joining::joined;
 pub use ledger::RunLedger;

@@ -14,8 +14,8 @@ use std::thread::Threads;
 use thread_parking::{Crowd, lock_soon};
 
 /// What the threads of a run share.
-pub struct Shared<'t, L: RunLedger, M: Ledger> {
-    board: Mutex<SharedBoard<'t, L, M>>,
+pub struct Shared<'t, L: RunLedger, M: Ledger, D: Ledger> {
+    board: Mutex<SharedBoard<'t, L, M, D>>,
     /// By which bands go to the printer.
     pub mail: BandMail<RunBand<'t, L>>,
     /// Who waits.
@@ -24,7 +24,7 @@ pub struct Shared<'t, L: RunLedger, M: Ledger> {
     printed: Mutex<Vec<Band>>,
 }
 
-impl<'t, L: RunLedger, M: Ledger> Drop for Shared<'t, L, M> {
+impl<'t, L: RunLedger, M: Ledger, D: Ledger> Drop for Shared<'t, L, M, D> {
     fn drop(self) {
         let Self {
             board: _,
@@ -35,15 +35,15 @@ impl<'t, L: RunLedger, M: Ledger> Drop for Shared<'t, L, M> {
     }
 }
 
-impl<'t, L: RunLedger, M: Ledger> Shared<'t, L, M> {
+impl<'t, L: RunLedger, M: Ledger, D: Ledger> Shared<'t, L, M, D> {
     /// A board and a mail for so many workers, of which nobody waits yet. `printed` has room for the bands of a frame.
     pub fn new<R: Threads>(
         rt: &R,
-        board: SharedBoard<'t, L, M>,
+        board: SharedBoard<'t, L, M, D>,
         mail: BandMail<RunBand<'t, L>>,
         printed: Vec<Band>,
         workers: u32,
-    ) -> Shared<'t, L, M>
+    ) -> Shared<'t, L, M, D>
         ensures { result.mail ≡ mail.entry }
     {
         Shared {
@@ -55,7 +55,7 @@ impl<'t, L: RunLedger, M: Ledger> Shared<'t, L, M> {
     }
 
     /// Takes the board's lock.
-    pub fn lock<R: Wait>(&self, rt: &R) -> MutexGuard<'_, SharedBoard<'t, L, M>> {
+    pub fn lock<R: Wait>(&self, rt: &R) -> MutexGuard<'_, SharedBoard<'t, L, M, D>> {
         let (board, _) = lock_soon(rt, &self.board);
         board
     }
@@ -65,7 +65,7 @@ impl<'t, L: RunLedger, M: Ledger> Shared<'t, L, M> {
         &self,
         rt: &R,
         crowd: &mut Crowd,
-    ) -> MutexGuard<'_, SharedBoard<'t, L, M>> {
+    ) -> MutexGuard<'_, SharedBoard<'t, L, M, D>> {
         let (board, was_held) = lock_soon(rt, &self.board);
         crowd.learn(was_held);
         board
@@ -99,7 +99,7 @@ impl<'t, L: RunLedger, M: Ledger> Shared<'t, L, M> {
         rt: &R,
         putters: Vec<Putter<RunBand<'t, L>>>,
         taker: Taker<RunBand<'t, L>>,
-    ) -> (SharedBoard<'t, L, M>, Vec<(u32, RunBand<'t, L>)>)
+    ) -> (SharedBoard<'t, L, M, D>, Vec<(u32, RunBand<'t, L>)>)
         requires putters { (vec_len putters ≡ length self.mail) × ArePuttersOf self.mail putters.items }
         requires taker { taker.mail ≡ self.mail }
         ensures { IsAllDelivered (all_put putters.entry.items) taker.entry.taken result.1.items }

@@ -1,9 +1,10 @@
-ghost use Rattle.std.specs.Prelude.{◌≡◌, ◌+◌, ◌<◌, IfOk, MatchResult, Some, true, false};
+ghost use Rattle.std.specs.Prelude.{◌≡◌, ◌+◌, ◌<◌, ◌≤◌, IfOk, OnOk, IfSome, MatchResult, Some, None, true, false, length};
 ghost use Rattle.std.specs.Coded.{Coded-set, coded_option};
 ghost use Rattle.game_session.specs.GameCode.{game_code};
 ghost use Rattle.band_mail.specs.Mails.{IsPutterOf, with_put};
 ghost use Rattle.frame_params.specs.BoardSteps.{IsToldIn};
 ghost use Rattle.frame_params.specs.Tasks.{game_of};
+ghost use Rattle.run_shared.specs.Counts.{draws_ended};
 ghost use Rattle.run_worker.specs.Own.{IsWorkIn};
 ghost use Rattle.run_worker.specs.declared.delivered.Delivered.TheVariants.{Told, Stopped};
 
@@ -14,7 +15,7 @@ use crate::scratch::Scratch;
 use band_mail::Putter;
 use frame_params::{BoardStep, Step, Task};
 use game_session::Session;
-use run_shared::{Cause, RunBand, RunLedger, RunTask, Shared, Worked};
+use run_shared::{Cause, RunBand, RunLedger, RunTask, Shared, Worked, draws_in};
 use std::alloc::Global;
 use std::hint;
 use std::sync::Wait;
@@ -35,17 +36,17 @@ fn cause_of(fault: BoardFault) -> Cause {
 
 /// What a run lends a worker, and the worker's number.
 #[derive(Drop)]
-struct Worker<'h, 't, L: RunLedger, M: Ledger, G: Gate, R: Wait> {
+struct Worker<'h, 't, L: RunLedger, M: Ledger, D: Ledger, G: Gate, R: Wait> {
     rt: &'h R,
     alloc: Global,
     session: &'h Session,
-    shared: &'h Shared<'t, L, M>,
+    shared: &'h Shared<'t, L, M, D>,
     gate: &'h G,
     number: u32,
     ghost run: { L.game ≡ Some session.now } by { Coded-set (coded_option game_code) L.game (Some session.now) },
 }
 
-impl<'h, 't, L: RunLedger, M: Ledger, G: Gate, R: Wait> Worker<'h, 't, L, M, G, R> {
+impl<'h, 't, L: RunLedger, M: Ledger, D: Ledger, G: Gate, R: Wait> Worker<'h, 't, L, M, D, G, R> {
     // Looks for a task once, in one hold of the lock. Where there is one and another could be taken, calls a worker for that.
     fn look(&self, share: &mut Share<L>) -> Result<Given<'t, L>, Cause>
         requires part { 0 < share.old.parts }
@@ -186,6 +187,32 @@ impl<'h, 't, L: RunLedger, M: Ledger, G: Gate, R: Wait> Worker<'h, 't, L, M, G, 
         self.put_when_there_is_room(putter, band)
     }
 
+    // What the board is to be told of the work, once the band is put where one was drawn: so all bands of a frame are in the mail
+    // before its last Draw is finished. None, and the work is let go, where the board is stopped meanwhile.
+    fn put_drawn(
+        &self,
+        step: Step<'t>,
+        putter: &mut Putter<RunBand<'t, L>>,
+    ) -> Option<BoardStep<'t>>
+        requires own { IsWorkIn self.now.session.now step }
+        requires putter { IsPutterOf self.now.shared.now.mail putter.old }
+        ensures own { IfSome result (IsToldIn self.now.session.now) }
+        ensures putter { IsPutterOf self.now.shared.now.mail putter.new }
+        ensures worker { putter.new.worker ≡ putter.old.worker }
+        ensures put { IfSome result (λ told. length putter.new.put ≡ length putter.old.put + draws_ended told) }
+        ensures kept { result ≡ None → putter.new ≡ putter.old }
+    {
+        let (told, band) = step.deliver();
+        if let Some(band) = band {
+            // Its memory is there for the next one.
+            drop(self.shared.take_printed());
+            if !self.put_band(putter, RunBand::new(band)) {
+                return None;
+            }
+        }
+        Some(told)
+    }
+
     // Tells the board what the work came to, in one hold of the lock. The printer is called where a frame can be shown then. What
     // the board has left over is given back, to be let go once the lock isn't wanted.
     fn tell(
@@ -193,57 +220,62 @@ impl<'h, 't, L: RunLedger, M: Ledger, G: Gate, R: Wait> Worker<'h, 't, L, M, G, 
         told: BoardStep<'t>,
         crowd: &mut Crowd,
         share: &mut Share<L>,
+        draws: &mut Share<D>,
     ) -> Result<(Delivered, Spent<'t>), Cause>
         requires own { IsToldIn self.now.session.now told }
-        requires part { 0 < share.old.parts }
-        ensures part { share.new.parts ≡ share.old.parts }
+        requires part { (0 < share.old.parts) × (0 < draws.old.parts) }
+        ensures part { (share.new.parts ≡ share.old.parts) × (draws.new.parts ≡ draws.old.parts) }
         ensures counted { IfOk result (λ d. d.0 ≡ Told → share.new.amount ≡ share.old.amount + 1) }
         ensures stopped { IfOk result (λ d. d.0 ≡ Stopped → share.new.amount ≡ share.old.amount) }
+        ensures drawn { OnOk result (draws.new.amount ≡ draws.old.amount + draws_ended told.entry) }
     {
-        // Nothing else makes a frame ready to be shown.
-        let is_drawn = matches!(told, BoardStep::Draw(_));
+        let ended = draws_in(&told);
         let mut board = self.shared.lock_in_turn(self.rt, crowd);
-        let handed_in = board.hand_in(self.number, told, share);
+        let handed_in = board.hand_in(self.number, told, share, draws);
         let spent = board.take_spent();
-        let shows = is_drawn && board.may_show();
+        // Nothing else makes a frame ready to be shown.
+        let shows = ended != 0 && board.may_show();
         drop(board);
         if shows {
             self.shared.waiting.printer.call_one();
         }
         match handed_in {
             Ok(()) => Ok((Delivered::Told, spent)),
-            Err(BoardFault::Stopped) => Ok((Delivered::Stopped, spent)),
+            Err(BoardFault::Stopped) => {
+                if ended != 0 {
+                    // Its band is put and not told. Who stopped the board has a cause that goes before this one.
+                    return Err(Cause::Stranger);
+                }
+                Ok((Delivered::Stopped, spent))
+            }
             Err(fault) => Err(cause_of(fault)),
         }
     }
 
-    // Delivers what the work came to: the band first, so that all bands of a frame are in the mail before its last Draw is
-    // finished.
+    // Delivers what the work came to. Where that succeeds the board is told of each band that is put.
     fn deliver(
         &self,
         step: Step<'t>,
         putter: &mut Putter<RunBand<'t, L>>,
         crowd: &mut Crowd,
         share: &mut Share<L>,
+        draws: &mut Share<D>,
     ) -> Result<(Delivered, Option<Spent<'t>>), Cause>
         requires own { IsWorkIn self.now.session.now step }
-        requires part { 0 < share.old.parts }
+        requires part { (0 < share.old.parts) × (0 < draws.old.parts) }
         requires putter { IsPutterOf self.now.shared.now.mail putter.old }
+        requires told { length putter.old.put ≤ draws.old.amount }
         ensures putter { IsPutterOf self.now.shared.now.mail putter.new }
         ensures worker { putter.new.worker ≡ putter.old.worker }
-        ensures part { share.new.parts ≡ share.old.parts }
+        ensures part { (share.new.parts ≡ share.old.parts) × (draws.new.parts ≡ draws.old.parts) }
         ensures counted { IfOk result (λ d. d.0 ≡ Told → share.new.amount ≡ share.old.amount + 1) }
         ensures stopped { IfOk result (λ d. d.0 ≡ Stopped → share.new.amount ≡ share.old.amount) }
+        ensures told { OnOk result (length putter.new.put ≤ draws.new.amount) }
     {
-        let (told, band) = step.deliver();
-        if let Some(band) = band {
-            // Its memory is there for the next one.
-            drop(self.shared.take_printed());
-            if !self.put_band(putter, RunBand::new(band)) {
-                return Ok((Delivered::Stopped, None));
-            }
-        }
-        let (delivered, spent) = self.tell(told, crowd, share)?;
+        let Some(told) = self.put_drawn(step, putter) else {
+            return Ok((Delivered::Stopped, None));
+        };
+        let (delivered, spent) = self.tell(told, crowd, share, draws)?;
         Ok((delivered, Some(spent)))
     }
 
@@ -253,12 +285,15 @@ impl<'h, 't, L: RunLedger, M: Ledger, G: Gate, R: Wait> Worker<'h, 't, L, M, G, 
         scratch: &mut Scratch,
         putter: &mut Putter<RunBand<'t, L>>,
         share: &mut Share<L>,
+        draws: &mut Share<D>,
     ) -> Result<(), Cause>
-        requires part { 0 < share.old.parts }
+        requires part { (0 < share.old.parts) × (0 < draws.old.parts) }
         requires putter { IsPutterOf self.now.shared.now.mail putter.old }
+        requires told { length putter.old.put ≤ draws.old.amount }
         ensures putter { IsPutterOf self.now.shared.now.mail putter.new }
         ensures worker { putter.new.worker ≡ putter.old.worker }
-        ensures part { share.new.parts ≡ share.old.parts }
+        ensures part { (share.new.parts ≡ share.old.parts) × (draws.new.parts ≡ draws.old.parts) }
+        ensures told { OnOk result (length putter.new.put ≤ draws.new.amount) }
     {
         let mut crowd = Crowd::new();
         let mut next = self.next_task(share)?;
@@ -268,7 +303,7 @@ impl<'h, 't, L: RunLedger, M: Ledger, G: Gate, R: Wait> Worker<'h, 't, L, M, G, 
             };
             let step = self.work_of(scratch, &task.task)?;
             drop(task);
-            let (delivered, spent) = self.deliver(step, putter, &mut crowd, share)?;
+            let (delivered, spent) = self.deliver(step, putter, &mut crowd, share, draws)?;
             if delivered == Delivered::Stopped {
                 return Ok(());
             }
@@ -283,19 +318,21 @@ impl<'h, 't, L: RunLedger, M: Ledger, G: Gate, R: Wait> Worker<'h, 't, L, M, G, 
 }
 
 /// Works on tasks until the board is done or stopped, or something fails: then it stops the board, and says what.
-pub fn work<'t, L: RunLedger, M: Ledger, G: Gate, R: Wait>(
+pub fn work<'t, L: RunLedger, M: Ledger, D: Ledger, G: Gate, R: Wait>(
     rt: &R,
     alloc: Global,
     session: &Session,
-    shared: &Shared<'t, L, M>,
+    shared: &Shared<'t, L, M, D>,
     gate: &G,
     worker: u32,
     share: Share<L>,
+    draws: Share<D>,
     putter: Putter<RunBand<'t, L>>,
-) -> Worked<'t, L>
+) -> Worked<'t, L, D>
     requires run { L.game ≡ Some session.now }
-    requires part { share.parts ≡ 1 }
+    requires part { (share.parts ≡ 1) × (draws.parts ≡ 1) }
     requires putter { IsPutterOf shared.now.mail putter }
+    requires told { length putter.put ≤ draws.amount }
     ensures mail { IsPutterOf shared.now.mail result.putter }
     ensures worker { result.putter.worker ≡ putter.entry.worker }
 {
@@ -307,14 +344,17 @@ pub fn work<'t, L: RunLedger, M: Ledger, G: Gate, R: Wait>(
         gate,
         number: worker,
     };
-    let (mut share, mut putter) = (share, putter);
+    let (mut share, mut draws, mut putter) = (share, draws, putter);
     let mut scratch = Scratch::new(alloc);
-    let fault = worker.work_on(&mut scratch, &mut putter, &mut share).err();
+    let fault = worker
+        .work_on(&mut scratch, &mut putter, &mut share, &mut draws)
+        .err();
     if fault.is_some() {
         shared.stop(rt);
     }
     Worked {
         share,
+        draws,
         putter,
         fault,
     }

@@ -5,5 +5,5 @@ use Rattle.run_printer.proofs.printer.print.Given as goal
 
 abbrev pub invariant-loop-done : goal.invariant-loop-done
 invariant-loop-done g l =
-    (l.printer.taker.mail ≡ l.shared.mail) × (l.emits.parts ≡ l.initial.emits.parts) × (l.emits.amount ≡ l.done)
+    (l.printer.inbox.taker.mail ≡ l.shared.mail) × (l.emits.parts ≡ l.initial.emits.parts) × (l.emits.amount ≡ l.done)
     × Appends (g.W.Write.contents l.initial.out) (g.W.Write.contents l.out) (texts l.session l.done)

@@ -5,5 +5,5 @@ use Rattle.run_printer.proofs.printer.Printer.gather.Given as goal
 
 abbrev pub invariant-loop : goal.invariant-loop
 invariant-loop g l =
-    (l.self.taker.mail ≡ l.shared.mail) × (vec_len l.self.next ≤ l.bands)
+    (l.self.inbox.taker.mail ≡ l.shared.mail) × (vec_len l.self.next ≤ l.bands)
     × ((game : Game) → g.L.RunLedger.game ≡ Some game → AreFirstBands game l.frame (vec_items l.self.next))
