@@ -40,6 +40,7 @@ pub const BODY: &str = r#"<body>
 <tr><td><kbd>,</kbd> <kbd>.</kbd></td><td>slower, faster</td></tr>
 <tr><td><kbd>+</kbd> <kbd>-</kbd> <kbd>0</kbd></td><td>zoom the jobs, fit them to the frame</td></tr>
 <tr><td><kbd>[</kbd> <kbd>]</kbd> <kbd>=</kbd></td><td>zoom the map out, in, fit it (wheel and drag too)</td></tr>
+<tr><td><kbd>Tab</kbd></td><td>go to the next control; agents or a tree with the focus scroll by <kbd>Up</kbd> <kbd>Down</kbd> <kbd>PageUp</kbd> <kbd>PageDown</kbd></td></tr>
 <tr><td><kbd>1</kbd></td><td>map alone, or map and jobs</td></tr>
 <tr><td><kbd>?</kbd></td><td>this help</td></tr></table>
 <p style="margin:10px 0 0;color:#55606f">A log has no clock: the jobs' axis counts events. The address ends in the frame's number, so a link shows the same frame.</p></div></div>

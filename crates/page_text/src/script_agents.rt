@@ -52,6 +52,7 @@ function choose(a) {
   chosen = a >= 0 && a < A ? a : -1;
   $('side').classList.toggle('picked', chosen >= 0);
   show(shown);
+  if (chosen >= 0) cells[chosen].row.scrollIntoView({ block: 'nearest' });
 }
 // Beside the table: what changed in the frame, and the tree of the chosen agent.
 function drawDetail() {

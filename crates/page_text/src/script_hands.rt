@@ -143,6 +143,7 @@ document.addEventListener('keydown', event => {
   if (event.ctrlKey || event.metaKey || event.altKey) return;
   const typing = event.target === $('number') || event.target === $('speed');
   if (typing && event.key !== 'Escape' && event.key !== ' ') { if (event.key === 'Enter') event.target.blur(); return; }
+  if ((event.target === $('detail') || event.target === $('agentsBox')) && /^(Arrow|Page)(Up|Down)$/.test(event.key)) return; // scrolls it
   const ten = event.shiftKey ? 10 : 1;
   const done = () => event.preventDefault();
   switch (event.key) {

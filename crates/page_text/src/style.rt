@@ -37,7 +37,7 @@ main { display: grid; grid-template-columns: minmax(0, 1fr) minmax(0, 530px); ga
 #agentsBox table { border-collapse: collapse; width: 100%; font-size: 13px; table-layout: fixed; }
 #agentsBox th { position: sticky; top: 0; background: #e9edf2; text-align: left; font-weight: 600; font-size: 12px; padding: 2px 6px; color: #333d4b; z-index: 1; white-space: nowrap; }
 #agentsBox td { padding: 0 6px; border-top: 1px solid #edf0f3; white-space: nowrap; }
-#agentsBox tr.agent { cursor: pointer; }
+#agentsBox tr.agent { cursor: pointer; scroll-margin-top: 22px; }
 #agentsBox tr.agent:hover { background: #f0f6fd; }
 #agentsBox tr.chosen { background: #dcebfb !important; }
 .letter { display: inline-block; min-width: 1.45em; text-align: center; border-radius: 50%; color: #fff; font-weight: 700; }
