@@ -66,13 +66,15 @@ fn ends<'t>(
     requires way { way.now ≡ parked.now }
     ensures { IfSome result (λ thought. thought ≡ part_of params.now.game params.now.frame parked.now.agent) }
 {
-    let task = ThinkTask::resume(alloc, params, parked, way).ok()?;
+    let Ok(task) = ThinkTask::resume(alloc, params, parked, way) else {
+        return None;
+    };
     if task.name() != THINK {
         return None;
     }
-    match task.work(alloc).ok()? {
-        ThinkStep::Ended(thought) => Some(thought),
-        ThinkStep::Asks(_) => None,
+    match task.work(alloc) {
+        Ok(ThinkStep::Ended(thought)) => Some(thought),
+        _ => None,
     }
 }
 
