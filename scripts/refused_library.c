@@ -88,7 +88,7 @@ int main(int argc, char **argv) {
     btworld_game game = BTWORLD_CLOSED_GAME, twin = BTWORLD_CLOSED_GAME, copy = BTWORLD_CLOSED_GAME;
     btworld_agent_state agent, was = {7, 7, true, 7};
     uint32_t status, frame;
-    size_t size, length;
+    size_t size, length, filled;
     bool same;
     FILE *file = argc == 3 ? fopen(argv[1], "rb") : NULL;
     if (!file) return 64;
@@ -112,10 +112,10 @@ int main(int argc, char **argv) {
         LOOK(btworld_text(&twin, kept, ROOM, &length) == BTWORLD_OK);
         memset(text, 1, ROOM);
         memset(other, 1, ROOM);
-        REFUSING(status, btworld_text(&game, text, ROOM, &size)) LOOK(!memcmp(text, other, ROOM));
-        LOOK(status == BTWORLD_OK && size == length && !memcmp(text, kept, length) && text[length] == 1);
+        REFUSING(status, btworld_text(&game, text, ROOM, &filled)) LOOK(!memcmp(text, other, ROOM));
+        LOOK(status == BTWORLD_OK && filled == length && !memcmp(text, kept, length) && text[length] == 1);
         memset(text, 1, ROOM);
-        LOOK(btworld_text(&game, text, length - 1, &size) == BTWORLD_SHORT && size == length && !memcmp(text, other, ROOM));
+        LOOK(btworld_text(&game, text, length - 1, &filled) == BTWORLD_SHORT && filled == length && !memcmp(text, other, ROOM));
         REFUSING(status, btworld_fork(&game, &copy)) LOOK(!copy.is_open && btworld_same(&game, &twin, &same) == BTWORLD_OK && same);
         LOOK(status == BTWORLD_OK && btworld_same(&game, &copy, &same) == BTWORLD_OK && same);
         LOOK(btworld_step(&copy, ~on) == BTWORLD_OK && btworld_same(&game, &copy, &same) == BTWORLD_OK && !same);
