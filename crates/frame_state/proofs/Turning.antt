@@ -18,7 +18,7 @@ use Rattle.frame_state.specs.Names.{FrameOf, PartOf, part_of, AreOfAllAgents}
 use Rattle.frame_state.specs.Contents.{world_after, memories_after, signals_in, statuses_in, intents_in, seen, memory_before, thought_in, thought_for, bands_in, AllFit, IsAfter}
 use Rattle.frame_state.specs.Distances.{KnownOf}
 use Rattle.frame_state.specs.Logic.{AreGathered, AllFitOwn}
-use Rattle.frame_state.proofs.Ground.{play_ground}
+use Rattle.game_rules.proofs.Ground.{play_ground}
 use Rattle.draw_list.specs.Bands.{band_count}
 
 row_is : (w : Grid) (on : List Bool) (ps : List Plain) (ms : List (List ℕ)) (k : ℕ) (row : ℕ → Thought) → length ms ≡ length ps

@@ -57,51 +57,6 @@ fn to_place<'a, 't>(
         .find(|d| d.place() == place && d.is_under(signals))
 }
 
-// Those under these signals once more, and the others behind them.
-fn ordered<'t>(
-    alloc: Global,
-    session: &Session,
-    all: &[KeptDistances<'t>],
-    signals: Signals,
-) -> Result<Vec<KeptDistances<'t>>, AllocError>
-    requires { AllOf session.now all.now }
-    ensures { IfOk result (λ them. AllOf session.now them.items) }
-{
-    let _ = session;
-    let mut them = Vec::with_capacity(alloc, all.len())?;
-    'these: for known in all {
-        if known.is_under(signals) {
-            them.push(known.share()?)?;
-        }
-    }
-    'others: for known in all {
-        if !known.is_under(signals) {
-            them.push(known.share()?)?;
-        }
-    }
-    Ok(them)
-}
-
-// The same ones once more behind another, as many as are kept.
-fn behind<'t>(
-    alloc: Global,
-    session: &Session,
-    found: &KeptDistances<'t>,
-    all: &[KeptDistances<'t>],
-) -> Result<Vec<KeptDistances<'t>>, AllocError>
-    requires found { found.now.game ≡ session.now }
-    requires all { AllOf session.now all.now }
-    ensures { IfOk result (λ them. AllOf session.now them.items) }
-{
-    let _ = session;
-    let mut them = Vec::with_capacity(alloc, MOST)?;
-    them.push(found.share()?)?;
-    'known: for known in all.iter().take(MOST - 1) {
-        them.push(known.share()?)?;
-    }
-    Ok(them)
-}
-
 impl<'t> Known<'t> {
     ghost use Rattle.frame_state.specs.Distances.{known_of, distances_of, IsGivenIf};
 
@@ -131,6 +86,28 @@ impl<'t> Known<'t> {
         })
     }
 
+    // Those under these signals once more, and the others behind them.
+    fn ordered(
+        &self,
+        alloc: Global,
+        signals: Signals,
+    ) -> Result<Vec<KeptDistances<'t>>, AllocError>
+        ensures { IfOk result (λ them. AllOf self.now.game them.items) }
+    {
+        let mut them = Vec::with_capacity(alloc, self.all.len())?;
+        'these: for known in self.all.iter() {
+            if known.is_under(signals) {
+                them.push(known.share()?)?;
+            }
+        }
+        'others: for known in self.all.iter() {
+            if !known.is_under(signals) {
+                them.push(known.share()?)?;
+            }
+        }
+        Ok(them)
+    }
+
     // What is known under these signals: the same ones while they are equal, and else those that were found when the
     // signals were these before.
     pub(crate) fn under(&self, alloc: Global, signals: Signals) -> Result<Known<'t>, AllocError>
@@ -139,7 +116,7 @@ impl<'t> Known<'t> {
         if signals == self.signals {
             return Ok(self.share()?);
         }
-        let all = ordered(alloc, self.session, &self.all, signals)?;
+        let all = self.ordered(alloc, signals)?;
         Ok(Known {
             session: self.session,
             signals,
@@ -164,6 +141,23 @@ impl<'t> Known<'t> {
         }
     }
 
+    // These once more behind another, as many as are kept.
+    fn behind(
+        &self,
+        alloc: Global,
+        found: &KeptDistances<'t>,
+    ) -> Result<Vec<KeptDistances<'t>>, AllocError>
+        requires game { found.now.game ≡ self.now.game }
+        ensures { IfOk result (λ them. AllOf self.now.game them.items) }
+    {
+        let mut them = Vec::with_capacity(alloc, MOST)?;
+        them.push(found.share()?)?;
+        'known: for known in self.all.iter().take(MOST - 1) {
+            them.push(known.share()?)?;
+        }
+        Ok(them)
+    }
+
     // These and those that were found, where none were known to their place.
     pub(crate) fn with(
         &self,
@@ -176,7 +170,7 @@ impl<'t> Known<'t> {
         if self.to(found.place()).is_some() {
             return Ok(self.share()?);
         }
-        let all = behind(alloc, self.session, found, &self.all)?;
+        let all = self.behind(alloc, found)?;
         Ok(Known {
             session: self.session,
             signals: self.signals,

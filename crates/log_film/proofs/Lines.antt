@@ -13,7 +13,7 @@ use Rattle.bt_nodes.specs.declared.node.Status.TheVariants.{Success, Failure, Ru
 use Rattle.game_rules.specs.Game.{Game, signals}
 use Rattle.game_rules.specs.Play.{play, thoughts, thoughts_from}
 use Rattle.game_rules.specs.Text.{agent_text, agents_text, status_letter}
-use Rattle.frame_state.proofs.Ground.{play_ground}
+use Rattle.game_rules.proofs.Ground.{play_ground}
 use Rattle.frame_changes.specs.Films.{HasNoMark, IsLines, in_front, lines_of}
 use Rattle.log_film.specs.Frames.{IsPlayable, lines_at}
 use Rattle.log_film.proofs.Plain.{ArePlain, IsPlain, decimal_plain, plain, unmarked}

@@ -6,7 +6,7 @@ use Rattle.grid_world.specs.Grid.{Grid}
 use Rattle.game_rules.specs.Game.{Game}
 use Rattle.game_rules.specs.Text.{frame_text}
 use Rattle.frame_state.specs.Contents.{world_after}
-use Rattle.frame_state.proofs.Ground.{play_ground}
+use Rattle.game_rules.proofs.Ground.{play_ground}
 use Rattle.log_film.specs.Frames.{lines_at, rows_at, size_of}
 use Rattle.log_film.proofs.Rows.{length-rows}
 

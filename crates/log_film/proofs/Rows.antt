@@ -15,7 +15,7 @@ use Rattle.grid_world.specs.World.{IsSized, point, row_glyphs}
 use Rattle.grid_world.proofs.Lined.{length-lines, lines-next, lines-none}
 use Rattle.game_rules.specs.Game.{Game, signals}
 use Rattle.game_rules.specs.Play.{play}
-use Rattle.frame_state.proofs.Ground.{play_ground}
+use Rattle.game_rules.proofs.Ground.{play_ground}
 use Rattle.frame_changes.specs.Films.{feeds_of}
 use Rattle.log_film.specs.Frames.{IsPlayable, rows_at, size_of}
 use Rattle.log_film.proofs.Plain.{ArePlain, IsPlain, plain}

@@ -1,9 +1,9 @@
 -- What no intent changes of a world: its size, its cells, and how many agents there are.
-use Rattle.std.proofs.Common.{◌≡◌, ℕ, zero, suc, List, [], ◌∷◌, length, map, Bool, true, false, Option, Some, None, refl, sym, ap, subst, nat_lt, ◌∙◌, ◌&&◌, if◌then◌else◌}
+use Rattle.std.proofs.Common.{◌≡◌, ℕ, zero, suc, List, [], ◌∷◌, length, map, Bool, true, false, Option, Some, None, refl, sym, ap, ◌∙◌, ◌&&◌, if◌then◌else◌}
 use Rattle.std.specs.Prelude.{not, is_none}
 use Rattle.std.proofs.lemmas.List.{length-set}
 use Rattle.grid_world.specs.Grid.{Grid, Point, agent_of, agent_on, point_of, has_item, is_on_map, place_of}
-use Rattle.grid_world.specs.Ground.{bare}
+use Rattle.grid_world.specs.Ground.{bare, emptied}
 use Rattle.grid_world.specs.Way.{way, way_to}
 use Rattle.grid_world.specs.declared.cell.Answer.TheVariants.{NoWay}
 use Rattle.grid_world.specs.declared.cell.Intent.{Intent}
@@ -13,7 +13,6 @@ use Rattle.grid_world.specs.Walks.{next}
 use Rattle.grid_world.specs.Intents.{apply, apply_all, moved, handed, loaded, given, may_give, with_agent}
 use Rattle.game_rules.specs.Game.{Game, signals}
 use Rattle.game_rules.specs.Play.{play, thoughts}
-use Rattle.frame_state.specs.Contents.{world_after}
 
 pub record SameGround (g h : Grid) : Type 0 where
   pub width : h.width ≡ g.width
@@ -21,7 +20,7 @@ pub record SameGround (g h : Grid) : Type 0 where
   pub cells : h.cells ≡ g.cells
   pub agents : length h.agents ≡ length g.agents
 
-same : (g : Grid) → SameGround g g
+pub same : (g : Grid) → SameGround g g
 same g = record { width = refl; height = refl; cells = refl; agents = refl }
 
 onward : (g h k : Grid) → SameGround g h → SameGround h k → SameGround g k
@@ -55,7 +54,7 @@ apply_ground g on a Take = chosen (not (agent_of g a).carrying && has_item g (po
 apply_ground g on a Drop = chosen ((agent_of g a).carrying && not (has_item g (point_of (agent_of g a)))) g (handed g a false) g (handed_ground g a false) (same g)
 apply_ground g on a (Give b) = chosen (may_give g a b) g (given g a b) g (given_ground g a b) (same g)
 
-apply_all_ground : (g : Grid) (on : List Bool) (a : ℕ) (is : List Intent) → SameGround g (apply_all g on a is)
+pub apply_all_ground : (g : Grid) (on : List Bool) (a : ℕ) (is : List Intent) → SameGround g (apply_all g on a is)
 apply_all_ground g on a [] = same g
 apply_all_ground g on a (i ∷ is) =
     onward g (apply g on a i) (apply_all (apply g on a i) on (suc a) is) (apply_ground g on a i) (apply_all_ground (apply g on a i) on (suc a) is)
@@ -67,34 +66,19 @@ play_ground g (suc f) =
     onward g.world (play g f).world (play g (suc f)).world (play_ground g f)
     (apply_all_ground (play g f).world (signals g.changes (suc f)) 0 (map (λ t. t.intent) (thoughts g (suc f) (play g f))))
 
--- ---- ways
+pub ground_is : (g h : Grid) → SameGround g h → emptied g ≡ emptied h
+ground_is g h s =
+    sym (ap (λ n. bare n h.height h.cells) s.width ∙ ap (λ n. bare g.width n h.cells) s.height ∙ ap (λ cells. bare g.width g.height cells) s.cells)
 
--- a way is told by the ground alone
-same_way : (g h : Grid) → SameGround g h → (on : List Bool) (p : Point) (place : ℕ) → way h on p place ≡ way g on p place
-same_way g h s on p place =
-    ap (λ n. way (bare n h.height h.cells) on p place) s.width
-    ∙ ap (λ n. way (bare g.width n h.cells) on p place) s.height
-    ∙ ap (λ cells. way (bare g.width g.height cells) on p place) s.cells
+-- ---- what is told by the ground alone
 
-same_map : (g h : Grid) → SameGround g h → (p : Point) → is_on_map h p ≡ is_on_map g p
-same_map g h s p = ap (λ n. nat_lt p.x n && nat_lt p.y h.height) s.width ∙ ap (λ n. nat_lt p.x g.width && nat_lt p.y n) s.height
+module _ (k w : Grid) (same : emptied k ≡ emptied w) where
+  pub way_stays : (on : List Bool) (p : Point) (place : ℕ) → way k on p place ≡ way w on p place
+  way_stays on p place = ap (λ (g : Grid). way g on p place) same
 
-same_place : (g h : Grid) → SameGround g h → (place : ℕ) → place_of h place ≡ place_of g place
-same_place g h s place =
-    ap (λ n. place_of (bare n h.height h.cells) place) s.width ∙ ap (λ cells. place_of (bare g.width h.height cells) place) s.cells
-
-module _ (g : Game) (f : ℕ) (world : Grid) (is : world ≡ world_after g f) where
-  stays : SameGround g.world world
-  unfolding world_after
-  stays = subst (λ (w : Grid). SameGround g.world w) (sym is) (play_ground g f)
-
-  -- the way on the game's ground is that in each of its worlds
-  pub way_stays : (on : List Bool) (p : Point) (place : ℕ) → way g.world on p place ≡ way world on p place
-  way_stays on p place = sym (same_way g.world world stays on p place)
-
-  pub map_stays : (p : Point) → is_on_map world p ≡ true → is_on_map g.world p ≡ true
-  map_stays p there = sym (same_map g.world world stays p) ∙ there
+  pub map_stays : (p : Point) → is_on_map w p ≡ true → is_on_map k p ≡ true
+  map_stays p there = ap (λ (g : Grid). is_on_map g p) same ∙ there
 
   -- to a place that is not there no way leads
-  pub no_way : (on : List Bool) (p : Point) (place : ℕ) → place_of g.world place ≡ None → NoWay ≡ way world on p place
-  no_way on p place none = sym (ap (way_to world on p) (same_place g.world world stays place ∙ none))
+  pub no_way : (on : List Bool) (p : Point) (place : ℕ) → place_of k place ≡ None → NoWay ≡ way w on p place
+  no_way on p place none = sym (ap (way_to w on p) (sym (ap (λ (g : Grid). place_of g place) same) ∙ none))

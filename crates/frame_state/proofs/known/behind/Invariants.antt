@@ -1,5 +1,0 @@
-use Rattle.frame_state.specs.Distances.{AllOf}
-use Rattle.frame_state.proofs.known.behind.Given as goal
-
-abbrev pub invariant-known : goal.invariant-known
-invariant-known l = AllOf l.session l.them.items
