@@ -87,11 +87,7 @@ impl<'t> Known<'t> {
     }
 
     // Those under these signals once more, and the others behind them.
-    fn ordered(
-        &self,
-        alloc: Global,
-        signals: Signals,
-    ) -> Result<Vec<KeptDistances<'t>>, AllocError>
+    fn ordered(&self, alloc: Global, signals: Signals) -> Result<Vec<KeptDistances<'t>>, AllocError>
         ensures { IfOk result (λ them. AllOf self.now.game them.items) }
     {
         let mut them = Vec::with_capacity(alloc, self.all.len())?;

@@ -4,3 +4,4 @@ pub mod SameSizes
 pub mod Handed
 pub mod GoingOn
 pub mod Crossing
+pub mod Texts

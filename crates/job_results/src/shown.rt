@@ -1,8 +1,11 @@
-ghost use Rattle.std.specs.Prelude.{◌≡◌, length};
+ghost use Rattle.std.specs.Prelude.{◌≡◌, ◌<◌, length, IfOk};
+ghost use Rattle.game_rules.specs.Text.{frame_text};
 
 use bt_nodes::Status;
+use draw_list::draw_frame;
 use frame_params::Turn;
 use grid_world::{Signals, World};
+use std::alloc::{AllocError, Global};
 use std::marker::Model;
 
 /// A frame that is shown: the world after it, its signals, and the answers of the agents' ticks.
@@ -57,6 +60,20 @@ impl<'t> Shown<'t> {
         ensures agents { length result.now ≡ length self.now.game.trees }
     {
         self.turn.statuses()
+    }
+
+    /// Its text, drawn in bands one after another.
+    pub fn text(&self, alloc: Global) -> Result<Vec<u8>, AllocError>
+        requires { 0 < self.now.frame }
+        ensures { IfOk result (λ text. text.items ≡ frame_text self.now.game self.now.frame) }
+    {
+        draw_frame(
+            alloc,
+            self.frame(),
+            self.world(),
+            self.signals(),
+            self.statuses(),
+        )
     }
 
     /// The turn of the frame, which it is made of.

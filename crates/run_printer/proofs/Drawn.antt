@@ -1,19 +1,19 @@
 -- The text of a frame, by what its turn and its bands hold.
-use Rattle.std.proofs.Common.{◌≡◌, ℕ, zero, suc, ◌+◌, ◌-◌, ◌<◌, Bool, Some, List, [], ◌∷◌, ◌++◌, length, map, sym, ap, ◌∙◌, arith}
+use Rattle.std.proofs.Common.{◌≡◌, ℕ, suc, ◌+◌, ◌<◌, Bool, List, [], ◌∷◌, ◌++◌, length, map, sym, ap, ◌∙◌, arith}
 use Rattle.std.proofs.lemmas.Grind.{common_steps}
 use Rattle.run_printer.specs.Tables.{AreFirstBands}
 use Rattle.std.proofs.lemmas.List.{map-append}
 use Rattle.grid_world.specs.Grid.{Grid}
 use Rattle.grid_world.specs.Map.{count_up}
 use Rattle.bt_nodes.specs.declared.node.Status.{Status}
-use Rattle.game_rules.specs.Game.{Game, signals}
-use Rattle.game_rules.specs.Play.{play, thoughts}
+use Rattle.game_rules.specs.Game.{Game}
 use Rattle.game_rules.specs.Text.{text, frame_text}
 use Rattle.draw_list.specs.declared.band.Band.{Band}
 use Rattle.draw_list.specs.Bands.{bands_of, band_count}
 use Rattle.draw_list.proofs.Counting.{count_up-zero, count_up-suc, count_up-append}
 use Rattle.frame_state.specs.Contents.{world_after, signals_in, statuses_in, bands_in, band_in}
 use Rattle.frame_state.proofs.Turning.{height_stays}
+use Rattle.job_results.proofs.Texts.{text-frame}
 
 -- one band more
 pub one_more : (g : Game) (f n : ℕ) (drawn : List Band) (band : Band) → drawn ≡ map (band_in g f) (count_up 0 n) → band ≡ band_in g f n
@@ -34,13 +34,6 @@ first_more g f n into band before many is =
 -- all bands of a frame are those of its world
 pub all_drawn : (g : Game) (f : ℕ) → map (band_in g f) (count_up 0 (bands_in g)) ≡ bands_of (world_after g f) (signals_in g f)
 all_drawn g f = ap (λ h. map (band_in g f) (count_up 0 (band_count h))) (sym (height_stays g f))
-
-text-frame : (g : Game) (f : ℕ) → 0 < f → text f (world_after g f) (signals_in g f) (statuses_in g f) ≡ frame_text g f
-unfolding world_after statuses_in
-text-frame g zero h = absurd (omega (arith, h))
-text-frame g (suc f) h =
-    let n : suc f - 1 ≡ f = omega arith in
-    ap (λ k. text (suc f) (play g (suc f)).world (signals g.changes (suc f)) (map (λ t. t.status) (thoughts g (suc f) (play g k)))) n
 
 -- what is written of a frame's turn and of all its bands
 pub written_is : (g own : Game) (f n : ℕ) (drawn : List Band) (world : Grid) (statuses : List Status) (written : List ℕ) → own ≡ g → 0 < f
