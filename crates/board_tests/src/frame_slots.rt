@@ -25,27 +25,34 @@ fn taken(slots: &mut Slots, frame: u32) -> Option<u32> {
     }
 }
 
-// Whether a frame's slot is free once the first frame is in its own, once the third's, the same, is cleared, and once the
-// first's is.
-fn clearings(alloc: Global, session: &Session) -> Option<[bool; 3]> {
-    let params = FrameParams::first(alloc, session).ok()?;
-    let mut slots = Slots::new(alloc, 2).ok()?;
-    slots.fill(params);
-    let full = slots.is_free(1);
-    slots.clear(3);
-    let kept = slots.is_free(3);
-    slots.clear(1);
-    Some([full, kept, slots.is_free(1)])
+// Which of the frames 1 to 3 have a free slot.
+fn free(slots: &Slots) -> [bool; 3] {
+    [slots.is_free(1), slots.is_free(2), slots.is_free(3)]
 }
 
-fn all_clearings(alloc: Global) -> Option<[bool; 3]> {
+// Which have one while both are new, once the first frame is in its own, once the third's, the same, is cleared, and once
+// the first's is.
+fn clearings(alloc: Global, session: &Session) -> Option<[[bool; 3]; 4]> {
+    let params = FrameParams::first(alloc, session).ok()?;
+    let mut slots = Slots::new(alloc, 2).ok()?;
+    let new = free(&slots);
+    slots.fill(params);
+    let full = free(&slots);
+    slots.clear(3);
+    let kept = free(&slots);
+    slots.clear(1);
+    Some([new, full, kept, free(&slots)])
+}
+
+fn all_clearings(alloc: Global) -> Option<[[bool; 3]; 4]> {
     let session = walk(alloc)?;
     clearings(alloc, &session)
 }
 
 #[test]
 fn a_cleared_slot_is_free(rt: HostRuntime) {
-    assert!(rt; all_clearings(rt.alloc()) == Some([false, false, true]));
+    let (new, full) = ([true; 3], [false, true, false]);
+    assert!(rt; all_clearings(rt.alloc()) == Some([new, full, full, new]));
 }
 
 // What two slots hold when they are new, once the first frame is put in, once the third is looked for in the same slot, and

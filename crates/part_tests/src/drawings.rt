@@ -61,10 +61,12 @@ fn is_text(alloc: Global, frame: u32, text: &[u8]) -> bool {
 #[test]
 fn twenty_rows_are_three_bands(rt: HostRuntime) {
     let alloc = rt.alloc();
-    let text = b"frame 9999\n.\n.\n.\n.\n.\n.\n.\n.\n.\n.\n.\n.\n.\n.\n.\n.\n.\n.\n.\n.\n";
+    let first = b"frame 1\n.\n.\n.\n.\n.\n.\n.\n.\n.\n.\n.\n.\n.\n.\n.\n.\n.\n.\n.\n.\n";
+    let last = b"frame 9999\n.\n.\n.\n.\n.\n.\n.\n.\n.\n.\n.\n.\n.\n.\n.\n.\n.\n.\n.\n.\n";
     assert!(rt; is_band(alloc, 2, b".\n.\n.\n.\n"));
     assert!(rt; band_fault(alloc, 3) == Some(DrawFault::NoBand));
-    assert!(rt; is_text(alloc, 9999, text));
+    assert!(rt; first.len() == 48 && is_text(alloc, 1, first));
+    assert!(rt; is_text(alloc, 9999, last));
 }
 
 // A cell of the second band of twenty rows of one cell.

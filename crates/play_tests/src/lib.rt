@@ -1,9 +1,11 @@
-//! What no clause of a run says, in tests alone: that jobs are under way at once, when the gate is asked, and which words are
-//! taken. There are no contracts here, and so no wrong bodies.
+//! What no clause of a run says, in tests alone: that jobs are under way at once, when the gate is asked, which words are
+//! taken, and how a run's faults are told. There are no contracts here, and so no wrong bodies.
 #![tactic(auto)]
 
 #[cfg(test)]
 mod bands_tests;
+#[cfg(test)]
+mod fault_tests;
 #[cfg(test)]
 mod gates;
 #[cfg(test)]
