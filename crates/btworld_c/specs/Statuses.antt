@@ -41,6 +41,17 @@ beyond_agents = 6
 abbrev pub last_frame : ℕ
 last_frame = 7
 
+-- ---- what a call on a handle may answer
+
+abbrev pub IsStepStatus : ℕ → Type 0
+IsStepStatus status = (status ≡ done) ⊎ ((status ≡ no_memory) ⊎ ((status ≡ closed) ⊎ (status ≡ last_frame)))
+
+abbrev pub IsTextStatus : ℕ → Type 0
+IsTextStatus status = (status ≡ done) ⊎ ((status ≡ closed) ⊎ ((status ≡ no_frame) ⊎ ((status ≡ no_memory) ⊎ (status ≡ short))))
+
+abbrev pub IsAgentStatus : ℕ → Type 0
+IsAgentStatus status = (status ≡ done) ⊎ ((status ≡ closed) ⊎ ((status ≡ no_frame) ⊎ (status ≡ beyond_agents)))
+
 -- ---- levels
 
 abbrev pub level_status : Fault → ℕ

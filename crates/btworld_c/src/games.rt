@@ -1,9 +1,9 @@
 // A game is opened, stepped, forked and closed.
-ghost use Rattle.std.specs.Prelude.{◌≡◌, ◌≢◌, ◌⊎◌, Some, None, IfOk, []};
+ghost use Rattle.std.specs.Prelude.{◌≡◌, ◌≢◌, ◌⊎◌, ◌+◌, ◌^◌, Some, None, IfOk, IsSomeAnd, []};
 ghost use Rattle.game_session.specs.Levels.{value_of};
 ghost use Rattle.game_session.specs.Sessions.{game_of};
 ghost use Rattle.stepping.specs.Played.{played_of, bits, scripted_signals, IsOnBy, IsStepped};
-ghost use Rattle.btworld_c.specs.Statuses.{done, closed, no_memory};
+ghost use Rattle.btworld_c.specs.Statuses.{done, closed, no_memory, taken, last_frame, IsStepStatus};
 ghost use Rattle.btworld_c.specs.Games.{IsOpened, IsOpenStatus, IsOpenedBeside, IsOpenBesideStatus, IsSteppedIn, IsSteppedByScript, IsNotStepped};
 
 use crate::game::{Game, put, take};
@@ -82,6 +82,8 @@ fn step_held(alloc: Global, held: &mut Stepping, mask: u32) -> u32
     ensures ok { result ≡ done → IsStepped (bits 26 mask) held.old held.new }
     ensures refused { result ≢ done → IsOnBy 0 held.old held.new }
     ensures held { result ≢ closed }
+    ensures last { result ≡ last_frame → held.old.frame + 1 ≡ 2 ^ 32 }
+    ensures status { IsStepStatus result }
 {
     if held.frame() == u32::MAX {
         return LAST_FRAME;
@@ -101,6 +103,8 @@ pub extern "C" fn btworld_step(alloc: Global, game: &mut Game, mask: u32) -> u32
     ensures refused { result ≢ done → IsNotStepped game.old.handle.value game.new.handle.value }
     ensures closed { game.old.handle.value ≡ None → result ≡ closed }
     ensures held { result ≡ closed → game.old.handle.value ≡ None }
+    ensures last { result ≡ last_frame → IsSomeAnd game.old.handle.value (λ p. p.frame + 1 ≡ 2 ^ 32) }
+    ensures status { IsStepStatus result }
 {
     let Some(held) = take(alloc, game) else {
         return CLOSED;
@@ -115,6 +119,8 @@ fn step_held_by_script(alloc: Global, held: &mut Stepping) -> u32
     ensures ok { result ≡ done → IsStepped (scripted_signals held.old) held.old held.new }
     ensures refused { result ≢ done → IsOnBy 0 held.old held.new }
     ensures held { result ≢ closed }
+    ensures last { result ≡ last_frame → held.old.frame + 1 ≡ 2 ^ 32 }
+    ensures status { IsStepStatus result }
 {
     if held.frame() == u32::MAX {
         return LAST_FRAME;
@@ -134,6 +140,8 @@ pub extern "C" fn btworld_step_script(alloc: Global, game: &mut Game) -> u32
     ensures refused { result ≢ done → IsNotStepped game.old.handle.value game.new.handle.value }
     ensures closed { game.old.handle.value ≡ None → result ≡ closed }
     ensures held { result ≡ closed → game.old.handle.value ≡ None }
+    ensures last { result ≡ last_frame → IsSomeAnd game.old.handle.value (λ p. p.frame + 1 ≡ 2 ^ 32) }
+    ensures status { IsStepStatus result }
 {
     let Some(held) = take(alloc, game) else {
         return CLOSED;
@@ -161,6 +169,9 @@ pub extern "C" fn btworld_fork(alloc: Global, game: &mut Game, copy: &mut Game) 
     ensures kept { game.new.handle.value ≡ game.old.handle.value }
     ensures closed { copy.old.handle.value ≡ None → game.old.handle.value ≡ None → result ≡ closed }
     ensures held { result ≡ closed → game.old.handle.value ≡ None }
+    ensures open { copy.old.handle.value ≢ None → result ≡ taken }
+    ensures taken { result ≡ taken → copy.old.handle.value ≢ None }
+    ensures status { (result ≡ done) ⊎ ((result ≡ no_memory) ⊎ ((result ≡ closed) ⊎ (result ≡ taken))) }
 {
     if copy.is_open {
         return OPEN;
