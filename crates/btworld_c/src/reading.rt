@@ -1,7 +1,7 @@
 // What a caller reads of a game. No reading changes it.
-ghost use Rattle.std.specs.Prelude.{◌≡◌, ◌≢◌, ◌⊎◌, Some, None};
+ghost use Rattle.std.specs.Prelude.{◌≡◌, ◌≢◌, ◌⊎◌, Some, None, IfSome, IsSomeAnd};
 ghost use Rattle.stepping.specs.Played.{state_of};
-ghost use Rattle.btworld_c.specs.Statuses.{done, closed, no_memory, no_frame, short, beyond_agents};
+ghost use Rattle.btworld_c.specs.Statuses.{done, closed, no_memory, no_frame, short, beyond_agents, IsTextStatus, IsAgentStatus};
 ghost use Rattle.btworld_c.specs.Readings.{IsText, IsTooLong, IsAgent, IsBeyondAgents, IsFrame, IsDigest, TellsSame, agent_told, status_number, text_of};
 
 use crate::buffer::fill;
@@ -15,7 +15,11 @@ fn write_text(alloc: Global, held: &Stepping, text: &mut [u8], size: &mut usize)
     ensures ok { result ≡ done → IsText (Some held.now) size.new text.old text.new }
     ensures short { result ≡ short → IsTooLong (Some held.now) size.new text.old }
     ensures untouched { result ≢ done → text.new ≡ text.old }
+    ensures size { result ≢ done → result ≢ short → size.new ≡ size.old }
     ensures held { result ≢ closed }
+    ensures early { held.now.frame ≡ 0 → result ≡ no_frame }
+    ensures framed { result ≡ no_frame → held.now.frame ≡ 0 }
+    ensures status { IsTextStatus result }
 {
     if held.frame() == 0 {
         return NO_FRAME;
@@ -43,8 +47,12 @@ pub extern "C" fn btworld_text(
     ensures ok { result ≡ done → IsText game.old.handle.value size.new text.old text.new }
     ensures short { result ≡ short → IsTooLong game.old.handle.value size.new text.old }
     ensures untouched { result ≢ done → text.new ≡ text.old }
+    ensures size { result ≢ done → result ≢ short → size.new ≡ size.old }
     ensures closed { game.old.handle.value ≡ None → result ≡ closed }
     ensures held { result ≡ closed → game.old.handle.value ≡ None }
+    ensures early { IfSome game.old.handle.value (λ p. p.frame ≡ 0 → result ≡ no_frame) }
+    ensures framed { result ≡ no_frame → IsSomeAnd game.old.handle.value (λ p. p.frame ≡ 0) }
+    ensures status { IsTextStatus result }
     ensures kept { game.new.handle.value ≡ game.old.handle.value }
 {
     let Some(held) = take(alloc, game) else {
@@ -81,6 +89,9 @@ fn write_agent(held: &Stepping, number: u32, out: &mut Agent) -> u32
     ensures beyond { result ≡ beyond_agents → IsBeyondAgents (Some held.now) number }
     ensures untouched { result ≢ done → out.new ≡ out.old }
     ensures held { result ≢ closed }
+    ensures early { held.now.frame ≡ 0 → result ≡ no_frame }
+    ensures framed { result ≡ no_frame → held.now.frame ≡ 0 }
+    ensures status { IsAgentStatus result }
 {
     if held.frame() == 0 {
         return NO_FRAME;
@@ -103,6 +114,9 @@ pub extern "C" fn btworld_agent(alloc: Global, game: &mut Game, number: u32, out
     ensures untouched { result ≢ done → out.new ≡ out.old }
     ensures closed { game.old.handle.value ≡ None → result ≡ closed }
     ensures held { result ≡ closed → game.old.handle.value ≡ None }
+    ensures early { IfSome game.old.handle.value (λ p. p.frame ≡ 0 → result ≡ no_frame) }
+    ensures framed { result ≡ no_frame → IsSomeAnd game.old.handle.value (λ p. p.frame ≡ 0) }
+    ensures status { IsAgentStatus result }
     ensures kept { game.new.handle.value ≡ game.old.handle.value }
 {
     let Some(held) = take(alloc, game) else {
