@@ -50,6 +50,7 @@ pub extern "C" fn btworld_fault_text(
     ensures short { result ≡ short → (line : List ℕ) × IsShort line size.new text.old }
     ensures none { IsOk (spelled level.now) → IsOk (script_of script.now) → result ≢ no_memory → size.new ≡ 0 }
     ensures untouched { result ≢ done → text.new ≡ text.old }
+    ensures size { result ≢ done → result ≢ short → size.new ≡ size.old }
     ensures status { (result ≡ done) ⊎ ((result ≡ short) ⊎ (result ≡ no_memory)) }
 {
     match first_fault(alloc, level, script) {
