@@ -50,8 +50,8 @@ pub fn view_command<H: Files, W: Write, E: Write>(
         → PagesSome (W.contents out.old) (W.contents out.new) frames }
     ensures paged_part { (frames : FrameSpan) → AsksForPage (map string_bytes words.now) frames
         → PagesSomePart (W.contents out.old) (W.contents out.new) frames }
-    ensures refused_words { AreRefused (map string_bytes words.now)
-        → (result ≢ 0) × (W.contents out.new ≡ W.contents out.old) }
+    ensures refused_words { AreRefused (map string_bytes words.now) → result ≢ 0 }
+    ensures unwritten { AreRefused (map string_bytes words.now) → W.contents out.new ≡ W.contents out.old }
 {
     match read_view_words(alloc, words) {
         Ok(view) => {
