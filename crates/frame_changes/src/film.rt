@@ -40,7 +40,8 @@ impl Film {
     }
 
     /// Adds a frame, by its rows and its agents' lines. All frames have as many bytes of rows, at most those of a map of
-    /// 128 by 128 cells. Takes one pass over the rows.
+    /// 128 by 128 cells. Takes one pass over the rows. Where memory is refused the film is of no use any more: a first part
+    /// of the frame may stand in `text`, and `rows` may be empty.
     pub fn push(&mut self, rows: &[u8], lines: &[u8]) -> Result<(), AllocError>
         requires same { (self.old.rows.items ≡ []) ⊎ (length self.old.rows.items ≡ length rows.now) }
         requires few { length rows.now ≤ 16512 }

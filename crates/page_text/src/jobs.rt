@@ -41,7 +41,7 @@ fn push_ending(page: &mut Vec<u8>) -> Result<(), AllocError>
 }
 
 /// Appends the places of the events that show a frame, as far as events are done; the slices of all events, of jobs of the
-/// frames of the span; and the end of the page.
+/// frames of the span; and the end of the page. Where memory is refused a first part of it is appended.
 pub fn push_jobs(
     alloc: Global,
     page: &mut Vec<u8>,

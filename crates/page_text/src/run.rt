@@ -47,7 +47,8 @@ fn first_behind(events: &[Event], done: usize) -> &[Event]
 }
 
 /// Appends the head line of the log and the line of the first event that isn't done, where there is one; how many frames
-/// are shown, and how many events are done; and the frames, kept as changes.
+/// are shown, and how many events are done; and the frames, kept as changes. Where memory is refused a first part of it is
+/// appended.
 pub fn push_run(
     alloc: Global,
     page: &mut Vec<u8>,

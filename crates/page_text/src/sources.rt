@@ -20,7 +20,7 @@ fn push_named(page: &mut Vec<u8>, style: &str, body: &str, name: &[u8]) -> Resul
 }
 
 /// Appends the head of a page, the level's name, and the bytes of level and script as their files hold them; each `<` of
-/// these is `\u003c`, which in a level's JSON means the same.
+/// these is `\u003c`, which in a level's JSON means the same. Where memory is refused a first part of it is appended.
 pub fn push_sources(
     page: &mut Vec<u8>,
     name: &[u8],

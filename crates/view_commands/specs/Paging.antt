@@ -64,6 +64,17 @@ abbrev pub PagesPart : (old new : Option (List ℕ)) → Sources → FrameSpan �
 PagesPart old new sources span log g = Keeps old new ⊎ ((settings : Numbers) × (events : List Event) × (done : ℕ)
     × IsDoneLog g log settings events done × AppendsPart old new (page_for g sources settings events done span))
 
+-- the page of what is legal of the log was written
+abbrev pub PagesFew : (old new : Option (List ℕ)) → Sources → FrameSpan → (log : List ℕ) → Game → Type 0
+PagesFew old new sources span log g = (settings : Numbers) × (events : List Event) × (done : ℕ)
+    × IsDoneLog g log settings events done × Appends old new (page_for g sources settings events done span)
+
+-- what is said only once that page is written
+abbrev pub IsSaidLast : Fault → Type 0
+IsSaidLast (IllegalEvent index) = Unit {0}
+IsSaidLast (Incomplete shown all) = Unit {0}
+IsSaidLast _ = ⊥
+
 -- a log that can be read, but isn't shown whole: there was no memory, a write failed, or the page was written of a log of which
 -- an event isn't legal, or that shows fewer frames than it is of
 abbrev pub IsShowingFault : Game → List Event → Numbers → Fault → Type 0

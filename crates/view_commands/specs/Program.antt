@@ -40,6 +40,10 @@ Enters words name rows = (words ≢ []) × (fault_of program words ≡ []) × (s
 abbrev pub IsEntered : List Text → ArgMatches → Type 0
 IsEntered words m = (name : Text) (rows : List Row) → subcommand_rows_of m ≡ Some (name, rows) → Enters words name rows
 
+-- clap finds a fault in the words, which don't ask for help
+abbrev pub AreRefused : List Text → Type 0
+AreRefused words = (words ≢ []) × (fault_of program words ≢ []) × (IsAmong kinds.DisplayHelp (fault_of program words) → ⊥)
+
 -- the frames that the entries name; clap's reading has an entry with the default where the words have none
 abbrev pub AreFrames : List Row → FrameSpan → Type 0
 AreFrames rows frames = IsNumber (first_of (codes "from") rows) frames.first × IsNumber (first_of (codes "to") rows) frames.last

@@ -1,9 +1,9 @@
 // What the viewer does with its words.
-ghost use Rattle.std.specs.Prelude.{◌≡◌, map, string_bytes, OnOk, OnErr};
+ghost use Rattle.std.specs.Prelude.{◌≡◌, ◌≢◌, map, string_bytes, OnOk, OnErr};
 ghost use Rattle.event_slices.specs.declared.span.FrameSpan.{FrameSpan};
 ghost use Rattle.view_commands.specs.Doing.{TracesSome, TracesSomePart, IsDone, IsPartDone};
 ghost use Rattle.view_commands.specs.Paging.{PagesSome, PagesSomePart};
-ghost use Rattle.view_commands.specs.Program.{AsksForPage, AsksToTrace};
+ghost use Rattle.view_commands.specs.Program.{AreRefused, AsksForPage, AsksToTrace};
 
 use crate::paging::page_files;
 use crate::reading::read_view_words;
@@ -50,6 +50,8 @@ pub fn view_command<H: Files, W: Write, E: Write>(
         → PagesSome (W.contents out.old) (W.contents out.new) frames }
     ensures paged_part { (frames : FrameSpan) → AsksForPage (map string_bytes words.now) frames
         → PagesSomePart (W.contents out.old) (W.contents out.new) frames }
+    ensures refused_words { AreRefused (map string_bytes words.now) → result ≢ 0 }
+    ensures unwritten { AreRefused (map string_bytes words.now) → W.contents out.new ≡ W.contents out.old }
 {
     match read_view_words(alloc, words) {
         Ok(view) => {

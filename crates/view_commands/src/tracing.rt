@@ -35,7 +35,7 @@ pub fn trace_bytes<W: Write>(
     put(out, &text)
 }
 
-/// Writes the log that the words name.
+/// Writes the trace of the log that the words name.
 pub fn trace_file<H: Files, W: Write>(
     rt: &H,
     alloc: Global,
