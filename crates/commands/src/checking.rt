@@ -8,7 +8,7 @@ use std::alloc::Global;
 use std::io::Write;
 use std::rt::Files;
 
-/// Prints the measures of the level that the bytes spell.
+/// Prints `ok WIDTH HEIGHT AGENTS TREES` of the level that the bytes spell. A refused level prints nothing.
 pub fn check_bytes<W: Write>(alloc: Global, level: &[u8], out: &mut W) -> Result<(), Fault>
     ensures ok { OnOk result (IsOk (spelled level.now)) }
     ensures fault { IfErr result (IsCheckFault level.now) }
