@@ -29,9 +29,9 @@ abbrev pub status_in : Result (⊤) Fault → ℕ
 status_in (Ok _) = 0
 status_in (Err fault) = status_of fault
 
-abbrev pub AreRefused : WordsFault → Type 0
-AreRefused (Refused text) = Unit {0}
-AreRefused _ = ⊥
+abbrev pub IsRefusal : WordsFault → Type 0
+IsRefusal (Refused text) = Unit {0}
+IsRefusal _ = ⊥
 
 -- the limit that a tree breaks
 abbrev pub limit_words : TreeFault → List ℕ

@@ -54,7 +54,8 @@ pub fn read_optional_file<H: Files>(
     }
 }
 
-/// Makes a file of these bytes, in place of one that is there. Where it fails the file may be there with a first part of them.
+/// Makes a file of these bytes, in place of one that is there. Where it fails the file may be there with a first part
+/// of them.
 pub fn write_file<H: Files>(rt: &H, path: String, bytes: &[u8]) -> Result<(), Fault>
     ensures { IfErr result (IsFileFault (string_bytes path)) }
 {
