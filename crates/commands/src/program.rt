@@ -70,8 +70,8 @@ pub fn command<H: Files + Threads + Wait + Sync, R: Read, W: Write, E: Write>(
         → ReplaysSome (W.contents out.old) (W.contents out.new) }
     ensures replayed_part { AsksToReplay (map string_bytes words.now)
         → ReplaysPart (W.contents out.old) (W.contents out.new) }
-    ensures refused_words { AreRefused (map string_bytes words.now)
-        → (result ≢ 0) × (W.contents out.new ≡ W.contents out.old) }
+    ensures refused_words { AreRefused (map string_bytes words.now) → result ≢ 0 }
+    ensures unwritten { AreRefused (map string_bytes words.now) → W.contents out.new ≡ W.contents out.old }
 {
     match read_words(alloc, words) {
         Ok(Words::Piped) => match play_input(rt, alloc, input, out) {
