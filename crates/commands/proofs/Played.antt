@@ -6,7 +6,9 @@ use Rattle.byte_streams.specs.Streams.{AppendsPart}
 use Rattle.byte_streams.proofs.Parts.{first_bytes}
 use Rattle.game_rules.specs.Game.{Game}
 use Rattle.game_rules.specs.Text.{texts}
+use Rattle.job_core.specs.Core.{IsComplete}
 use Rattle.job_scheduler.specs.Numbers.{Numbers}
+use Rattle.task_board.specs.Setups.{setup_for}
 use Rattle.level_text.specs.Games.{spelled_game}
 use Rattle.play_run.specs.Plays as plays
 use Rattle.run_shared.specs.Printed.{WrotePart}
@@ -19,6 +21,11 @@ pub whole_text : (old new : Option (List ℕ)) (game : Option Game) (n : Numbers
     → IsSomeAnd game (λ g. Appends old new (texts g n.frames))
 whole_text old new None n r h = absurd h
 whole_text old new (Some g) n r h = h.text
+
+pub whole_list : (old new : Option (List ℕ)) (game : Option Game) (n : Numbers) (r : RunReport) → IsSomeAnd game (λ g. plays.IsPlayed old new g n r)
+    → IsSomeAnd game (λ g. IsComplete (setup_for g n) r.events.items)
+whole_list old new None n r h = absurd h
+whole_list old new (Some g) n r h = h.complete
 
 nothing_of : (old new : Option (List ℕ)) (bytes : List ℕ) → Keeps old new → AppendsPart old new bytes
 nothing_of None new bytes k = ([], bytes, refl, tt)

@@ -4,6 +4,8 @@ use Rattle.std.specs.Io.KnownBytes.{Appends, Keeps}
 use Rattle.byte_streams.specs.Streams.{AppendsPart}
 use Rattle.game_rules.specs.Text.{texts}
 use Rattle.level_text.specs.Games.{spelled_game}
+use Rattle.words.specs.Program.{IsReading, IsNoHelp, IsAskedFor}
+use Rattle.words.specs.declared.fault.WordsFault.{WordsFault}
 use Rattle.words.specs.declared.request.Words.{Words}
 use Rattle.words.specs.declared.request.Words.TheVariants.{Piped, Play, Replay, Check}
 use Rattle.commands.specs.Replaying.{Shows, ShowsPart}
@@ -25,6 +27,10 @@ ReplaysSome old new = (level : List ℕ) × (script : List ℕ) × (log : List �
 abbrev pub ReplaysPart : (old new : Option (List ℕ)) → Type 0
 ReplaysPart old new =
     Keeps old new ⊎ ((level : List ℕ) × (script : List ℕ) × (log : List ℕ) × IsSomeAnd (spelled_game level script) (ShowsPart old new log))
+
+-- by clap's reading the words are no command's, and don't ask for help
+abbrev pub AreRefused : List (List ℕ) → Type 0
+AreRefused words = ((w : Words) → IsReading words w → ⊥) × ((f : WordsFault) → IsAskedFor words f → IsNoHelp f)
 
 -- what the words ask for is done
 abbrev pub IsDone : (old new : Option (List ℕ)) → Words → Type 0

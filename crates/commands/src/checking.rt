@@ -1,4 +1,5 @@
-ghost use Rattle.std.specs.Prelude.{OnOk, IsOk, IfErr};
+ghost use Rattle.std.specs.Prelude.{OnOk, IsOk, IsErr, IfErr};
+ghost use Rattle.std.specs.Io.KnownBytes.{Keeps};
 ghost use Rattle.level_text.specs.Levels.{spelled};
 ghost use Rattle.commands.specs.Faults.{IsCheckFault};
 
@@ -8,9 +9,10 @@ use std::alloc::Global;
 use std::io::Write;
 use std::rt::Files;
 
-/// Prints the measures of the level that the bytes spell.
+/// Prints `ok WIDTH HEIGHT AGENTS TREES` of the level that the bytes spell. A refused level prints nothing.
 pub fn check_bytes<W: Write>(alloc: Global, level: &[u8], out: &mut W) -> Result<(), Fault>
     ensures ok { OnOk result (IsOk (spelled level.now)) }
+    ensures refused { IsErr (spelled level.now) → Keeps (W.contents out.old) (W.contents out.new) }
     ensures fault { IfErr result (IsCheckFault level.now) }
 {
     let level = read_level(alloc, level)?;

@@ -1,7 +1,9 @@
 // Plays the game that a level's and a script's bytes spell.
-ghost use Rattle.std.specs.Prelude.{OnOk, OnErr, IfErr, IsSomeAnd, MatchOption};
+ghost use Rattle.std.specs.Prelude.{OnOk, OnErr, IfOk, IfErr, IsSomeAnd, MatchOption};
 ghost use Rattle.std.specs.Io.KnownBytes.{Appends, Keeps};
 ghost use Rattle.game_rules.specs.Text.{texts};
+ghost use Rattle.job_core.specs.Core.{IsComplete};
+ghost use Rattle.task_board.specs.Setups.{setup_for};
 ghost use Rattle.byte_streams.specs.Streams.{AppendsPart};
 ghost use Rattle.level_text.specs.Games.{spelled_game};
 ghost use Rattle.commands.specs.Faults.{IsPlayFault};
@@ -28,6 +30,8 @@ pub fn play_bytes<H: Threads + Wait + Sync, W: Write>(
 ) -> Result<Vec<Event>, PlayFault>
     ensures ok { OnOk result (IsSomeAnd (spelled_game level.now script.now)
         (λ g. Appends (W.contents out.old) (W.contents out.new) (texts g settings.frames))) }
+    ensures events { IfOk result (λ events. IsSomeAnd (spelled_game level.now script.now)
+        (λ g. IsComplete (setup_for g settings) events.items)) }
     ensures err { OnErr result (MatchOption (spelled_game level.now script.now)
         (Keeps (W.contents out.old) (W.contents out.new))
         (λ g. AppendsPart (W.contents out.old) (W.contents out.new) (texts g settings.frames))) }

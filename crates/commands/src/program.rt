@@ -1,8 +1,8 @@
 // What the program does with its words.
-ghost use Rattle.std.specs.Prelude.{◌≡◌, ℕ, [], None, map, string_bytes, IfSome, IsSomeAnd, MatchOption, OnOk, OnErr};
+ghost use Rattle.std.specs.Prelude.{◌≡◌, ◌≢◌, ℕ, [], None, map, string_bytes, IfSome, IsSomeAnd, MatchOption, OnOk, OnErr};
 ghost use Rattle.std.specs.Io.KnownBytes.{Appends, Keeps};
 ghost use Rattle.game_rules.specs.Text.{texts};
-ghost use Rattle.commands.specs.Doing.{PlaysSome, PlaysPart, ReplaysSome, ReplaysPart, IsDone, IsPartDone};
+ghost use Rattle.commands.specs.Doing.{PlaysSome, PlaysPart, ReplaysSome, ReplaysPart, AreRefused, IsDone, IsPartDone};
 ghost use Rattle.level_text.specs.Games.{spelled_game};
 ghost use Rattle.byte_streams.specs.Streams.{AppendsPart};
 ghost use Rattle.words.specs.Program.{AsksToPlay, AsksToReplay};
@@ -70,6 +70,8 @@ pub fn command<H: Files + Threads + Wait + Sync, R: Read, W: Write, E: Write>(
         → ReplaysSome (W.contents out.old) (W.contents out.new) }
     ensures replayed_part { AsksToReplay (map string_bytes words.now)
         → ReplaysPart (W.contents out.old) (W.contents out.new) }
+    ensures refused_words { AreRefused (map string_bytes words.now) → result ≢ 0 }
+    ensures unwritten { AreRefused (map string_bytes words.now) → W.contents out.new ≡ W.contents out.old }
 {
     match read_words(alloc, words) {
         Ok(Words::Piped) => match play_input(rt, alloc, input, out) {

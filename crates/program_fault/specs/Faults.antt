@@ -1,5 +1,7 @@
 -- Which fault a program reports, and the status with which it ends.
-use Rattle.std.specs.Prelude.{⊤, ℕ, ◌≡◌, ◌<◌, ◌+◌, ◌⊎◌, List, Result, Ok, Err, string_bytes}
+use Rattle.std.specs.Prelude.{⊤, ℕ, ◌≡◌, ◌<◌, ◌+◌, ◌⊎◌, List, Result, Ok, Err, codes, string_bytes}
+use Rattle.bt_nodes.specs.declared.fault.TreeFault.{TreeFault}
+use Rattle.bt_nodes.specs.declared.fault.TreeFault.TheVariants as trees
 use Rattle.level_text.specs.declared.level_fault.LevelFault.{LevelFault}
 use Rattle.level_text.specs.declared.level_fault.LevelFault.TheVariants as levels
 use Rattle.level_text.specs.declared.script_file.ScriptFault.{ScriptFault}
@@ -7,6 +9,8 @@ use Rattle.level_text.specs.declared.script_file.ScriptFault.TheVariants as scri
 use Rattle.log_text.specs.declared.fault.LogFault.{LogFault}
 use Rattle.log_text.specs.declared.fault.LogFault.TheVariants as logs
 use Rattle.log_text.specs.Readings.{IsFirstFault}
+use Rattle.words.specs.declared.fault.WordsFault.{WordsFault}
+use Rattle.words.specs.declared.fault.WordsFault.TheVariants.{Refused}
 use Rattle.program_fault.specs.declared.fault.Fault.{Fault}
 use Rattle.program_fault.specs.declared.fault.Fault.TheVariants.{File, StandardInput, Json, Shape, MapSize, MapChar, Letters, AgentCount, BadTree, NoTree, NoPlace, NoAgent, ScriptLine, ScriptOrder, LogHead, LogLine, Write, Spawn, GateClosed, Stranger, OutOfMemory}
 
@@ -25,6 +29,18 @@ abbrev pub status_in : Result (⊤) Fault → ℕ
 status_in (Ok _) = 0
 status_in (Err fault) = status_of fault
 
+abbrev pub IsRefusal : WordsFault → Type 0
+IsRefusal (Refused text) = Unit {0}
+IsRefusal _ = ⊥
+
+-- the limit that a tree breaks
+abbrev pub limit_words : TreeFault → List ℕ
+limit_words trees.TooManyNodes = codes "too many nodes"
+limit_words trees.TooDeep = codes "too deep"
+limit_words trees.NoChild = codes "no child"
+limit_words trees.Threshold = codes "threshold"
+limit_words trees.Count = codes "count"
+
 -- each fault of a level has its own report
 abbrev pub IsOfLevel : LevelFault → Fault → Type 0
 IsOfLevel levels.OutOfMemory fault = fault ≡ OutOfMemory
@@ -34,7 +50,7 @@ IsOfLevel levels.MapSize fault = fault ≡ MapSize
 IsOfLevel (levels.MapChar x y) fault = fault ≡ MapChar x y
 IsOfLevel levels.Letters fault = fault ≡ Letters
 IsOfLevel levels.AgentCount fault = fault ≡ AgentCount
-IsOfLevel (levels.BadTree name why) (BadTree n limit) = n ≡ name
+IsOfLevel (levels.BadTree name why) (BadTree n limit) = (n ≡ name) × (limit.now ≡ limit_words why)
 IsOfLevel (levels.BadTree name why) _ = ⊥
 IsOfLevel (levels.NoTree agent) (NoTree letter) = agent < 26 → letter ≡ agent + 65
 IsOfLevel (levels.NoTree agent) _ = ⊥

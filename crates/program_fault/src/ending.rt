@@ -1,6 +1,6 @@
 // How a program ends.
 ghost use Rattle.std.specs.Prelude.{◌≡◌, ◌≢◌};
-ghost use Rattle.program_fault.specs.Faults.{status_in};
+ghost use Rattle.program_fault.specs.Faults.{status_in, IsRefusal};
 ghost use Rattle.words.specs.Program.{IsNoHelp};
 
 use crate::fault::Fault;
@@ -22,6 +22,8 @@ pub fn end_with<E: Write>(done: Result<(), Fault>, err: &mut E) -> u8
 /// Says why words are not done, on `out` where help was asked for, and gives the status with which the program ends.
 pub fn refuse_words<W: Write, E: Write>(fault: WordsFault, out: &mut W, err: &mut E) -> u8
     ensures refused { IsNoHelp fault → result ≢ 0 }
+    ensures memory { fault ≡ WordsFault.OutOfMemory → result ≡ 3 }
+    ensures words { IsRefusal fault → result ≡ 2 }
     ensures nothing { IsNoHelp fault → W.contents out.new ≡ W.contents out.old }
 {
     match fault {

@@ -1,4 +1,4 @@
-ghost use Rattle.std.specs.Prelude.{◌≡◌, ◌≢◌, string_bytes, IfErr, OnOk, OnErr};
+ghost use Rattle.std.specs.Prelude.{◌≡◌, ◌≢◌, [], None, string_bytes, IfErr, IsOkAnd, IsSomeAnd, OnOk, OnErr};
 ghost use Rattle.std.specs.IoError.{error_kind};
 ghost use Rattle.std.specs.Io.KnownBytes.{Appends};
 ghost use Rattle.byte_streams.specs.Streams.{AppendsPart};
@@ -44,14 +44,18 @@ pub fn read_optional_file<H: Files>(
     rt: &H,
     alloc: Global,
     path: Option<String>,
-) -> Result<Vec<u8>, Fault> {
+) -> Result<Vec<u8>, Fault>
+    ensures none { path ≡ None → IsOkAnd result (λ bytes. bytes.items ≡ []) }
+    ensures fault { IfErr result (λ fault. IsSomeAnd path (λ p. IsFileFault (string_bytes p) fault)) }
+{
     match path {
         Some(path) => read_file(rt, alloc, path),
         None => Ok(Vec::new(alloc)),
     }
 }
 
-/// Makes a file of these bytes, in place of one that is there.
+/// Makes a file of these bytes, in place of one that is there. Where it fails the file may be there with a first part
+/// of them.
 pub fn write_file<H: Files>(rt: &H, path: String, bytes: &[u8]) -> Result<(), Fault>
     ensures { IfErr result (IsFileFault (string_bytes path)) }
 {
@@ -65,7 +69,7 @@ pub fn write_file<H: Files>(rt: &H, path: String, bytes: &[u8]) -> Result<(), Fa
     Ok(())
 }
 
-/// Writes all bytes and flushes once.
+/// Writes all bytes and flushes once. The fault is `Write`; a first part was written then.
 pub fn put<W: Write>(out: &mut W, bytes: &[u8]) -> Result<(), Fault>
     ensures ok { OnOk result (Appends (W.contents out.old) (W.contents out.new) bytes.now) }
     ensures err { OnErr result (AppendsPart (W.contents out.old) (W.contents out.new) bytes.now) }

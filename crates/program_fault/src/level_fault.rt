@@ -1,13 +1,15 @@
 // What is said of a level that is refused.
 ghost use Rattle.std.specs.Prelude.{◌≡◌, ◌<◌, ◌+◌};
-ghost use Rattle.program_fault.specs.Faults.{IsOfLevel};
+ghost use Rattle.program_fault.specs.Faults.{IsOfLevel, limit_words};
 
 use crate::fault::Fault;
 use bt_nodes::TreeFault;
 use level_text::LevelFault;
 
 // The limit that a tree breaks.
-fn limit_text(fault: TreeFault) -> &'static str {
+fn limit_text(fault: TreeFault) -> &'static str
+    ensures { result.now ≡ limit_words fault }
+{
     match fault {
         TreeFault::TooManyNodes => "too many nodes",
         TreeFault::TooDeep => "too deep",

@@ -1,9 +1,13 @@
-use Rattle.commands.proofs.Played.{whole_text, part_of_text, fault_of_game}
+use Rattle.commands.proofs.Played.{whole_text, whole_list, part_of_text, fault_of_game}
 use Rattle.commands.proofs.play.play_bytes.Goals as goal
 
 pub returns-in-Ok-clause-ok : goal.returns-in-Ok-clause-ok
 returns-in-Ok-clause-ok g c =
     whole_text (g.W.Write.contents c.args.out.now) (g.W.Write.contents c.run_bytes.new.out) _ c.args.settings c.in-Ok.report c.in-Ok.ensures.ok
+
+pub returns-in-Ok-clause-events : goal.returns-in-Ok-clause-events
+returns-in-Ok-clause-events g c =
+    whole_list (g.W.Write.contents c.args.out.now) (g.W.Write.contents c.run_bytes.new.out) _ c.args.settings c.in-Ok.report c.in-Ok.ensures.ok
 
 pub returns-in-Err-clause-err : goal.returns-in-Err-clause-err
 returns-in-Err-clause-err g c =
