@@ -27,7 +27,7 @@ extern "C" {
 #endif
 
 typedef struct btworld_game { void *at; bool is_open; } btworld_game;
-#define BTWORLD_CLOSED_GAME {0}
+#define BTWORLD_CLOSED_GAME {NULL, false}
 
 /* status: 0 success, 1 failure, 2 running; x counts columns from the left, y rows from the top */
 typedef struct btworld_agent_state { uint32_t x, y; bool carrying; uint8_t status; } btworld_agent_state;

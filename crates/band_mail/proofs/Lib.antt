@@ -3,3 +3,4 @@ pub mod Named
 pub mod Putters
 pub mod Taken
 pub mod OfWorkers
+pub mod AnyOrder

@@ -1,27 +1,9 @@
 -- The Putters of a mail, one after another.
-use Rattle.std.proofs.Common.{◌≡◌, ℕ, ◌<◌, List, [], ◌∷◌, ◌++◌, length, get_or, sym, ap, ◌∙◌, subst, arith, length-append, refl}
-use Rattle.std.proofs.lemmas.List.{get_or-map, length-map, get_or_default, same_lists}
-use Rattle.band_mail.specs.Mails.{Mail, QueueName, Putting, IsPutterOf, ArePuttersOf, all_queues}
+use Rattle.std.proofs.Common.{◌≡◌, ℕ, ◌<◌, List, [], ◌∷◌, ◌++◌, length, sym, ap, subst, arith, length-append, refl}
+use Rattle.band_mail.specs.Mails.{Mail, Putting, IsPutterOf, ArePuttersOf}
 use Rattle.band_mail.proofs.Named.{kept, popped, grown}
 
 module _ {T : Type 0} where
-  queue_of : Putting T → QueueName
-  queue_of p = p.queue
-
-  pub queues_of_putters : (mail : Mail) (putters : List (Putting T)) → length putters ≡ length mail → ArePuttersOf mail putters → all_queues putters ≡ mail
-  unfolding queue_of
-  queues_of_putters mail putters many are =
-      same_lists (all_queues putters) mail (length-map putters queue_of ∙ many)
-      (λ k d low.
-      let below : k < length putters = omega (arith, low, length-map putters queue_of) in
-      let p : Putting T = record { worker = k; queue = d; put = [] } in
-      let x = get_or putters k p in
-      let is = are k p below in
-      get_or-map queue_of putters k p d below
-      ∙ sym is.1.1
-      ∙ ap (λ (n : ℕ). get_or mail n x.queue) is.0
-      ∙ get_or_default mail k x.queue d (omega (arith, below, many)))
-
   -- the last of them goes
   pub last_putter : (mail : Mail) (old new : List (Putting T)) (p : Putting T) → ArePuttersOf mail old → old ≡ new ++ p ∷ [] → (p.worker ≡ length new) × IsPutterOf mail p × ArePuttersOf mail new
   last_putter mail old new p are e =

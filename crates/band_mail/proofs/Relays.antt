@@ -67,12 +67,12 @@ module _ {T : Type 0} where
             (λ (is : r ≡ u). ((λ p. absurd (true≢false (sym (ap (λ (y : PassLog T). y.puts) is ∙ p)))), λ p. (at_end vs r u j (λ x. (old j u x).1 p) e, ap (λ (y : PassLog T). y.taken) (sym is) ∙ (mine.1 b).1))) (at_snoc vs r u j e),
       )
 
-  pub merges : (port : ℕ) (v : PassLog T) (other : ℕ) (u : PassLog T) → v.puts ≡ true → u.takes ≡ true → Merges Relayed port v other u (log true true v.put u.taken) (log false false [] [])
-  merges port v other u a b items views h at two at' = let both : PassLog T = log true true v.put u.taken in let mine = h.5 port v at in let vs : List (PassLog T) = set views port both in
-      let was : get_elem? views other ≡ some u = ⊎_elim (λ x. absurd (two x.0)) (λ x. x.1) (at_set views port other both u at') in let theirs = (h.5 other u was).1 b in
-      let Now : ℕ → PassLog T → Type 0 = λ j y. j ≢ other → Fits h.0 port h.2 h.3 j y in
-      let now : All Now vs = all_set Now views port both (λ _. ((λ _. mine.0 a), λ _. (refl, theirs.1))) (λ j y _ e apart. ((h.5 j y e).0, λ p. absurd (apart (((h.5 j y e).1 p).0 ∙ sym theirs.0)))) in
-      (h.0, port, h.2, h.3, h.4, all_set (Fits h.0 port h.2 h.3) vs other (log false false [] []) ((λ p. absurd (true≢false (sym p))), λ p. absurd (true≢false (sym p))) (λ j y apart e. now j y e apart))
+  pub merges : (port : ℕ) (v : PassLog T) (other : ℕ) (u : PassLog T) → v.takes ≡ true → u.puts ≡ true → Merges Relayed port v other u (log true true u.put v.taken) (log false false [] [])
+  merges port v other u a b items views h at two at' = let both : PassLog T = log true true u.put v.taken in let mine = h.5 port v at in let vs : List (PassLog T) = set views port both in
+      let was : get_elem? views other ≡ some u = ⊎_elim (λ x. absurd (two x.0)) (λ x. x.1) (at_set views port other both u at') in let theirs = (h.5 other u was).0 b in
+      let Now : ℕ → PassLog T → Type 0 = λ j y. j ≢ other → Fits port h.1 h.2 h.3 j y in
+      let now : All Now vs = all_set Now views port both (λ _. ((λ _. (refl, theirs.1)), λ _. mine.1 a)) (λ j y _ e apart. ((λ p. absurd (apart (((h.5 j y e).0 p).0 ∙ sym theirs.0))), (h.5 j y e).1)) in
+      (port, h.1, h.2, h.3, h.4, all_set (Fits port h.1 h.2 h.3) vs other (log false false [] []) ((λ p. absurd (true≢false (sym p))), λ p. absurd (true≢false (sym p))) (λ j y apart e. now j y e apart))
 
   pub totals : (port : ℕ) (v : PassLog T) → v.puts ≡ true → v.takes ≡ true → Learns Relayed port v (λ items. v.put ≡ v.taken ++ items)
   totals port v a b items views h at = let mine = h.5 port v at in (mine.0 a).1 ∙ h.4 ∙ ap (λ l. l ++ items) (sym (mine.1 b).1)

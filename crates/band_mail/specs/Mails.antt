@@ -1,5 +1,5 @@
 -- A mail is known by the names of its queues, in the order of its workers.
-use Rattle.std.specs.Prelude.{◌≡◌, ℕ, ◌<◌, ◌==◌, List, [], ◌∷◌, ◌++◌, length, map, filter, slice_index_or, slice_set}
+use Rattle.std.specs.Prelude.{◌≡◌, ℕ, ◌<◌, ◌+◌, ◌==◌, if◌then◌else◌, All, List, [], ◌∷◌, ◌++◌, length, map, filter, slice_index_or, slice_set}
 use Rattle.atomic_table.specs.Seated.{TableId}
 
 -- the name of a queue: no other queue has it
@@ -35,13 +35,29 @@ module _ {T : Type 0} where
   abbrev pub ArePuttersOf : Mail → List (Putting T) → Type 0
   ArePuttersOf mail putters = (k : ℕ) (p : Putting T) → k < length putters → ((slice_index_or putters k p).worker ≡ k) × IsPutterOf mail (slice_index_or putters k p)
 
+  -- how many of them are worker w's
+  abbrev pub putters_of : ℕ → List (Putting T) → ℕ
+  putters_of w [] = 0
+  putters_of w (p ∷ putters) = (if p.worker == w then 1 else 0) + putters_of w putters
+
+  -- all Putters of the mail, in any order: one of each worker
+  pub record AreAllPuttersOf (mail : Mail) (putters : List (Putting T)) : Type 0 where
+    pub many : length putters ≡ length mail
+    pub each : All (IsPutterOf mail) putters
+    pub one : (w : ℕ) → w < length mail → putters_of w putters ≡ 1
+
+  -- what worker w has put, by its Putter among these
+  abbrev pub put_by : List (Putting T) → ℕ → List T
+  put_by [] w = []
+  put_by (p ∷ putters) w = if p.worker == w then p.put else put_by putters w
+
   -- the bands of worker w, in order
   abbrev pub of_worker : ℕ → List (ℕ × T) → List T
   of_worker w bands = map (λ (b : ℕ × T). b.1) (filter (λ (b : ℕ × T). b.0 == w) bands)
 
   -- of each worker, what it put is what was taken of it, followed by what is held of it
-  abbrev pub IsAllDelivered : (put taken : List (List T)) → List (ℕ × T) → Type 0
-  IsAllDelivered put taken held = (w : ℕ) → slice_index_or put w [] ≡ slice_index_or taken w [] ++ of_worker w held
+  abbrev pub IsAllDelivered : (put : ℕ → List T) → (taken : List (List T)) → (held : List (ℕ × T)) → Type 0
+  IsAllDelivered put taken held = (w : ℕ) → put w ≡ slice_index_or taken w [] ++ of_worker w held
 
   abbrev pub with_put : Putting T → T → Putting T
   with_put p band = record { worker = p.worker; queue = p.queue; put = p.put ++ band ∷ [] }

@@ -1,6 +1,6 @@
 //! One queue for each worker, and one taker of all.
 ghost use Rattle.std.specs.Prelude.{◌≡◌, ◌<◌, [], length, replicate, IfOk, IfErr, OnOk, OnErr, IfSome, MatchOption, vec_len};
-ghost use Rattle.band_mail.specs.Mails.{IsPutterOf, IsAllDelivered, ArePuttersOf, all_put, with_put, with_taken};
+ghost use Rattle.band_mail.specs.Mails.{IsPutterOf, IsAllDelivered, ArePuttersOf, AreAllPuttersOf, all_put, put_by, with_put, with_taken};
 
 use crate::putter::Putter;
 use crate::queue::{Queue, open, put};
@@ -14,7 +14,7 @@ use std::sync::Wait;
 #[derive(Drop)]
 pub struct BandMail<T> {
     queues: Vec<Queue<T>>,
-    capacity: usize,
+    capacity: u32,
     room: Vec<(u32, T)>,
 }
 
@@ -35,7 +35,7 @@ impl<T: Drop> BandMail<T> {
     /// as all queues hold.
     pub fn new(
         alloc: Global,
-        capacity: usize,
+        capacity: u32,
         workers: u32,
     ) -> Result<(BandMail<T>, Vec<Putter<T>>, Taker<T>), AllocError>
         requires { 0 < capacity }
@@ -45,7 +45,7 @@ impl<T: Drop> BandMail<T> {
         ensures nothing_put { IfOk result (λ r. all_put r.1.items ≡ replicate workers []) }
         ensures nothing_taken { IfOk result (λ r. r.2.taken ≡ replicate workers []) }
     {
-        let Some(most) = (workers as usize).checked_mul(capacity) else {
+        let Some(most) = (workers as usize).checked_mul(capacity as usize) else {
             return Err(AllocError);
         };
         let room = Vec::with_capacity(alloc, most)?;
@@ -90,12 +90,12 @@ impl<T: Drop> BandMail<T> {
         take_first(rt, &self.queues, &mut taker.passes)
     }
 
-    /// Ends the mail, and hands out the bands that its queues still hold, in the order of each queue. It takes no memory. The Putters come in the
-    /// order of their workers.
+    /// Ends the mail, and hands out the bands that its queues still hold, in the order of each queue. It takes no memory. The Putters
+    /// come in any order.
     pub fn close<R: Wait>(self, rt: &R, putters: Vec<Putter<T>>, taker: Taker<T>) -> Vec<(u32, T)>
-        requires putters { (vec_len putters ≡ length self) × ArePuttersOf self putters.items }
+        requires putters { AreAllPuttersOf self putters.items }
         requires taker { taker.mail ≡ self }
-        ensures { IsAllDelivered (all_put putters.items) taker.taken result.items }
+        ensures { IsAllDelivered (put_by putters.items) taker.taken result.items }
     {
         let BandMail {
             queues,

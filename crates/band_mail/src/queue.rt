@@ -15,12 +15,12 @@ pub(crate) type QueuePass<T> = Pass<T, PassLog<T>>;
 /// An empty queue, with the pass that puts and the pass that takes.
 pub(crate) fn open<T>(
     alloc: Global,
-    capacity: usize,
+    capacity: u32,
 ) -> Result<(Queue<T>, QueuePass<T>, QueuePass<T>), AllocError>
     requires { 0 < capacity }
     ensures { IfOk result (λ q. (ruled_capacity q.0 ≡ capacity) × IsPassOf q.0 q.1 × IsPassOf q.0 q.2 × (view q.1 ≡ log true false [] []) × (view q.2 ≡ log false true [] [])) }
 {
-    let (queue, mut puts) = Queue::ruled(alloc, capacity)?;
+    let (queue, mut puts) = Queue::ruled(alloc, capacity as usize)?;
     let takes = queue.another::<Roles>(&mut puts);
     Ok((queue, puts, takes))
 }
@@ -53,30 +53,30 @@ pub(crate) fn take<T, R: Wait>(rt: &R, queue: &Queue<T>, pass: &mut QueuePass<T>
     queue.pop_as::<Takes, R>(rt, pass)
 }
 
-/// Joins the two passes of a queue, and puts what it still holds at the end of `into`, under the worker's number.
+/// Joins the pass that puts into the one that takes, and puts what the queue still holds at the end of `into`, under the worker's number.
 pub(crate) fn drain<T, R: Wait>(
     rt: &R,
     queue: &Queue<T>,
     worker: u32,
+    pass: &mut QueuePass<T>,
     puts: QueuePass<T>,
-    takes: QueuePass<T>,
     into: &mut Vec<(u32, T)>,
 )
-    requires passes { IsPassOf queue.now puts × IsPassOf queue.now takes }
-    requires may { ((view puts).puts ≡ true) × ((view takes).takes ≡ true) }
+    requires passes { IsPassOf queue.now pass.old × IsPassOf queue.now puts }
+    requires may { ((view pass.old).takes ≡ true) × ((view puts).puts ≡ true) }
     requires room { vec_len into.old + ruled_capacity queue.now ≤ vec_capacity into.old }
-    ensures left { (rest : List T) × (into.new.items ≡ into.old.items ++ map (λ x. (worker, x)) rest) × ((view puts).put ≡ (view takes).taken ++ rest) }
+    ensures pass { IsSamePass pass.old pass.new × ((view pass.new).takes ≡ true) }
+    ensures left { (rest : List T) × (into.new.items ≡ into.old.items ++ map (λ x. (worker, x)) rest) × ((view puts).put ≡ (view pass.old).taken ++ rest) }
     ensures room { (vec_capacity into.new ≡ vec_capacity into.old) × (vec_len into.new ≤ vec_len into.old + ruled_capacity queue.now) }
 {
-    let mut pass = puts;
-    queue.absorb::<Roles>(&mut pass, takes);
+    queue.absorb::<Roles>(pass, puts);
     // Nobody else has a pass, so the queue holds this many until the end.
-    let count = queue.len_as::<Drains, R>(rt, &mut pass);
+    let count = queue.len_as::<Drains, R>(rt, pass);
     for _i in 0..count {
-        match queue.pop_as::<Drains, R>(rt, &mut pass) {
+        match queue.pop_as::<Drains, R>(rt, pass) {
             Some(item) => into.push_reserved((worker, item)),
             None => return,
         }
     }
-    queue.learn_as::<Drains>(&mut pass);
+    queue.learn_as::<Drains>(pass);
 }

@@ -1,6 +1,6 @@
 //! All queues of a mail, with the passes of its Taker.
 ghost use Rattle.std.specs.Prelude.{◌≡◌, ◌<◌, ◌≤◌, ◌*◌, ◌^◌, [], ◌∷◌, ◌++◌, All, MatchOption, slice_set, slice_index_or, vec_len, vec_capacity};
-ghost use Rattle.band_mail.specs.Mails.{IsAllDelivered, all_queues, all_put};
+ghost use Rattle.band_mail.specs.Mails.{AreAllPuttersOf, IsAllDelivered, put_by};
 ghost use Rattle.band_mail.specs.Queues.{queue_names, pass_names, all_taken, HaveCapacity};
 ghost use Rattle.band_mail.specs.Relay.{MayTake};
 
@@ -33,33 +33,26 @@ pub(crate) fn take_first<T, R: Wait>(
     None
 }
 
-/// Joins the passes of each queue, from the last to the first, and hands out what they hold.
+/// Joins the passes of each queue, as its Putter comes, and hands out what they hold.
 pub(crate) fn drain_all<T: Drop, R: Wait>(
     rt: &R,
     queues: &Vec<Queue<T>>,
-    capacity: usize,
+    capacity: u32,
     mut putters: Vec<Putter<T>>,
     mut passes: Vec<QueuePass<T>>,
     into: &mut Vec<(u32, T)>,
 )
-    requires putters { all_queues putters.items ≡ queue_names queues.now.items }
+    requires putters { AreAllPuttersOf (queue_names queues.now.items) putters.items }
     requires passes { pass_names passes.items ≡ queue_names queues.now.items }
     requires may { All MayTake passes.items }
-    requires few { vec_len queues.now < 2 ^ 32 }
     requires capacity { HaveCapacity queues.now.items capacity }
     requires room { (into.old.items ≡ []) × (vec_len queues.now * capacity ≤ vec_capacity into.old) }
-    ensures { IsAllDelivered (all_put putters.items) (all_taken passes.items) into.new.items }
+    ensures { IsAllDelivered (put_by putters.items) (all_taken passes.items) into.new.items }
 {
     while let Some(putter) = putters.pop() {
-        let Some(takes) = passes.pop() else {
-            unreachable!()
-        };
-        let Putter {
-            worker: _,
-            pass: puts,
-        } = putter;
-        let worker = putters.len();
-        let queue = &queues[worker];
-        drain(rt, queue, worker as u32, puts, takes, into);
+        let Putter { worker, pass: puts } = putter;
+        let queue = &queues[worker as usize];
+        let pass = &mut passes[worker as usize];
+        drain(rt, queue, worker, pass, puts, into);
     }
 }

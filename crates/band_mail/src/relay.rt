@@ -22,7 +22,7 @@ impl<T> Protocol<T, PassLog<T>> for Relay {
     ghost first = { log true true [] [] };
 }
 
-/// The pass that may do both is cut into one that puts and one that takes.
+/// The pass that may do both is cut into one that puts and one that takes, and the one that takes is joined with the one that puts.
 pub struct Roles;
 
 impl<T> Split<PassLog<T>> for Roles {
@@ -38,7 +38,7 @@ impl<T> Join<PassLog<T>> for Roles {
     ghost use Rattle.std.specs.Prelude.{true, false, []};
     ghost use Rattle.band_mail.specs.Relay.{log};
 
-    ghost both = { λ v w. log true true v.put w.taken };
+    ghost both = { λ v w. log true true w.put v.taken };
 
     ghost spent = { log false false [] [] };
 }

@@ -1,5 +1,6 @@
 // What no clause says: that there are slots for frames where there is memory.
-use crate::walk::walk;
+use crate::sessions::session_of;
+use crate::walk::{WALK, walk};
 use frame_params::{FrameParams, Slots};
 use game_session::Session;
 use std::alloc::Global;
@@ -81,4 +82,27 @@ fn all_steps(alloc: Global) -> Option<[[Option<u32>; 3]; 4]> {
 fn slots_hold_the_frames_under_way(rt: HostRuntime) {
     let (free, full) = ([None; 3], [Some(1), None, None]);
     assert!(rt; all_steps(rt.alloc()) == Some([free, full, full, free]));
+}
+
+// Whether the first frame's slot has the start of a game, and whether it has that of another one.
+fn is_start_of(slots: &Slots, session: &Session) -> Option<bool> {
+    let params = slots.at(1)?;
+    let start = params.share().ok()?;
+    let (there, here) = (
+        start.world().agents().first()?,
+        session.world().agents().first()?,
+    );
+    Some(params.frame() == 1 && params.session().is_same(session) && *there == *here)
+}
+
+fn starts(alloc: Global) -> Option<[bool; 2]> {
+    let (session, other) = (walk(alloc)?, session_of(alloc, WALK, "1 on a\n")?);
+    let mut slots = Slots::new(alloc, 2).ok()?;
+    slots.fill(FrameParams::first(alloc, &session).ok()?);
+    Some([is_start_of(&slots, &session)?, is_start_of(&slots, &other)?])
+}
+
+#[test]
+fn a_slot_has_what_was_filled_in(rt: HostRuntime) {
+    assert!(rt; starts(rt.alloc()) == Some([true, false]));
 }

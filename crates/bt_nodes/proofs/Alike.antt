@@ -6,8 +6,8 @@ use Rattle.bt_nodes.specs.Sizes.{size, sizes, count}
 use Rattle.bt_nodes.specs.Heads.{kind_of, number_of, listed, decorated}
 use Rattle.bt_nodes.specs.declared.node.Node.{Node}
 use Rattle.bt_nodes.proofs.Forests.{count-plains, copied_more}
-use Rattle.bt_nodes.specs.declared.kind.NodeKind.{NodeKind}
-use Rattle.bt_nodes.specs.declared.kind.NodeKind.TheVariants as kind
+use Rattle.bt_nodes.specs.declared.head.NodeKind.{NodeKind}
+use Rattle.bt_nodes.specs.declared.head.NodeKind.TheVariants as kind
 
 abbrev built : NodeKind → Option ℕ → Forest → Option Plain → Plain
 built kind.Seq n cs c = Composite Seq cs

@@ -3,9 +3,31 @@ ghost use Rattle.std.specs.Prelude.{◌≡◌, option_map};
 ghost use Rattle.bt_nodes.specs.Plain.{plain, plains};
 ghost use Rattle.bt_nodes.specs.Heads.{kind_of, number_of, listed, lists, decorated};
 
-use crate::kind::NodeKind;
 use crate::node::Node;
 use std::alloc::Allocator;
+
+/// What a node is, without its number and its children.
+#[derive(Clone, Copy, Debug, PartialEq, Eq)]
+pub(crate) enum NodeKind {
+    Seq,
+    Fallback,
+    Par,
+    SeqStar,
+    FallbackStar,
+    Not,
+    Tries,
+    Ticks,
+    Wait,
+    Move,
+    Take,
+    Drop,
+    At,
+    Carrying,
+    Item,
+    Signal,
+    Near,
+    Give,
+}
 
 impl<A: Allocator> Node<A> {
     pub(crate) fn kind(&self) -> NodeKind

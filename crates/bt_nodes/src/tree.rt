@@ -39,14 +39,15 @@ impl<A: Allocator> Tree<A> {
     ghost use Rattle.bt_nodes.specs.Trees.{plain_of};
 
     /// The tree with this root, or the first limit that it breaks, with the root handed back. It takes no memory,
-    /// and walks over the nodes once for each limit and once for the sizes of its subtrees.
+    /// and walks over the nodes once for each limit and once for the sizes of its subtrees. The first walk stops at the
+    /// 256th node; no walk nests calls deeper than 256 levels, however deep the root's tree is.
     pub fn new(root: Node<A>) -> Result<Tree<A>, (TreeFault, Node<A>)>
         ensures ok { IfOk result (λ tree. plain_of tree ≡ plain root) }
         ensures within { OnOk result (tree_fault (plain root) ≡ None) }
         ensures err { IfErr result (λ e. tree_fault (plain root) ≡ Some e.0) }
         ensures back { IfErr result (λ e. e.1 ≡ root) }
     {
-        let nodes = root.size();
+        let nodes = root.size_to(256);
         if nodes > 255 {
             return Err((TreeFault::TooManyNodes, root));
         }

@@ -1,8 +1,10 @@
-//! Whole texts in and out of readers and writers that take a few bytes a call.
+//! Whole texts in and out of readers and writers that take a few bytes a call, and numbers in a text.
 #![tactic(auto)]
 
+mod numbers;
 mod reading;
 mod writing;
 
+pub use numbers::push_number;
 pub use reading::{ReadFault, read_whole};
 pub use writing::{WriteFault, write_whole};

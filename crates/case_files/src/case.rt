@@ -13,6 +13,8 @@ pub struct Wanted {
     pub bytes: Vec<u8>,
     /// Any text but none will do.
     pub is_any: bool,
+    /// Any text in which the bytes stand will do.
+    pub is_part: bool,
 }
 
 /// A file that a run has to make, by how many lines it has where that is said.
@@ -107,10 +109,12 @@ impl Case {
             out: Wanted {
                 bytes: Vec::new(alloc),
                 is_any: false,
+                is_part: false,
             },
             err: Wanted {
                 bytes: Vec::new(alloc),
                 is_any: false,
+                is_part: false,
             },
             status: 0,
             made: Vec::new(alloc),

@@ -157,10 +157,12 @@ fn put_word(alloc: Global, case: &mut Case, word: &str, rest: &str) -> Result<Op
         }
         "stdout" => {
             case.out.is_any = rest == "any";
+            case.out.is_part = rest == "has";
             return Ok(Some(Part::Out));
         }
         "stderr" => {
             case.err.is_any = rest == "any";
+            case.err.is_part = rest == "has";
             return Ok(Some(Part::Err));
         }
         "flush" => case.flush_fails = rest == "fails",

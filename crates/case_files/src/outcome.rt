@@ -14,9 +14,19 @@ pub struct Outcome {
     pub has_made: bool,
 }
 
+fn has_part(text: &[u8], part: &[u8]) -> bool {
+    match (str::from_utf8(text), str::from_utf8(part)) {
+        (Ok(text), Ok(part)) => text.contains(part),
+        _ => false,
+    }
+}
+
 fn is_wanted(given: &[u8], wanted: &Wanted, most: usize) -> bool {
     if wanted.is_any {
         return !given.is_empty();
+    }
+    if wanted.is_part {
+        return has_part(given, &wanted.bytes);
     }
     given == &wanted.bytes[..most.min(wanted.bytes.len())]
 }

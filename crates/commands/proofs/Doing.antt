@@ -10,7 +10,7 @@ use Rattle.words.specs.declared.request.Words.{Words}
 use Rattle.words.specs.declared.request.Words.TheVariants.{Piped, Play, Replay, Check}
 use Rattle.words.specs.Program.{IsReading, AsksToPlay, AsksToReplay}
 use Rattle.words.proofs.Asked.{read_as_play, read_as_replay}
-use Rattle.program_fault.specs.declared.fault.Fault.{Fault}
+use Rattle.words.specs.declared.program_fault.Fault.{Fault}
 use Rattle.commands.specs.Doing.{PlaysSome, PlaysPart, ReplaysSome, ReplaysPart, IsDone, IsPartDone}
 use Rattle.commands.specs.Replaying.{Shows, ShowsPart}
 

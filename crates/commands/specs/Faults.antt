@@ -6,10 +6,10 @@ use Rattle.run_shared.specs.declared.fault.Cause.{Cause}
 use Rattle.run_shared.specs.declared.fault.Cause.TheVariants as causes
 use Rattle.play_run.specs.declared.fault.PlayFault.{PlayFault}
 use Rattle.play_run.specs.declared.fault.PlayFault.TheVariants.{Level, Script, Run}
-use Rattle.program_fault.specs.declared.fault.Fault.{Fault}
-use Rattle.program_fault.specs.declared.fault.Fault.TheVariants.{Write, Spawn, GateClosed, Stranger, OutOfMemory}
-use Rattle.program_fault.specs.Faults.{IsOfLevel, IsOfScript}
-use Rattle.program_fault.specs.Sessions.{IsLevelFault, IsFirstOfScript}
+use Rattle.words.specs.declared.program_fault.Fault.{Fault}
+use Rattle.words.specs.declared.program_fault.Fault.TheVariants.{Write, Spawn, GateClosed, Stranger, OutOfMemory}
+use Rattle.words.specs.Faults.{IsOfLevel, IsOfScript}
+use Rattle.words.specs.Sessions.{IsLevelFault, IsFirstOfScript}
 
 abbrev pub IsOfCause : Cause → Fault → Type 0
 IsOfCause causes.OutOfMemory fault = fault ≡ OutOfMemory

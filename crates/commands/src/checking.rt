@@ -4,10 +4,10 @@ ghost use Rattle.level_text.specs.Levels.{spelled};
 ghost use Rattle.commands.specs.Faults.{IsCheckFault};
 
 use level_text::read_level;
-use program_fault::{Fault, put, read_file};
 use std::alloc::Global;
 use std::io::Write;
 use std::rt::Files;
+use words::{Fault, put, read_file};
 
 /// Prints `ok WIDTH HEIGHT AGENTS TREES` of the level that the bytes spell. A refused level prints nothing.
 pub fn check_bytes<W: Write>(alloc: Global, level: &[u8], out: &mut W) -> Result<(), Fault>

@@ -11,6 +11,5 @@ mod run_fault;
 
 pub use checking::check_bytes;
 pub use program::command;
-pub use program_fault::{Fault, refuse_unread_words, words_given};
 pub use replaying::replay_bytes;
-pub use words::{Words, WordsFault, read_words};
+pub use words::{Fault, Words, WordsFault, read_words, refuse_unread_words, words_given};

@@ -4,7 +4,7 @@ ghost use Rattle.std.specs.Io.KnownBytes.{Appends, Keeps};
 ghost use Rattle.game_rules.specs.Text.{texts};
 ghost use Rattle.commands.specs.Doing.{PlaysSome, PlaysPart};
 ghost use Rattle.level_text.specs.Games.{spelled_game};
-ghost use Rattle.program_fault.specs.Faults.{status_of};
+ghost use Rattle.words.specs.Faults.{status_of};
 ghost use Rattle.byte_streams.specs.Streams.{AppendsPart};
 
 use crate::few_frames::few_frames;
@@ -13,12 +13,12 @@ use crate::run_fault::play_fault;
 use byte_streams::{ReadFault, read_whole};
 use job_scheduler::Settings;
 use log_text::write_log;
-use program_fault::{Fault, read_file, read_optional_file, write_file};
 use std::alloc::Global;
 use std::io::{Read, Write};
 use std::rt::Files;
 use std::sync::Wait;
 use std::thread::Threads;
+use words::{Fault, read_file, read_optional_file, write_file};
 
 /// Plays three frames of the level that the input's bytes spell, with an empty script.
 pub fn play_input<H: Threads + Wait + Sync, R: Read, W: Write>(

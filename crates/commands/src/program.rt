@@ -10,13 +10,12 @@ ghost use Rattle.words.specs.Program.{AsksToPlay, AsksToReplay};
 use crate::checking::check_file;
 use crate::playing::{play_files, play_input};
 use crate::replaying::replay_files;
-use program_fault::{Fault, end_with, refuse_words};
 use std::alloc::Global;
 use std::io::{Read, Write};
 use std::rt::Files;
 use std::sync::Wait;
 use std::thread::Threads;
-use words::{Words, read_words};
+use words::{Fault, Words, end_with, read_words, refuse_words};
 
 /// Does what words ask for that name a level's file.
 fn act<H: Files + Threads + Wait + Sync, W: Write>(

@@ -2,7 +2,7 @@
 ghost use Rattle.commands.specs.Faults.{IsOfCause, IsOfPlay};
 
 use play_run::{Cause, PlayFault};
-use program_fault::Fault;
+use words::Fault;
 
 fn cause_fault(cause: Cause) -> Fault
     ensures { IsOfCause cause result }

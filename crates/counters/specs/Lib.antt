@@ -1,4 +1,5 @@
 pub mod Keys
 pub mod Rows
+pub mod Waiting
 pub mod Replies
 pub mod Faults

@@ -1,4 +1,4 @@
-ghost use Rattle.std.specs.Prelude.{◌≡◌, ◌<◌, [], OnOk, OnErr};
+ghost use Rattle.std.specs.Prelude.{◌≡◌, ◌<◌, OnOk, OnErr};
 ghost use Rattle.board_model.specs.Board.{has_key, lowered, with_waiter};
 ghost use Rattle.counters.specs.Keys.{counter_of};
 ghost use Rattle.counters.specs.Rows.{started, emptied};
@@ -65,42 +65,11 @@ impl Counter {
         mem::replace(&mut self.waiters, Vec::new(alloc))
     }
 
-    /// The first that waits does so in the memory of a spare list, if there is one.
-    pub(crate) fn wait(
-        &mut self,
-        fiber: Fiber,
-        spare: &mut Vec<Vec<Fiber>>,
-    ) -> Result<(), AllocError>
+    pub(crate) fn wait(&mut self, fiber: Fiber) -> Result<(), AllocError>
         ensures ok { OnOk result (self.new ≡ with_waiter fiber self.old) }
         ensures unchanged { OnErr result (self.new ≡ self.old) }
     {
-        if self.waiters.is_empty() {
-            self.take_room(spare);
-        }
         self.waiters.push(fiber)?;
         Ok(())
-    }
-
-    fn take_room(&mut self, spare: &mut Vec<Vec<Fiber>>)
-        requires { self.old.waiters ≡ [] }
-        ensures { self.new ≡ self.old }
-    {
-        let Some(mut list) = spare.pop() else {
-            return;
-        };
-        list.clear();
-        self.waiters = list;
-    }
-
-    /// What a counter leaves that is taken out.
-    pub(crate) fn into_waiters(self) -> Vec<Fiber>
-        ensures { result.items ≡ self.waiters }
-    {
-        let Self {
-            key: _,
-            left: _,
-            waiters,
-        } = self;
-        waiters
     }
 }

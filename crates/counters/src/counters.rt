@@ -1,6 +1,6 @@
-ghost use Rattle.std.specs.Prelude.{◌≡◌, ◌<◌, ◌++◌, ◌∷◌, [], None, Some, IsSomeAnd, MatchOption, position, unwrap_or, OnOk, OnErr, IfOk, IfErr};
+ghost use Rattle.std.specs.Prelude.{◌≡◌, ◌++◌, ◌∷◌, [], None, Some, position, unwrap_or, OnOk, OnErr, IfOk, IfErr};
 ghost use Rattle.board_model.specs.Lists.{drop_first};
-ghost use Rattle.board_model.specs.Board.{has_key, first_row, lower, woken};
+ghost use Rattle.board_model.specs.Board.{has_key, first_row};
 ghost use Rattle.job_queues.specs.Places.{IsFirstPlace};
 ghost use Rattle.counters.specs.Keys.{counter_of};
 ghost use Rattle.counters.specs.Rows.{started, left_in, less};
@@ -44,17 +44,11 @@ pub enum Waits {
 pub struct Counters {
     alloc: Global,
     all: Vec<Counter>,
-    // Lists of which only the memory is kept, for the next counters for which fibers wait.
-    spare: Vec<Vec<Fiber>>,
 }
 
 impl Drop for Counters {
     fn drop(self) {
-        let Self {
-            alloc: _,
-            all: _,
-            spare: _,
-        } = self;
+        let Self { alloc: _, all: _ } = self;
     }
 }
 
@@ -87,7 +81,6 @@ impl Counters {
         Counters {
             alloc,
             all: Vec::new(alloc),
-            spare: Vec::new(alloc),
         }
     }
 
@@ -136,37 +129,6 @@ impl Counters {
         Ok(Lowered::Left(left - 1))
     }
 
-    /// Lowers a counter that is above 0 by one. At 0 it takes it out, and gives out the fibers that waited for it, in
-    /// the order in which they came. It takes no memory.
-    #[inline(always)]
-    pub fn lower_out(&mut self, key: CounterKey) -> Option<Vec<Fiber>>
-        requires { IsSomeAnd (first_row (counter_of key) self.old) (λ row. 0 < row.left) }
-        ensures lowered { self.new ≡ lower (counter_of key) self.old }
-        ensures woken { MatchOption result ([] ≡ woken (counter_of key) self.old) (λ fibers. fibers.items ≡ woken (counter_of key) self.old) }
-    {
-        let Some(at) = place(&self.all, key) else {
-            unreachable!()
-        };
-        let counter = &mut self.all[at];
-        if counter.left() > 1 {
-            counter.lower();
-            return None;
-        }
-        Some(self.all.remove(at).into_waiters())
-    }
-
-    /// Takes back the memory of a list that was given out, for the next one.
-    pub fn keep(&mut self, fibers: Vec<Fiber>)
-        ensures { self.new ≡ self.old }
-    {
-        // A list in which no fiber waited has no memory to keep.
-        if fibers.is_empty() {
-            return;
-        }
-        // Where there is no room for it the list is let go.
-        let _ = self.spare.push(fibers);
-    }
-
     /// Keeps a fiber until the counter reaches 0, or says that it is at 0. `NotThere` where there is no such counter.
     #[inline(always)]
     pub fn wait(&mut self, key: CounterKey, fiber: Fiber) -> Result<Waits, CounterFault>
@@ -182,7 +144,7 @@ impl Counters {
         if counter.left() == 0 {
             return Ok(Waits::AtZero);
         }
-        if counter.wait(fiber, &mut self.spare).is_err() {
+        if counter.wait(fiber).is_err() {
             return Err(CounterFault::OutOfMemory);
         }
         Ok(Waits::Kept)

@@ -14,6 +14,7 @@ use Rattle.frame_state.proofs.Crossing.{session, kept_distances_send, frame_star
 use Rattle.std.specs.contracts.alloc.Global as Global
 use Rattle.std_heap.specs.contracts.GlobalAllocator.TheImpl.{ghosts}
 use Rattle.bt_tick.specs.contracts.tick.Pending as Pending
+use Rattle.frame_params.specs.contracts.parked.ParkedTick as ParkedTick
 use Rattle.frame_params.specs.contracts.parked.Parked as Parked
 use Rattle.frame_params.specs.contracts.step.Step as Step
 use Rattle.frame_params.specs.contracts.board_step.BoardStep as BoardStep
@@ -26,16 +27,23 @@ ruleset of_parts = (answer_send, answer_sync, intent_send, intent_sync, place_se
 -- those of a tick that stands at a question
 ruleset of_ticks = (both_send-Node, both_sync-Node, send-Link, sync-Link, slots_send, slots_sync, send-Node, sync-Node)
 
-pub pending_send : (κ : NamedLft) → IsSend (Pending.the_row κ Global.the_row Global.the_row ghosts ghosts)
-pending_send κ = search (of_parts, of_ticks, sendable, crosses) depth 40 fits 100000
+-- as a field of another type
+pub pending_field_send : (κ : NamedLft) → IsSend (Pending.the_field κ Global.the_row Global.the_row ghosts ghosts).row
+pending_field_send κ = search (of_parts, of_ticks, sendable, crosses) depth 60 fits 100000
 
-pub pending_sync : (κ : NamedLft) → IsSync (Pending.the_row κ Global.the_row Global.the_row ghosts ghosts)
-pending_sync κ = search (of_parts, of_ticks, sendable, crosses) depth 40 fits 100000
+pub pending_field_sync : (κ : NamedLft) → IsSync (Pending.the_field κ Global.the_row Global.the_row ghosts ghosts).row
+pending_field_sync κ = search (of_parts, of_ticks, sendable, crosses) depth 60 fits 100000
+
+pub tick_send : (κ : NamedLft) → IsSend (ParkedTick.the_row κ)
+tick_send κ = search (session, pending_field_send, sendable, crosses) depth 60 fits 20000
+
+pub tick_sync : (κ : NamedLft) → IsSync (ParkedTick.the_row κ)
+tick_sync κ = search (session, pending_field_sync, sendable, crosses) depth 60 fits 20000
 
 -- ---- results
 
 pub parked : (κ : NamedLft) → IsSend (Parked.the_row κ)
-parked κ = search (session, of_parts, pending_send, pending_sync, sendable, crosses) depth 40 fits 100000
+parked κ = search (tick_send, tick_sync, sendable, crosses) depth 40
 
 pub step : (κ : NamedLft) → IsSend (Step.the_row κ)
 step κ = search (way, thought, turn, band_out, parked, sendable, crosses) depth 40
@@ -54,7 +62,7 @@ board_step_field κ = search (way, thought, turn, band_mark, parked, sendable, c
 -- ---- tasks
 
 pub think_task : (κ : NamedLft) → IsSend (ThinkTask.the_row κ)
-think_task κ = search (frame_start_send, frame_start_sync, of_parts, pending_send, pending_sync, sendable, crosses) depth 40 fits 100000
+think_task κ = search (frame_start_send, frame_start_sync, of_parts, tick_send, tick_sync, sendable, crosses) depth 40
 
 pub path_task : (κ : NamedLft) → IsSend (PathTask.the_row κ)
 path_task κ = search (frame_start_send, frame_start_sync, of_parts, kept_distances_send, sendable, crosses) depth 40

@@ -11,13 +11,11 @@ use Rattle.bt_tick.specs.Outcome.{place_of}
 use Rattle.bt_tick.specs.declared.tick.Pending.{Pending}
 use Rattle.bt_tick.specs.declared.tick.Outcome.{Outcome}
 use Rattle.bt_tick.specs.declared.tick.Outcome.TheVariants.{Asks}
-use Rattle.frame_state.specs.Names.{ThinkOf, part_of, question_of}
+use Rattle.frame_state.specs.Names.{ThinkOf, QuestionOf, part_of, question_of}
 use Rattle.frame_state.specs.Contents.{signals_in, world_after, seen, memory_before, questions_in, place_in}
-use Rattle.frame_state.specs.Thoughts.{IsWayOf, EndsAt}
-use Rattle.frame_params.specs.declared.ahead.Ahead.{Ahead}
-use Rattle.frame_params.specs.declared.ahead.Ahead.TheVariants.{Waits, Ended as EndedAhead}
+use Rattle.frame_state.specs.Thoughts.{IsWayOf}
 use Rattle.frame_params.specs.declared.stand.Stand.{Stand}
-use Rattle.frame_params.specs.declared.stand.Stand.TheVariants.{Start, Answered, Ended as EndedStand}
+use Rattle.frame_params.specs.declared.stand.Stand.TheVariants.{Start, Answered}
 use Rattle.frame_params.specs.declared.think_step.ThinkStep.{ThinkStep}
 use Rattle.frame_params.specs.declared.think_step.ThinkStep.TheVariants.{Ended as EndedStep, Asks as AsksStep}
 
@@ -42,28 +40,21 @@ pub record AsksFor (g : Game) (f a i place : ℕ) : Type 0 where
   pub asks : i < questions_in g f a
   pub place_is : place_in g f a i ≡ Some place
 
--- a tick that stands at question i, with the way that it asks for; a tree has few nodes, and each asks once at most
-pub record GoesOn {A : Type 0} (g : Game) (f a i : ℕ) (p : Pending Global A) (answer : Answer) : Type 0 where
-  pub stands : StandsAt g f a i p
-  pub way : IsWayOf g f a i answer
-  pub few : i < 255
+-- a tick that is parked, with the way that it asks for; a tree has few nodes, and each asks once at most
+pub record GoesOn (g : Game) (f a : ℕ) (tick : QuestionOf) (answer : Answer) : Type 0 where
+  pub tick_is : tick ≡ question_of g f a tick.question
+  pub way : IsWayOf g f a tick.question answer
+  pub few : tick.question < 255
 
--- how a tick that stands at question i goes on: it waits for the answer, or has gone on with it to its end
-abbrev pub IsAhead : Game → (f a i : ℕ) → Ahead → Type 0
-IsAhead g f a i (Waits p) = StandsAt g f a i (arc_value p)
-IsAhead g f a i (EndedAhead answer status memory intent) = IsWayOf g f a i answer × EndsAt g f a (i + 1) status memory intent
-
--- a task's tick stands at its start, at a question to which it has the answer, or at its end
+-- a task's tick stands at its start, or at a question to which it has the answer
 abbrev pub IsStand : Game → ℕ → ℕ → Stand → Type 0
 IsStand g f a Start = Unit {0}
-IsStand g f a (Answered i pending answer) = GoesOn g f a i (arc_value pending) answer
-IsStand g f a (EndedStand n status memory intent) = EndsAt g f a n status memory intent
+IsStand g f a (Answered tick answer) = GoesOn g f a (arc_value tick) answer
 
 -- how many questions are answered
 abbrev pub answered_at : Stand → ℕ
 answered_at Start = 0
-answered_at (Answered i pending answer) = i + 1
-answered_at (EndedStand n status memory intent) = n
+answered_at (Answered tick answer) = (arc_value tick).question + 1
 
 -- it ends exactly where all its questions are answered, and else it asks the first of the others
 abbrev pub IsThinkStep : ThinkOf → ThinkStep → Type 0

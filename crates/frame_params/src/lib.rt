@@ -2,7 +2,6 @@
 //! ways, and the tasks of all kinds as one type. As below, callers see each by its game, frame and numbers alone.
 #![tactic(auto)]
 
-mod ahead;
 mod board_step;
 mod parked;
 mod path_task;

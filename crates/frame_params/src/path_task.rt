@@ -2,7 +2,7 @@ ghost use Rattle.std.specs.Prelude.{◌≡◌, IfOk};
 ghost use Rattle.frame_state.specs.Contents.{signals_in, way_in};
 ghost use Rattle.frame_state.specs.Distances.{IsUnderIf};
 
-use crate::parked::Parked;
+use crate::parked::{Parked, ParkedTick};
 use frame_state::{FrameParams, FrameStart, KeptDistances, Way};
 use grid_world::{Answer, Place};
 use job_core::names::JobName;
@@ -16,10 +16,8 @@ pub struct PathTask<'t> {
     agent: u32,
     question: u32,
     place: Place,
-    // The way, where the tick that asks has gone on with it.
-    answer: Option<Answer>,
-    // The distances to the place, where they are known.
-    known: Option<KeptDistances<'t>>,
+    // The distances to the place, where a search of the frame found them.
+    found: Option<KeptDistances<'t>>,
 }
 
 impl<'t> Drop for PathTask<'t> {
@@ -29,14 +27,13 @@ impl<'t> Drop for PathTask<'t> {
             agent: _,
             question: _,
             place: _,
-            answer: _,
-            known: _,
+            found: _,
         } = self;
     }
 }
 
 impl<'t> Model for PathTask<'t> {
-    ghost use Rattle.std.specs.Prelude.{◌<◌, IfSome, length};
+    ghost use Rattle.std.specs.Prelude.{◌<◌, length};
     ghost use Rattle.std.specs.Arc.{arc_value};
     ghost use Rattle.frame_state.specs.Names.{QuestionOf, question_code};
 
@@ -45,7 +42,6 @@ impl<'t> Model for PathTask<'t> {
     ghost coded = { question_code };
 
     ghost use Rattle.frame_state.specs.Contents.{signals_in};
-    ghost use Rattle.frame_state.specs.Thoughts.{IsWayOf};
     ghost use Rattle.frame_params.specs.Thinks.{AsksFor};
     ghost use Rattle.frame_state.specs.Distances.{IsGivenIf};
 
@@ -58,8 +54,7 @@ impl<'t> Model for PathTask<'t> {
 
     ghost invariant = { λ t. (t.agent < length (arc_value t.start).game.trees)
         × AsksFor (arc_value t.start).game (arc_value t.start).frame t.agent t.question t.place
-        × IfSome t.answer (IsWayOf (arc_value t.start).game (arc_value t.start).frame t.agent t.question)
-        × IsGivenIf (arc_value t.start).game (signals_in (arc_value t.start).game (arc_value t.start).frame) t.place t.known };
+        × IsGivenIf (arc_value t.start).game (signals_in (arc_value t.start).game (arc_value t.start).frame) t.place t.found };
 }
 
 impl<'t> PathTask<'t> {
@@ -75,19 +70,14 @@ impl<'t> PathTask<'t> {
         requires frame { parked.now.frame ≡ params.now.frame }
         ensures { IfOk result (λ t. t ≡ parked.now) }
     {
-        let place = parked.place;
-        let answer = parked.ahead.answer();
-        let known = match answer {
-            Some(_) => None,
-            None => params.known_to(place)?,
-        };
+        let tick: &ParkedTick<'t> = &parked.tick;
+        let place = tick.place();
         Ok(PathTask {
             start: params.share()?,
-            agent: parked.agent,
-            question: parked.question,
+            agent: tick.agent(),
+            question: tick.question(),
             place,
-            answer,
-            known,
+            found: params.known_to(place)?,
         })
     }
 
@@ -111,12 +101,12 @@ impl<'t> PathTask<'t> {
         ensures way { IfOk result (λ parts. parts.0 ≡ way_in self.now.game self.now.frame self.now.agent self.now.question) }
         ensures found { IfOk result (λ parts. IsUnderIf self.now.game (signals_in self.now.game self.now.frame) parts.1) }
     {
-        if let Some(answer) = self.answer {
-            return Ok((answer, None));
-        }
         let start: &FrameStart<'t> = &self.start;
-        if let Some(known) = &self.known {
-            return Ok((start.way_by(known, self.place, self.agent), None));
+        if let Some(found) = &self.found {
+            return Ok((start.way_by(found, self.place, self.agent), None));
+        }
+        if let Some(answer) = start.known_way(self.place, self.agent) {
+            return Ok((answer, None));
         }
         match KeptDistances::to(alloc, scratch, start.session(), start.signals(), self.place)? {
             None => Ok((Answer::NoWay, None)),

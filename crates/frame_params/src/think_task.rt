@@ -1,14 +1,12 @@
 ghost use Rattle.std.specs.Prelude.{◌≡◌, ◌+◌, ◌<◌, IfOk, length};
 
-use crate::ahead::Ahead;
-use crate::parked::Parked;
+use crate::parked::{Parked, ParkedTick};
 use crate::stand::Stand;
 use crate::think_step::ThinkStep;
 use crate::ticking::{begun, copy_gone_on};
-use bt_tick::Outcome;
+use bt_tick::{Outcome, Pending};
 use frame_state::{FrameParams, FrameStart, KeptMemory, Thought, Way};
 use game_session::Session;
-use grid_world::Place;
 use job_core::names::JobName;
 use std::alloc::{AllocError, Allocator, Global};
 use std::marker::Model;
@@ -54,7 +52,7 @@ impl<'t> Model for ThinkTask<'t> {
 }
 
 impl<'t> ThinkTask<'t> {
-    ghost use Rattle.frame_params.specs.Thinks.{ThinksTo, AsksFor, IsAhead, IsThinkStep};
+    ghost use Rattle.frame_params.specs.Thinks.{ThinksTo, StandsAt, IsThinkStep};
 
     /// An agent's thought in a frame at its start. What it reads is the frame's own, so nothing is copied.
     pub fn start(
@@ -86,14 +84,16 @@ impl<'t> ThinkTask<'t> {
         ensures { IfOk result (λ t. t ≡ record { game = parked.now.game; frame = parked.now.frame; agent = parked.now.agent; answered = parked.now.question + 1 }) }
     {
         // A tick asks at most as often as its tree has nodes.
-        let nodes = parked.session.tree_of(parked.agent).size();
-        prove!(u64::from(parked.question) < nodes);
-        let start = params.share()?;
-        let stand = parked.ahead.stand(parked.question, way.answer())?;
+        let tick: &ParkedTick<'t> = &parked.tick;
+        let nodes = tick.session().tree_of(tick.agent()).size();
+        prove!(u64::from(tick.question()) < nodes);
         Ok(ThinkTask {
-            start,
-            agent: parked.agent,
-            stand,
+            start: params.share()?,
+            agent: tick.agent(),
+            stand: Stand::Answered {
+                tick: Arc::try_clone(&parked.tick)?,
+                answer: way.answer(),
+            },
         })
     }
 
@@ -121,45 +121,46 @@ impl<'t> ThinkTask<'t> {
 
     // How many of its questions are answered.
     fn answered(&self) -> u32
-        ensures { result ≡ self.now.answered }
+        ensures value { result ≡ self.now.answered }
+        ensures few { result < 256 }
     {
         match &self.stand {
             Stand::Start => 0,
-            Stand::Answered { question, .. } => *question + 1,
-            Stand::Ended { questions, .. } => *questions,
+            Stand::Answered { tick, .. } => tick.question() + 1,
         }
     }
 
     // The tick at its next question.
-    fn parked(&self, place: Place, ahead: Ahead<'t>) -> Parked<'t>
-        requires there { self.now.agent < length self.now.game.trees }
-        requires asks { AsksFor self.now.game self.now.frame self.now.agent self.now.answered place }
-        requires ahead { IsAhead self.now.game self.now.frame self.now.agent self.now.answered ahead }
-        ensures { result ≡ record { game = self.now.game; frame = self.now.frame; agent = self.now.agent; question = self.now.answered } }
+    fn parked(
+        &self,
+        alloc: Global,
+        pending: Pending<'t, Global, Global>,
+    ) -> Result<Parked<'t>, AllocError>
+        requires { StandsAt self.now.game self.now.frame self.now.agent self.now.answered pending }
+        ensures { IfOk result (λ parked. parked ≡ record { game = self.now.game; frame = self.now.frame; agent = self.now.agent; question = self.now.answered }) }
     {
-        Parked {
+        let tick = ParkedTick {
             session: self.session(),
             frame: self.frame(),
             agent: self.agent,
             question: self.answered(),
-            place,
-            ahead,
-        }
+            pending,
+        };
+        Ok(Parked {
+            tick: Arc::new(alloc, tick)?,
+        })
     }
 
-    // The step of a tick that came to this. Where the answer to its next question is known and is its last, it goes on to its
-    // end at once.
+    // The step of a tick that came to this. At a question it is moved out of where it was ticked.
     fn step<A: Allocator + Clone>(
         &self,
         alloc: Global,
-        scratch: A,
         outcome: Outcome<'t, Global, A>,
     ) -> Result<ThinkStep<'t>, AllocError>
         requires there { self.now.agent < length self.now.game.trees }
         requires thinks { ThinksTo self.now.game self.now.frame self.now.agent self.now.answered outcome }
         ensures { IfOk result (λ step. IsThinkStep self.now step) }
     {
-        let start: &FrameStart<'t> = &self.start;
         match outcome {
             Outcome::Ended {
                 status,
@@ -178,16 +179,14 @@ impl<'t> ThinkTask<'t> {
                 )))
             }
             Outcome::Asks { place: _, pending } => {
-                let place = pending.place();
-                let ahead = Ahead::of(alloc, scratch, start, self.agent, self.answered(), pending)?;
-                Ok(ThinkStep::Asks(self.parked(place, ahead)))
+                let pending = pending.move_in(alloc)?;
+                Ok(ThinkStep::Asks(self.parked(alloc, pending)?))
             }
         }
     }
 
     /// Ticks the tree to its end or to its next question, in the world of the frame before, whatever other agents came
-    /// to. It works on a copy of the memory or of the tick that it has. Where the distances to the place that is asked for
-    /// were known before the frame, and the tick asks nothing after that, it goes on to its end at once.
+    /// to. It works on a copy of the memory or of the tick that it has.
     pub fn work(&self, alloc: Global) -> Result<ThinkStep<'t>, AllocError>
         ensures { IfOk result (λ step. IsThinkStep self.now step) }
     {
@@ -207,33 +206,12 @@ impl<'t> ThinkTask<'t> {
         let start: &FrameStart<'t> = &self.start;
         match &self.stand {
             Stand::Start => {
-                let outcome = begun(alloc, scratch.clone()?, start, self.agent)?;
-                self.step(alloc, scratch, outcome)
+                let outcome = begun(alloc, scratch, start, self.agent)?;
+                self.step(alloc, outcome)
             }
-            Stand::Answered {
-                question: _,
-                pending,
-                answer,
-            } => {
-                let outcome = copy_gone_on(scratch.clone()?, start, self.agent, pending, *answer)?;
-                self.step(alloc, scratch, outcome)
-            }
-            Stand::Ended {
-                questions,
-                status,
-                memory,
-                intent,
-            } => {
-                let memory = memory.share()?;
-                Ok(ThinkStep::Ended(Thought::at_end(
-                    self.session(),
-                    self.frame(),
-                    self.agent,
-                    *questions,
-                    *status,
-                    memory,
-                    *intent,
-                )))
+            Stand::Answered { tick, answer } => {
+                let outcome = copy_gone_on(scratch, start, self.agent, tick.pending(), *answer)?;
+                self.step(alloc, outcome)
             }
         }
     }

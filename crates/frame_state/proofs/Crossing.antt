@@ -52,7 +52,7 @@ pub frame_start_sync : (κ : NamedLft) → IsSync (FrameStart.the_row κ)
 frame_start_sync κ = search (session, of_parts, kept_distances_send, kept_distances_sync, sendable, crosses) depth 40
 
 pub gathered : (κ : NamedLft) → IsSend (Gathered.the_row κ)
-gathered κ = search (of_parts, known, frame_start_send, frame_start_sync, sendable, crosses) depth 40
+gathered κ = search (of_parts, kept_distances_send, frame_start_send, frame_start_sync, sendable, crosses) depth 40
 
 -- ---- results
 
@@ -82,7 +82,7 @@ logic_task κ = search (session, gathered, sendable, crosses) depth 40
 -- ---- what tasks are made of
 
 pub params : (κ : NamedLft) → IsSend (FrameParams.the_row κ)
-params κ = search (frame_start_send, frame_start_sync, known, sendable, crosses) depth 40
+params κ = search (frame_start_send, frame_start_sync, kept_distances_send, sendable, crosses) depth 40
 
 pub slots : (κ : NamedLft) → IsSend (Slots.the_row κ)
 slots κ = search (params, sendable, crosses) depth 40

@@ -16,7 +16,7 @@ use Rattle.game_rules.specs.Play.{play, thoughts, thoughts_from}
 use Rattle.game_jobs.specs.Instance.{tree_of, view}
 use Rattle.frame_state.specs.Names.{FrameOf, PartOf, part_of, AreOfAllAgents}
 use Rattle.frame_state.specs.Contents.{world_after, memories_after, signals_in, statuses_in, intents_in, seen, memory_before, thought_in, thought_for, bands_in, AllFit, IsAfter}
-use Rattle.frame_state.specs.Distances.{KnownOf}
+use Rattle.frame_state.specs.Distances.{DistancesOf}
 use Rattle.frame_state.specs.Logic.{AreGathered, AllFitOwn}
 use Rattle.game_rules.proofs.Ground.{play_ground}
 use Rattle.draw_list.specs.Bands.{band_count}
@@ -121,8 +121,8 @@ turned g (suc f) h =
     let n : suc f - 1 ≡ f = omega arith in
     ap (λ k. apply_all (play g k).world (signals g.changes (suc f)) 0 (map (λ t. t.intent) (thoughts g (suc f) (play g k)))) n
 
-module _ (p : FrameOf) (intents : List Intent) (statuses : List Status) (memories : List (List ℕ)) (known : KnownOf)
-    (are : AreGathered p intents statuses memories known) where
+module _ (p : FrameOf) (intents : List Intent) (statuses : List Status) (memories : List (List ℕ)) (found : List DistancesOf)
+    (are : AreGathered p intents statuses memories found) where
   pub an_intent_each : length intents ≡ length p.game.trees
   an_intent_each = ap length are.intents_are ∙ as_many_intents p.game p.frame
 

@@ -25,6 +25,9 @@ known_of g on = record { game = g; signals = on }
 abbrev pub IsUnder : Game → List Bool → DistancesOf → Type 0
 IsUnder g on d = (d.game ≡ g) × (d.signals ≡ on)
 
+abbrev pub AllUnder : Game → List Bool → List DistancesOf → Type 0
+AllUnder g on all = All (λ d. IsUnder g on d) all
+
 abbrev pub AllOf : Game → List DistancesOf → Type 0
 AllOf g all = All (λ d. d.game ≡ g) all
 

@@ -7,17 +7,17 @@ use Rattle.bt_nodes.specs.Bounds.{Fits}
 use Rattle.game_jobs.specs.Instance.{tree_of}
 use Rattle.frame_state.specs.Names.{FrameOf, PartOf, LogicOf, frame_of}
 use Rattle.frame_state.specs.Contents.{memories_after, intents_in, statuses_in, AllFit}
-use Rattle.frame_state.specs.Distances.{KnownOf}
+use Rattle.frame_state.specs.Distances.{DistancesOf, AllOf}
 use Rattle.frame_state.specs.declared.logic_step.LogicStep.{LogicStep}
 use Rattle.frame_state.specs.declared.logic_step.LogicStep.TheVariants.{Begins, Turned}
 
 -- what all agents want to do and come to in a frame, and distances on the game's ground
-pub record AreGathered (p : FrameOf) (intents : List Intent) (statuses : List Status) (memories : List (List ℕ)) (known : KnownOf) : Type 0 where
+pub record AreGathered (p : FrameOf) (intents : List Intent) (statuses : List Status) (memories : List (List ℕ)) (found : List DistancesOf) : Type 0 where
   pub intents_are : intents ≡ intents_in p.game p.frame
   pub statuses_are : statuses ≡ statuses_in p.game p.frame
   pub memories_are : 0 < p.frame → memories ≡ memories_after p.game p.frame
   pub fit : AllFit p.game.trees memories
-  pub known_is : known.game ≡ p.game
+  pub found_are : AllOf p.game found
 
 abbrev pub AreGatheredIf : FrameOf → Option (Box FrameOf Global) → Type 0
 AreGatheredIf p None = Unit {0}

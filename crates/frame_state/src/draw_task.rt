@@ -54,11 +54,12 @@ impl<'t> DrawTask<'t> {
         requires { band < bands_in turn.now.game }
         ensures { IfOk result (λ t. t ≡ record { game = turn.now.game; frame = turn.now.frame; number = band }) }
     {
+        let turned = turn.turned();
         Ok(DrawTask {
-            session: turn.session,
-            frame: turn.frame,
+            session: turned.session,
+            frame: turned.frame,
             band,
-            world: Arc::try_clone(&turn.world)?,
+            world: Arc::try_clone(&turned.world)?,
         })
     }
 

@@ -109,15 +109,16 @@ impl<'t> FrameStart<'t> {
         requires { turn.now.frame + 1 < 2 ^ 32 }
         ensures { IfOk result (λ s. s ≡ record { game = turn.now.game; frame = turn.now.frame + 1 }) }
     {
-        let frame = turn.frame + 1;
-        let signals = turn.session.script().signals(frame);
+        let turned = turn.turned();
+        let frame = turned.frame + 1;
+        let signals = turned.session.script().signals(frame);
         Ok(FrameStart {
-            session: turn.session,
+            session: turned.session,
             frame,
             signals,
-            world: Arc::try_clone(&turn.world)?,
-            memories: Arc::try_clone(&turn.memories)?,
-            known: turn.known.under(alloc, signals)?,
+            world: Arc::try_clone(&turned.world)?,
+            memories: Arc::try_clone(&turned.memories)?,
+            known: turned.known.under(alloc, signals)?,
         })
     }
 

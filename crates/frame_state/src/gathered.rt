@@ -5,11 +5,11 @@ ghost use Rattle.frame_state.specs.Contents.{thought_for};
 ghost use Rattle.frame_state.specs.Logic.{AllFitOwn};
 
 use crate::frame_start::FrameStart;
+use crate::kept_distances::KeptDistances;
 use crate::kept_memory::KeptMemory;
-use crate::known::Known;
 use crate::params::FrameParams;
 use crate::thought::Thought;
-use crate::turn::Turn;
+use crate::turn::{Turn, Turned};
 use bt_nodes::Status;
 use grid_world::{Intent, ResolveFault, Signals, World, resolve};
 use std::alloc::{AllocError, Global};
@@ -22,7 +22,8 @@ pub(crate) struct Gathered<'t> {
     intents: Vec<Intent>,
     statuses: Arc<Vec<Status>>,
     memories: Arc<Vec<KeptMemory>>,
-    known: Known<'t>,
+    // The distances that were found in the frame.
+    found: Vec<KeptDistances<'t>>,
 }
 
 impl<'t> Drop for Gathered<'t> {
@@ -32,7 +33,7 @@ impl<'t> Drop for Gathered<'t> {
             intents: _,
             statuses: _,
             memories: _,
-            known: _,
+            found: _,
         } = self;
     }
 }
@@ -48,7 +49,7 @@ impl<'t> Model for Gathered<'t> {
 
     ghost view = { λ x. arc_value x.start };
 
-    ghost invariant = { λ x. AreGathered (arc_value x.start) x.intents.items (arc_value x.statuses).items (arc_value x.memories).items x.known };
+    ghost invariant = { λ x. AreGathered (arc_value x.start) x.intents.items (arc_value x.statuses).items (arc_value x.memories).items x.found.items };
 }
 
 // What each agent wants to do.
@@ -119,23 +120,32 @@ impl<'t> Gathered<'t> {
             intents: intents_of(alloc, thoughts)?,
             statuses: Arc::new(alloc, statuses)?,
             memories: Arc::new(alloc, memories)?,
-            known: params.known.share()?,
+            found: params.found(alloc)?,
         })
     }
 
     // What all agents want to do, applied by agent number.
-    pub(crate) fn turn(&self, alloc: Global) -> Result<Turn<'t>, AllocError>
-        ensures { IfOk result (λ turn. turn ≡ self.now) }
+    fn turned(&self, alloc: Global) -> Result<Turned<'t>, AllocError>
+        ensures { IfOk result (λ turned. turned ≡ self.now) }
     {
         let start: &FrameStart<'t> = &self.start;
         let world = resolved(alloc, start.world(), start.signals(), &self.intents)?;
-        Ok(Turn {
+        let known = start.known().with(alloc, &self.found)?;
+        Ok(Turned {
             session: start.session(),
             frame: start.frame(),
             world: Arc::new(alloc, world)?,
             memories: Arc::try_clone(&self.memories)?,
             statuses: Arc::try_clone(&self.statuses)?,
-            known: self.known.share()?,
+            known,
         })
+    }
+
+    // The same as one word.
+    pub(crate) fn turn(&self, alloc: Global) -> Result<Turn<'t>, AllocError>
+        ensures { IfOk result (λ turn. turn ≡ self.now) }
+    {
+        let turned = self.turned(alloc)?;
+        Ok(Turn::new(alloc, turned)?)
     }
 }

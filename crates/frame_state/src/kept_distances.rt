@@ -10,16 +10,15 @@ use std::alloc::{AllocError, Allocator, Global};
 use std::marker::Model;
 use std::sync::Arc;
 
-/// The distances to a place on the ground of a session while the doors of these signals are open. All that read them share
-/// one table.
-pub struct KeptDistances<'t> {
+// The distances to a place on the ground of a session while the doors of these signals are open.
+struct Found<'t> {
     session: &'t Session,
     signals: Signals,
     place: Place,
-    table: Arc<Distances>,
+    table: Distances,
 }
 
-impl<'t> Drop for KeptDistances<'t> {
+impl<'t> Drop for Found<'t> {
     fn drop(self) {
         let Self {
             session: _,
@@ -30,8 +29,7 @@ impl<'t> Drop for KeptDistances<'t> {
     }
 }
 
-impl<'t> Model for KeptDistances<'t> {
-    ghost use Rattle.std.specs.Arc.{arc_value};
+impl<'t> Model for Found<'t> {
     ghost use Rattle.grid_path.specs.Distances.{AreDistances};
     ghost use Rattle.frame_state.specs.Distances.{DistancesOf, distances_code};
 
@@ -41,7 +39,52 @@ impl<'t> Model for KeptDistances<'t> {
 
     ghost view = { λ d. record { game = d.session.now; signals = d.signals; place = d.place } };
 
-    ghost invariant = { λ d. AreDistances d.session.now.world d.signals d.place (arc_value d.table) };
+    ghost invariant = { λ d. AreDistances d.session.now.world d.signals d.place d.table };
+}
+
+impl<'t> Found<'t> {
+    // Whether they were found under these signals.
+    fn is_under(&self, signals: Signals) -> bool
+        ensures { result ≡ true → self.now.signals ≡ signals }
+    {
+        signals == self.signals
+    }
+
+    // The way to the place from a cell of the map.
+    fn way(&self, from: (u32, u32)) -> Answer
+        requires { is_on_map self.now.game.world (point from.0 from.1) ≡ true }
+        ensures { result ≡ way self.now.game.world self.now.signals (point from.0 from.1) self.now.place }
+    {
+        self.table.way(self.session.world(), self.place, from)
+    }
+}
+
+/// The distances to a place on the ground of a session while the doors of these signals are open. All that read them share
+/// one table.
+pub struct KeptDistances<'t> {
+    // That of the distances once more, so that a search among many reads none of the others.
+    place: Place,
+    found: Arc<Found<'t>>,
+}
+
+impl<'t> Drop for KeptDistances<'t> {
+    fn drop(self) {
+        let Self { place: _, found: _ } = self;
+    }
+}
+
+impl<'t> Model for KeptDistances<'t> {
+    ghost use Rattle.std.specs.Prelude.{◌≡◌};
+    ghost use Rattle.std.specs.Arc.{arc_value};
+    ghost use Rattle.frame_state.specs.Distances.{DistancesOf, distances_code};
+
+    ghost Value = { DistancesOf };
+
+    ghost coded = { distances_code };
+
+    ghost view = { λ d. arc_value d.found };
+
+    ghost invariant = { λ d. (arc_value d.found).place ≡ d.place };
 }
 
 impl<'t> KeptDistances<'t> {
@@ -59,12 +102,18 @@ impl<'t> KeptDistances<'t> {
             (λ d. d ≡ distances_of session.now signals place)) }
     {
         match Distances::to(alloc, scratch, session.world(), signals, place) {
-            Ok(distances) => Ok(Some(KeptDistances {
-                session,
-                signals,
-                place,
-                table: Arc::new(alloc, distances)?,
-            })),
+            Ok(table) => {
+                let found = Found {
+                    session,
+                    signals,
+                    place,
+                    table,
+                };
+                Ok(Some(KeptDistances {
+                    place,
+                    found: Arc::new(alloc, found)?,
+                }))
+            }
             Err(PathFault::OffMap) => Ok(None),
             Err(PathFault::OutOfMemory) => Err(AllocError),
         }
@@ -75,10 +124,8 @@ impl<'t> KeptDistances<'t> {
         ensures { IfOk result (λ d. d ≡ self.now) }
     {
         Ok(KeptDistances {
-            session: self.session,
-            signals: self.signals,
             place: self.place,
-            table: Arc::try_clone(&self.table)?,
+            found: Arc::try_clone(&self.found)?,
         })
     }
 
@@ -92,7 +139,7 @@ impl<'t> KeptDistances<'t> {
     pub(crate) fn is_under(&self, signals: Signals) -> bool
         ensures { result ≡ true → self.now.signals ≡ signals }
     {
-        signals == self.signals
+        self.found.is_under(signals)
     }
 
     // The way to the place from a cell of the map.
@@ -100,6 +147,6 @@ impl<'t> KeptDistances<'t> {
         requires { is_on_map self.now.game.world (point from.0 from.1) ≡ true }
         ensures { result ≡ way self.now.game.world self.now.signals (point from.0 from.1) self.now.place }
     {
-        self.table.way(self.session.world(), self.place, from)
+        self.found.way(from)
     }
 }

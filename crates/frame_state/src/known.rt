@@ -58,7 +58,7 @@ fn to_place<'a, 't>(
 }
 
 impl<'t> Known<'t> {
-    ghost use Rattle.frame_state.specs.Distances.{known_of, distances_of, IsGivenIf};
+    ghost use Rattle.frame_state.specs.Distances.{known_of, distances_of};
 
     // None are known.
     pub(crate) fn none(
@@ -127,43 +127,35 @@ impl<'t> Known<'t> {
         to_place(&self.all, self.signals, place)
     }
 
-    // Those to a place once more, where they are known; nothing is copied.
-    pub(crate) fn shared_to(&self, place: Place) -> Result<Option<KeptDistances<'t>>, AllocError>
-        ensures { IfOk result (IsGivenIf self.now.game self.now.signals place) }
-    {
-        match self.to(place) {
-            None => Ok(None),
-            Some(known) => Ok(Some(known.share()?)),
-        }
-    }
-
-    // These once more behind another, as many as are kept.
+    // These once more behind those that were found, as many as are kept.
     fn behind(
         &self,
         alloc: Global,
-        found: &KeptDistances<'t>,
+        found: &[KeptDistances<'t>],
     ) -> Result<Vec<KeptDistances<'t>>, AllocError>
-        requires game { found.now.game ≡ self.now.game }
+        requires game { AllOf self.now.game found.now }
         ensures { IfOk result (λ them. AllOf self.now.game them.items) }
     {
         let mut them = Vec::with_capacity(alloc, MOST)?;
-        them.push(found.share()?)?;
-        'known: for known in self.all.iter().take(MOST - 1) {
+        'found: for new in found {
+            them.push(new.share()?)?;
+        }
+        'known: for known in self.all.iter().take(MOST.saturating_sub(found.len())) {
             them.push(known.share()?)?;
         }
         Ok(them)
     }
 
-    // These and those that were found, where none were known to their place.
+    // These and those that were found since.
     pub(crate) fn with(
         &self,
         alloc: Global,
-        found: &KeptDistances<'t>,
+        found: &[KeptDistances<'t>],
     ) -> Result<Known<'t>, AllocError>
-        requires game { found.now.game ≡ self.now.game }
+        requires game { AllOf self.now.game found.now }
         ensures { IfOk result (λ k. k ≡ self.now) }
     {
-        if self.to(found.place()).is_some() {
+        if found.is_empty() {
             return Ok(self.share()?);
         }
         let all = self.behind(alloc, found)?;

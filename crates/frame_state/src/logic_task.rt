@@ -61,7 +61,7 @@ impl<'t> LogicTask<'t> {
     }
 
     /// The logic of a frame after all its thinks. The thoughts are those of all agents, in order; it shares their
-    /// memories, and takes memory six times at most, however many they are.
+    /// memories, and takes memory seven times at most, however many they are.
     pub fn turn(
         alloc: Global,
         params: &FrameParams<'t>,

@@ -1,11 +1,10 @@
-ghost use Rattle.std.specs.Prelude.{◌≡◌, ◌+◌, ◌^◌, ◌<◌, IfOk};
+ghost use Rattle.std.specs.Prelude.{◌≡◌, ◌+◌, ◌^◌, ◌<◌, IfOk, IfSome, Contains};
 ghost use Rattle.std.specs.Arc.{arc_value};
 ghost use Rattle.frame_state.specs.Contents.{signals_in};
-ghost use Rattle.frame_state.specs.Distances.{IsGivenIf};
+ghost use Rattle.frame_state.specs.Distances.{IsGivenIf, IsUnder, AllUnder};
 
 use crate::frame_start::FrameStart;
 use crate::kept_distances::KeptDistances;
-use crate::known::Known;
 use crate::turn::Turn;
 use crate::way::Way;
 use game_session::Session;
@@ -14,25 +13,28 @@ use std::alloc::{AllocError, Global};
 use std::marker::Model;
 use std::sync::Arc;
 
-/// What the jobs of a frame read: the frame's signals, the world and the memories of the frame before, and the distances
-/// that were found so far under these signals. The tasks that are made of it share these with it.
-pub struct FrameParams<'t> {
+// How many places a map has at most.
+const PLACES: usize = 10;
+
+// What a frame starts from, and the distances that were found since under its signals.
+struct Params<'t> {
     start: Arc<FrameStart<'t>>,
-    pub(crate) known: Known<'t>,
+    // To a place once at most; there is room for those to all places.
+    found: Vec<KeptDistances<'t>>,
 }
 
-impl<'t> Drop for FrameParams<'t> {
+impl<'t> Drop for Params<'t> {
     fn drop(self) {
-        let Self { start: _, known: _ } = self;
+        let Self { start: _, found: _ } = self;
     }
 }
 
-impl<'t> Model for FrameParams<'t> {
-    ghost use Rattle.std.specs.Prelude.{◌≡◌};
+impl<'t> Model for Params<'t> {
+    ghost use Rattle.std.specs.Prelude.{◌≤◌, vec_capacity};
     ghost use Rattle.std.specs.Arc.{arc_value};
     ghost use Rattle.frame_state.specs.Names.{FrameOf, frame_code};
     ghost use Rattle.frame_state.specs.Contents.{signals_in};
-    ghost use Rattle.frame_state.specs.Distances.{known_of};
+    ghost use Rattle.frame_state.specs.Distances.{AllUnder};
 
     ghost Value = { FrameOf };
 
@@ -40,7 +42,101 @@ impl<'t> Model for FrameParams<'t> {
 
     ghost view = { λ p. arc_value p.start };
 
-    ghost invariant = { λ p. p.known ≡ known_of (arc_value p.start).game (signals_in (arc_value p.start).game (arc_value p.start).frame) };
+    ghost invariant = { λ p. (10 ≤ vec_capacity p.found)
+        × AllUnder (arc_value p.start).game (signals_in (arc_value p.start).game (arc_value p.start).frame) p.found.items };
+}
+
+impl<'t> Params<'t> {
+    // Those of a frame that starts so.
+    fn of(alloc: Global, start: FrameStart<'t>) -> Result<Params<'t>, AllocError>
+        ensures { IfOk result (λ p. p ≡ start.entry) }
+    {
+        Ok(Params {
+            start: Arc::new(alloc, start)?,
+            found: Vec::with_capacity(alloc, PLACES)?,
+        })
+    }
+
+    fn session(&self) -> &'t Session
+        ensures { result.now ≡ self.now.game }
+    {
+        self.start.session()
+    }
+
+    fn frame(&self) -> u32
+        ensures value { result ≡ self.now.frame }
+        ensures positive { 0 < result }
+    {
+        self.start.frame()
+    }
+
+    fn share(&self) -> Result<Arc<FrameStart<'t>>, AllocError>
+        ensures { IfOk result (λ start. arc_value start ≡ self.now) }
+    {
+        Ok(Arc::try_clone(&self.start)?)
+    }
+
+    // The distances that were found in the frame, by the one that was found first.
+    fn found(&self) -> &[KeptDistances<'t>]
+        ensures { AllUnder self.now.game (signals_in self.now.game self.now.frame) result.now }
+    {
+        &self.found
+    }
+
+    // Keeps these, where none to their place are kept.
+    fn learn(&mut self, found: KeptDistances<'t>)
+        requires { IsUnder self.old.game (signals_in self.old.game self.old.frame) found }
+        ensures { self.new ≡ self.old }
+    {
+        if to_place(&self.found, found.place()).is_none() && self.found.len() < PLACES {
+            self.found.push_reserved(found);
+        }
+    }
+}
+
+// Those to a place.
+fn to_place<'a, 't>(found: &'a [KeptDistances<'t>], place: Place) -> Option<&'a KeptDistances<'t>>
+    ensures place { IfSome result (λ d. d.now.place ≡ place) }
+    ensures one { IfSome result (λ d. Contains found.now d.now) }
+{
+    found.iter().find(|d| d.place() == place)
+}
+
+// These once more; nothing is copied.
+fn shared<'t>(
+    alloc: Global,
+    found: &[KeptDistances<'t>],
+) -> Result<Vec<KeptDistances<'t>>, AllocError>
+    ensures { IfOk result (λ them. them.items ≡ found.now) }
+{
+    let mut them = Vec::with_capacity(alloc, found.len())?;
+    'found: for one in found {
+        them.push(one.share()?)?;
+    }
+    Ok(them)
+}
+
+/// What the jobs of a frame read: the frame's signals, the world and the memories of the frame before, and the distances
+/// that were found so far under these signals. The tasks that are made of it share these with it.
+pub struct FrameParams<'t> {
+    params: Box<Params<'t>>,
+}
+
+impl<'t> Drop for FrameParams<'t> {
+    fn drop(self) {
+        let Self { params: _ } = self;
+    }
+}
+
+impl<'t> Model for FrameParams<'t> {
+    ghost use Rattle.std.specs.Prelude.{box_value};
+    ghost use Rattle.frame_state.specs.Names.{FrameOf, frame_code};
+
+    ghost Value = { FrameOf };
+
+    ghost coded = { frame_code };
+
+    ghost view = { λ p. box_value p.params };
 }
 
 impl<'t> FrameParams<'t> {
@@ -48,11 +144,9 @@ impl<'t> FrameParams<'t> {
     pub fn first(alloc: Global, session: &'t Session) -> Result<FrameParams<'t>, AllocError>
         ensures { IfOk result (λ p. p ≡ record { game = session.now; frame = 1 }) }
     {
-        let start = FrameStart::first(alloc, session)?;
-        let known = start.known().share()?;
+        let params = Params::of(alloc, FrameStart::first(alloc, session)?)?;
         Ok(FrameParams {
-            start: Arc::new(alloc, start)?,
-            known,
+            params: Box::new(alloc, params)?,
         })
     }
 
@@ -62,11 +156,9 @@ impl<'t> FrameParams<'t> {
         requires { turn.now.frame + 1 < 2 ^ 32 }
         ensures { IfOk result (λ p. p ≡ record { game = turn.now.game; frame = turn.now.frame + 1 }) }
     {
-        let start = FrameStart::after(alloc, turn)?;
-        let known = start.known().share()?;
+        let params = Params::of(alloc, FrameStart::after(alloc, turn)?)?;
         Ok(FrameParams {
-            start: Arc::new(alloc, start)?,
-            known,
+            params: Box::new(alloc, params)?,
         })
     }
 
@@ -74,7 +166,7 @@ impl<'t> FrameParams<'t> {
     pub fn session(&self) -> &'t Session
         ensures { result.now ≡ self.now.game }
     {
-        self.start.session()
+        self.params.session()
     }
 
     /// Frames count from 1.
@@ -82,36 +174,45 @@ impl<'t> FrameParams<'t> {
         ensures value { result ≡ self.now.frame }
         ensures positive { 0 < result }
     {
-        self.start.frame()
+        self.params.frame()
     }
 
     /// What the frame starts from, once more; nothing is copied.
     pub fn share(&self) -> Result<Arc<FrameStart<'t>>, AllocError>
         ensures { IfOk result (λ start. arc_value start ≡ self.now) }
     {
-        Ok(Arc::try_clone(&self.start)?)
+        Ok(self.params.share()?)
     }
 
-    /// The distances to a place under the frame's signals once more, where they are known by now; nothing is copied. They
+    // The distances that were found in the frame, once more; nothing is copied.
+    pub(crate) fn found(&self, alloc: Global) -> Result<Vec<KeptDistances<'t>>, AllocError>
+        ensures { IfOk result (λ found. AllUnder self.now.game (signals_in self.now.game self.now.frame) found.items) }
+    {
+        Ok(shared(alloc, self.params.found())?)
+    }
+
+    /// The distances to a place that a search of the frame found once more, where one did by now; nothing is copied. They
     /// save a search and change no way, so the contract lets None come always.
     pub fn known_to(&self, place: Place) -> Result<Option<KeptDistances<'t>>, AllocError>
         ensures { IfOk result (IsGivenIf self.now.game (signals_in self.now.game self.now.frame) place) }
     {
-        Ok(self.known.shared_to(place)?)
+        match to_place(self.params.found(), place) {
+            None => Ok(None),
+            Some(found) => Ok(Some(found.share()?)),
+        }
     }
 
     /// Keeps the distances that the search for a way of the frame found, for the tasks that are made later and for the
     /// frames that follow under the same signals. Of all that are found forty are kept, those under the latest states of the
-    /// signals before others. Where memory is refused they are not kept, and are found again.
-    pub fn learn(&mut self, alloc: Global, way: &Way<'t>)
-        requires game { way.now.game ≡ self.old.game }
-        requires frame { way.now.frame ≡ self.old.frame }
-        ensures { self.new ≡ self.old }
+    /// signals before others. The way has none then. It takes no memory: room for them came with the parameters.
+    pub fn learn(&mut self, way: &mut Way<'t>)
+        requires game { way.old.game ≡ self.old.game }
+        requires frame { way.old.frame ≡ self.old.frame }
+        ensures params { self.new ≡ self.old }
+        ensures way { way.new ≡ way.old }
     {
-        if let Some(found) = &way.found {
-            if let Ok(known) = self.known.with(alloc, found) {
-                self.known = known;
-            }
+        if let Some(found) = way.take_found() {
+            self.params.learn(found);
         }
     }
 }

@@ -98,14 +98,15 @@ impl<'t> Slots<'t> {
     }
 
     /// Keeps the distances that a way's search found with the parameters of its frame, where they stand in its place.
-    pub fn learn(&mut self, alloc: Global, way: &Way<'t>)
-        requires { IfSome (held_at self.old way.now.frame) (λ params. params.game ≡ way.now.game) }
-        ensures { self.new ≡ self.old }
+    pub fn learn(&mut self, way: &mut Way<'t>)
+        requires { IfSome (held_at self.old way.old.frame) (λ params. params.game ≡ way.old.game) }
+        ensures slots { self.new ≡ self.old }
+        ensures way { way.new ≡ way.old }
     {
         let at = way.frame as usize % self.places.len();
         if let Some(params) = &mut self.places[at] {
             if params.frame() == way.frame {
-                params.learn(alloc, way);
+                params.learn(way);
             }
         }
     }

@@ -1,4 +1,4 @@
-ghost use Rattle.std.specs.Prelude.{◌≡◌, length};
+ghost use Rattle.std.specs.Prelude.{◌≡◌, IfOk, length};
 ghost use Rattle.frame_state.specs.Contents.{world_after, statuses_in, bands_in};
 
 use crate::kept_memory::KeptMemory;
@@ -8,11 +8,12 @@ use draw_list::band_count;
 use game_session::Session;
 use grid_world::World;
 use job_core::names::JobName;
+use std::alloc::{AllocError, Global};
 use std::marker::Model;
 use std::sync::Arc;
 
-/// What came of a frame: the world and the memories after it, and the answers of the agents' ticks.
-pub struct Turn<'t> {
+// What came of a frame: the world and the memories after it, and the answers of the agents' ticks.
+pub(crate) struct Turned<'t> {
     pub(crate) session: &'t Session,
     pub(crate) frame: u32,
     // Shared with the parameters of the next frame and the draws of this one.
@@ -23,7 +24,7 @@ pub struct Turn<'t> {
     pub(crate) known: Known<'t>,
 }
 
-impl<'t> Drop for Turn<'t> {
+impl<'t> Drop for Turned<'t> {
     fn drop(self) {
         let Self {
             session: _,
@@ -36,7 +37,7 @@ impl<'t> Drop for Turn<'t> {
     }
 }
 
-impl<'t> Model for Turn<'t> {
+impl<'t> Model for Turned<'t> {
     ghost use Rattle.std.specs.Prelude.{◌≡◌, ◌<◌};
     ghost use Rattle.std.specs.Arc.{arc_value};
     ghost use Rattle.frame_state.specs.Names.{FrameOf, frame_code};
@@ -54,26 +55,107 @@ impl<'t> Model for Turn<'t> {
         × (t.known.game ≡ t.session.now) };
 }
 
+impl<'t> Turned<'t> {
+    // The session itself, as it was lent.
+    pub(crate) fn session(&self) -> &'t Session
+        ensures { result.now ≡ self.now.game }
+    {
+        self.session
+    }
+
+    // Frames count from 1.
+    pub(crate) fn frame(&self) -> u32
+        ensures { result ≡ self.now.frame }
+    {
+        self.frame
+    }
+
+    // The world after the frame.
+    pub(crate) fn world(&self) -> &World
+        ensures value { result.now ≡ world_after self.now.game self.now.frame }
+        ensures agents { length result.now.agents ≡ length self.now.game.trees }
+    {
+        &self.world
+    }
+
+    // How many bands the frame has.
+    #[tactic(auto, using(crate::proofs::Turning::height_stays))]
+    fn bands(&self) -> u32
+        ensures { result ≡ bands_in self.now.game }
+    {
+        band_count(self.world.height())
+    }
+
+    // The answer of each agent's tick, by agent number.
+    #[tactic(auto, using(crate::proofs::Turning::as_many_statuses))]
+    fn statuses(&self) -> &[Status]
+        ensures value { result.now ≡ statuses_in self.now.game self.now.frame }
+        ensures agents { length result.now ≡ length self.now.game.trees }
+    {
+        &self.statuses
+    }
+}
+
+/// What came of a frame: the world and the memories after it, and the answers of the agents' ticks.
+pub struct Turn<'t> {
+    turned: Box<Turned<'t>>,
+}
+
+impl<'t> Drop for Turn<'t> {
+    fn drop(self) {
+        let Self { turned: _ } = self;
+    }
+}
+
+impl<'t> Model for Turn<'t> {
+    ghost use Rattle.std.specs.Prelude.{box_value};
+    ghost use Rattle.frame_state.specs.Names.{FrameOf, frame_code};
+
+    ghost Value = { FrameOf };
+
+    ghost coded = { frame_code };
+
+    ghost view = { λ t. box_value t.turned };
+}
+
 impl<'t> Turn<'t> {
+    // What came of a frame, as one word. Takes memory once.
+    pub(crate) fn new(alloc: Global, turned: Turned<'t>) -> Result<Turn<'t>, AllocError>
+        ensures { IfOk result (λ turn. turn ≡ turned.entry) }
+    {
+        Ok(Turn {
+            turned: Box::new(alloc, turned)?,
+        })
+    }
+
+    // What it is a word for.
+    pub(crate) fn turned(&self) -> &Turned<'t>
+        ensures { result.now ≡ self.now }
+    {
+        &self.turned
+    }
+
     /// The session itself, as it was lent.
     pub fn session(&self) -> &'t Session
         ensures { result.now ≡ self.now.game }
     {
-        self.session
+        self.turned.session()
     }
 
     /// The job whose work it is.
     pub fn name(&self) -> JobName
         ensures { result ≡ JobName.Logic self.now.frame }
     {
-        JobName::Logic { frame: self.frame }
+        JobName::Logic {
+            frame: self.frame(),
+        }
     }
 
     /// Frames count from 1.
     pub fn frame(&self) -> u32
         ensures { result ≡ self.now.frame }
     {
-        self.frame
+        self.turned.frame()
     }
 
     /// The world after the frame.
@@ -81,23 +163,21 @@ impl<'t> Turn<'t> {
         ensures value { result.now ≡ world_after self.now.game self.now.frame }
         ensures agents { length result.now.agents ≡ length self.now.game.trees }
     {
-        &self.world
+        self.turned.world()
     }
 
     /// How many bands the frame has.
-    #[tactic(auto, using(crate::proofs::Turning::height_stays))]
     pub fn bands(&self) -> u32
         ensures { result ≡ bands_in self.now.game }
     {
-        band_count(self.world.height())
+        self.turned.bands()
     }
 
     /// The answer of each agent's tick, by agent number.
-    #[tactic(auto, using(crate::proofs::Turning::as_many_statuses))]
     pub fn statuses(&self) -> &[Status]
         ensures value { result.now ≡ statuses_in self.now.game self.now.frame }
         ensures agents { length result.now ≡ length self.now.game.trees }
     {
-        &self.statuses
+        self.turned.statuses()
     }
 }

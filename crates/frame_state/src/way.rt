@@ -17,7 +17,7 @@ pub struct Way<'t> {
     question: u32,
     answer: Answer,
     // The distances that its search found; they are under the signals of the frame.
-    pub(crate) found: Option<KeptDistances<'t>>,
+    found: Option<KeptDistances<'t>>,
 }
 
 impl<'t> Drop for Way<'t> {
@@ -104,5 +104,13 @@ impl<'t> Way<'t> {
         ensures { result ≡ way_in self.now.game self.now.frame self.now.agent self.now.question }
     {
         self.answer
+    }
+
+    // The distances that its search found, if they weren't taken out yet.
+    pub(crate) fn take_found(&mut self) -> Option<KeptDistances<'t>>
+        ensures found { IsUnderIf self.old.game (signals_in self.old.game self.old.frame) result }
+        ensures way { self.new ≡ self.old }
+    {
+        self.found.take()
     }
 }

@@ -1,17 +1,11 @@
 -- The agents that a tree names.
 use Rattle.std.specs.Prelude.{ℕ, List, [], ◌∷◌, ◌++◌, Bool, nat_lt, length}
 use Rattle.grid_world.specs.Grid.{Grid}
-use Rattle.bt_nodes.specs.Plain.{Plain, Composite, Star, Par, Not, Tries, Ticks, Wait, Move, Does, Leaf, Take, Drop, At, Carrying, Item, Signal, Near, Give, Forest, none, tree}
+use Rattle.bt_nodes.specs.Plain.{Plain, Composite, Star, Par, Not, Tries, Ticks, Wait, Move, Does, Leaf, Give, Forest, none, tree}
 
 abbrev pub leaf_agents : Leaf → List ℕ
-leaf_agents Take = []
-leaf_agents Drop = []
-leaf_agents (At p) = []
-leaf_agents Carrying = []
-leaf_agents Item = []
-leaf_agents (Signal a) = []
-leaf_agents (Near n) = []
 leaf_agents (Give b) = b ∷ []
+leaf_agents _ = []
 
 abbrev mutual
   pub agents : Plain → List ℕ

@@ -1,17 +1,11 @@
 -- The places that a tree names.
 use Rattle.std.specs.Prelude.{ℕ, List, [], ◌∷◌, ◌++◌, Bool, is_some}
 use Rattle.grid_world.specs.Grid.{Grid, place_of}
-use Rattle.bt_nodes.specs.Plain.{Plain, Composite, Star, Par, Not, Tries, Ticks, Wait, Move, Does, Leaf, Take, Drop, At, Carrying, Item, Signal, Near, Give, Forest, none, tree}
+use Rattle.bt_nodes.specs.Plain.{Plain, Composite, Star, Par, Not, Tries, Ticks, Wait, Move, Does, Leaf, At, Forest, none, tree}
 
 abbrev pub leaf_places : Leaf → List ℕ
-leaf_places Take = []
-leaf_places Drop = []
 leaf_places (At p) = p ∷ []
-leaf_places Carrying = []
-leaf_places Item = []
-leaf_places (Signal a) = []
-leaf_places (Near n) = []
-leaf_places (Give b) = []
+leaf_places _ = []
 
 abbrev mutual
   pub places : Plain → List ℕ

@@ -9,9 +9,9 @@ use Rattle.frame_params.specs.declared.task.Task.TheVariants.{Logic as LogicTask
 use Rattle.frame_params.specs.declared.board_step.BoardStep.TheVariants.{Logic as LogicStep, Think as ThinkStep, Path as PathStep, Draw as DrawStep}
 use Rattle.frame_state.specs.declared.logic_step.LogicStep.TheVariants.{Turned}
 use Rattle.frame_params.specs.declared.think_step.ThinkStep.TheVariants.{Ended, Asks}
-use Rattle.job_results.specs.Dones.{game_done, job_done, step_done}
-use Rattle.job_results.specs.declared.done.Done.{Done}
-use Rattle.job_results.specs.declared.done.Done.TheVariants.{Turned as DoneTurned, Thought as DoneThought, Way as DoneWay, Drawn as DoneDrawn}
+use Rattle.task_board.specs.Dones.{game_done, job_done, step_done}
+use Rattle.task_board.specs.declared.done.Done.{Done}
+use Rattle.task_board.specs.declared.done.Done.TheVariants.{Turned as DoneTurned, Thought as DoneThought, Way as DoneWay, Drawn as DoneDrawn}
 use Rattle.job_board.specs.Works.{IsStepAt, IsOver}
 
 is_above : (k : ℕ) → 0 < k → nat_lt 0 k ≡ true

@@ -14,8 +14,8 @@ use Rattle.frame_params.specs.declared.board_step.BoardStep.{BoardStep}
 use Rattle.job_core.specs.Core.{Runs, IsLegalList}
 use Rattle.task_board.specs.Boards.{Played, setup_in, state_in}
 use Rattle.task_board.specs.BoardCode.{job_code}
-use Rattle.job_results.specs.Dones.{game_done, job_done}
-use Rattle.job_results.specs.declared.done.Done.{Done}
+use Rattle.task_board.specs.Dones.{game_done, job_done}
+use Rattle.task_board.specs.declared.done.Done.{Done}
 
 pub record WorkOf : Type 0 where
   pub game : Game

@@ -5,7 +5,7 @@ ghost use Rattle.job_core.specs.Core.{Runs, IsLegal, IsLegalList, IsComplete};
 ghost use Rattle.task_board.specs.Boards.{setup_in, state_in, Happens, IsDoneByLogic, IsTaken, IsTakeRefused, GivesJob, IsRefused, IsEmitRefused, IsShown, IsStopped, NoOther};
 ghost use Rattle.frame_params.specs.BoardSteps.{IsToldIn};
 ghost use Rattle.task_board.specs.HandedIn.{IsHandedIn, IsHandInRefused};
-ghost use Rattle.job_results.specs.Dones.{game_done, job_done, IsOtherDone};
+ghost use Rattle.task_board.specs.Dones.{game_done, job_done, IsOtherDone};
 ghost use Rattle.task_board.specs.Parked.{IsOtherParked};
 ghost use Rattle.task_board.specs.Given.{NothingToShow, NobodyStarts};
 ghost use Rattle.job_board.specs.Playing.{IsOwn};
@@ -14,11 +14,10 @@ use super::works::Works;
 use frame_params::{BoardStep, Parked, Task};
 use game_session::Session;
 use job_core::names::Event;
-use job_results::{Done, Shown};
 use job_scheduler::{BoardFault, OutOfMemory, Settings};
 use std::alloc::Global;
 use std::marker::Model;
-use task_board::{Refused, TaskBoard};
+use task_board::{Done, Refused, Shown, TaskBoard};
 
 /// The jobs of a run over a session, handed out as a task board does, or done by the board itself for events that are
 /// given. Each call that answers Ok, but for a `take` that gives nothing and a `stop` of a stopped board, does one event,

@@ -10,6 +10,5 @@ mod works;
 
 pub use board::Board;
 pub use job_core::names::{Event, JobName};
-pub use job_results::{Done, Shown};
 pub use job_scheduler::{BoardFault, OutOfMemory, Settings, SettingsFault};
-pub use task_board::Refused;
+pub use task_board::{Done, Refused, Shown};

@@ -2,15 +2,15 @@ ghost use Rattle.std.specs.Prelude.{◌≡◌, ◌<◌, true, false, IfOk, IfErr
 ghost use Rattle.job_core.specs.declared.names.JobName.TheVariants.{Think};
 ghost use Rattle.frame_state.specs.Contents.{questions_in};
 ghost use Rattle.frame_params.specs.Tasks.{IsTaskAt};
-ghost use Rattle.job_results.specs.Dones.{game_done, job_done};
+ghost use Rattle.task_board.specs.Dones.{game_done, job_done};
 
 use bumpalo::Bump;
 use frame_params::{BoardStep, LogicStep, Parked, Task, ThinkStep};
 use game_session::Session;
 use job_core::names::JobName;
-use job_results::Done;
 use std::alloc::{AllocError, Global};
 use std::marker::Model;
+use task_board::Done;
 
 /// What the work of a job came to, kept for the job's next event. Of a Draw it is the mark of its band.
 pub(crate) struct Work<'t> {

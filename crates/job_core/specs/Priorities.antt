@@ -2,9 +2,15 @@
 use Rattle.std.specs.Prelude.{◌≡◌, ◌<◌, ℕ}
 use Rattle.job_core.specs.declared.names.JobName.{JobName}
 use Rattle.job_core.specs.declared.names.JobName.TheVariants.{Logic, Think, Path, Draw}
+use Rattle.job_core.specs.declared.names.Priority.{Priority}
+use Rattle.job_core.specs.declared.names.Priority.TheVariants.{High, Normal, Low}
 use Rattle.job_core.specs.Core.{Setup, State, Queued, HasFiber, IsReady}
 
--- high, normal and low
+abbrev pub rank : Priority → ℕ
+rank High = 2
+rank Normal = 1
+rank Low = 0
+
 abbrev pub priority : JobName → ℕ
 priority (Logic f) = 2
 priority (Path f a i) = 2

@@ -1,6 +1,8 @@
+pub mod Lines
 pub mod Places
 pub mod Threes
 pub mod Picks
 pub mod Pools
 pub mod AfterPick
 pub mod Takings
+pub mod Levels

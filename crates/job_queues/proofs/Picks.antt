@@ -1,5 +1,5 @@
 -- A pick takes the picked job or fiber out: an earlier entry of the same job would have been picked.
-use Rattle.std.proofs.Common.{◌≡◌, ℕ, length, Bool, true, false, List, [], ◌∷◌, Option, Some, None, find, cond, if◌then◌else◌, refl, sym, ap, ◌∙◌, arith}
+use Rattle.std.proofs.Common.{◌≡◌, ℕ, length, Bool, true, false, List, [], ◌∷◌, Option, Some, None, find, drop, slice_get, cond, if◌then◌else◌, refl, sym, ap, ◌∙◌, arith}
 use Rattle.job_core.specs.declared.names.JobName.{JobName}
 use Rattle.job_core.specs.Core.{same}
 use Rattle.job_core.proofs.ByCases.{by_same}
@@ -73,6 +73,21 @@ none_given may ready fresh e f = ap (λ r. lane may r fresh None) e ∙ (first_n
 pub new_given : (may : JobName → Bool) (ready : List ℕ) (fresh : List JobName) (job : JobName) → ready ≡ [] → find may fresh ≡ Some job → lane may ready fresh None ≡ Some (New job)
 new_given may ready fresh job e f = ap (λ r. lane may r fresh None) e ∙ (first_new_is may fresh ∙ ap found_new f)
 
+-- where nothing stands first, nothing stands
+pub nothing_there : (may : JobName → Bool) (ready : List ℕ) (fresh : List JobName) → slice_get ready 0 ≡ None → slice_get fresh 0 ≡ None → lane may ready fresh None ≡ None
+nothing_there may [] [] e f = refl
+nothing_there may [] (j ∷ js) e f = absurd cc
+nothing_there may (r ∷ rs) fresh e f = absurd cc
+
+pub ready_given : (may : JobName → Bool) (ready : List ℕ) (fresh : List JobName) (fiber : ℕ) → slice_get ready 0 ≡ Some fiber → lane may ready fresh None ≡ Some (Ready fiber)
+ready_given may [] fresh fiber e = absurd cc
+ready_given may (r ∷ rs) fresh fiber e = let i : r ≡ fiber = cc in ap (λ f. Some (Ready f)) i
+
+pub first_given : (may : JobName → Bool) (ready : List ℕ) (fresh : List JobName) (job : JobName) → slice_get ready 0 ≡ None → slice_get fresh 0 ≡ Some job → may job ≡ true → lane may ready fresh None ≡ Some (New job)
+first_given may [] [] job e f t = absurd cc
+first_given may [] (j ∷ js) job e f t = let i : j ≡ job = cc in rw (i, t) refl
+first_given may (r ∷ rs) fresh job e f t = absurd cc
+
 -- an item of a list without it
 pub no_item : {X : Type 0} (xs : List X) → length xs ≡ 0 → xs ≡ []
 no_item [] e = refl
@@ -111,3 +126,12 @@ found_new-ready (Some job) fiber e = absurd cc
 pub given_may_start : (may : JobName → Bool) (ready : List ℕ) (fresh : List JobName) (job : JobName) → Some (New job) ≡ lane may ready fresh None → may job ≡ true
 given_may_start may [] fresh job e = (first_of_name may job fresh (found_new-some (find may fresh) job (e ∙ first_new_is may fresh))).0
 given_may_start may (f ∷ fs) fresh job e = absurd cc
+
+-- what is given is there
+pub ready_there : (may : JobName → Bool) (ready : List ℕ) (fresh : List JobName) (fiber : ℕ) → Some (Ready fiber) ≡ lane may ready fresh None → ready ≡ fiber ∷ drop 1 ready
+ready_there may [] fresh fiber e = absurd (found_new-ready (find may fresh) fiber (e ∙ first_new_is may fresh))
+ready_there may (f ∷ fs) fresh fiber e = let i : fiber ≡ f = cc in ap (λ x. x ∷ fs) (sym i)
+
+pub new_there : (may : JobName → Bool) (ready : List ℕ) (fresh : List JobName) (job : JobName) → Some (New job) ≡ lane may ready fresh None → has (same job) fresh ≡ true
+new_there may [] fresh job e = (first_of_name may job fresh (found_new-some (find may fresh) job (e ∙ first_new_is may fresh))).1
+new_there may (f ∷ fs) fresh job e = absurd cc

@@ -1,6 +1,6 @@
 -- The code's priorities and picks as the law of the board has them.
-use Rattle.job_queues.specs.declared.priority.Priority.{Priority as CodePriority}
-use Rattle.job_queues.specs.declared.priority.Priority.TheVariants as code
+use Rattle.job_core.specs.declared.names.Priority.{Priority as CodePriority}
+use Rattle.job_core.specs.declared.names.Priority.TheVariants as code
 use Rattle.job_queues.specs.declared.pick.Pick.{Pick as CodePick}
 use Rattle.job_queues.specs.declared.pick.Pick.TheVariants as pick
 use Rattle.board_model.specs.Lists.{Priority, High, Normal, Low}

@@ -11,22 +11,21 @@ pub(crate) struct Free {
     pub(crate) large: u32,
 }
 
-/// Jobs that may wait run on large fibers, and the others on small ones.
+/// The size of a job's fiber.
+#[inline(always)]
 pub fn size_of(job: JobName) -> Size
     ensures { result ≡ size_of job }
 {
-    match job {
-        JobName::Logic { .. } | JobName::Think { .. } => Size::Large,
-        JobName::Path { .. } | JobName::Draw { .. } => Size::Small,
-    }
+    job.size()
 }
 
 impl Free {
     /// Whether a job may start: a fiber of its size is free.
+    #[inline(always)]
     pub(crate) fn may_start(self, job: JobName) -> bool
         ensures { result ≡ may_start self job }
     {
-        match size_of(job) {
+        match job.size() {
             Size::Small => self.small > 0,
             Size::Large => self.large > 0,
         }

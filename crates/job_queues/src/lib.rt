@@ -4,6 +4,7 @@
 mod fiber;
 mod free;
 mod lane;
+mod line;
 mod pick;
 mod pool;
 mod priority;
@@ -11,8 +12,8 @@ mod queues;
 
 pub use fiber::Fiber;
 pub use free::size_of;
-pub use job_core::names::{JobName, Size};
+pub use job_core::names::{JobName, Priority, Size};
 pub use pick::Pick;
 pub use pool::{FiberPool, NoFiber, NotTaken};
-pub use priority::{Priority, is_same, job_priority};
+pub use priority::{is_same, job_priority};
 pub use queues::{QueueFault, Queues};

@@ -63,6 +63,7 @@ impl FiberPool {
     }
 
     /// How many fibers of a size are free.
+    #[inline(always)]
     pub fn free(&self, size: Size) -> u32
         ensures { result ≡ tally not (part size self.now.small self.now.taken) }
     {
@@ -73,6 +74,7 @@ impl FiberPool {
     }
 
     /// The lowest free fiber of a size. It takes no memory.
+    #[inline(always)]
     pub fn take(&mut self, size: Size) -> Result<Fiber, NoFiber>
         ensures lowest { IfOk result (λ fiber. fiber ≡ lowest_in size self.old.small self.old.taken) }
         ensures there { IfOk result (λ fiber. fiber < length self.old.taken) }
@@ -86,6 +88,7 @@ impl FiberPool {
         }
     }
 
+    #[inline(always)]
     fn take_small(&mut self) -> Result<Fiber, NoFiber>
         ensures lowest { IfOk result (λ fiber. fiber ≡ lowest_in Small self.old.small self.old.taken) }
         ensures there { IfOk result (λ fiber. fiber < length self.old.taken) }
@@ -102,6 +105,7 @@ impl FiberPool {
         Ok(Fiber(at as u32))
     }
 
+    #[inline(always)]
     fn take_large(&mut self) -> Result<Fiber, NoFiber>
         ensures lowest { IfOk result (λ fiber. fiber ≡ lowest_in Large self.old.small self.old.taken) }
         ensures there { IfOk result (λ fiber. fiber < length self.old.taken) }
@@ -120,6 +124,7 @@ impl FiberPool {
     }
 
     /// Gives a taken fiber back. It takes no memory.
+    #[inline(always)]
     pub fn give(&mut self, fiber: Fiber) -> Result<(), NotTaken>
         ensures was_taken { OnOk result (slice_get self.old.taken fiber ≡ Some true) }
         ensures freed { OnOk result (self.new ≡ with_fiber fiber false self.old) }

@@ -12,8 +12,8 @@ use super::fiber::Fiber;
 use super::free::Free;
 use super::lane::Lane;
 use super::pick::Pick;
-use super::priority::{Priority, job_priority};
-use job_core::names::JobName;
+use super::priority::job_priority;
+use job_core::names::{JobName, Priority};
 use std::alloc::{AllocError, Global};
 use std::marker::Model;
 
@@ -46,7 +46,6 @@ impl Drop for Queues {
 
 impl Model for Queues {
     ghost use Rattle.std.specs.Prelude.{◌≤◌};
-    ghost use Rattle.std.specs.VecDeque.{deque_capacity};
     ghost use Rattle.job_queues.specs.Waiting.{BoundedQueues};
 
     ghost Value = { BoundedQueues };
@@ -59,7 +58,7 @@ impl Model for Queues {
       fibers = q.fibers;
     } };
 
-    ghost invariant = { λ q. (q.fibers ≤ deque_capacity q.high.ready) × (q.fibers ≤ deque_capacity q.normal.ready) × (q.fibers ≤ deque_capacity q.low.ready) };
+    ghost invariant = { λ q. (q.fibers ≤ q.high.ready.room) × (q.fibers ≤ q.normal.ready.room) × (q.fibers ≤ q.low.ready.room) };
 }
 
 impl Queues {
@@ -148,6 +147,7 @@ impl Queues {
     }
 
     /// Queues a job at the end of its priority's queue.
+    #[inline(always)]
     pub fn put_new(&mut self, job: JobName) -> Result<(), QueueFault>
         ensures after { OnOk result (self.new ≡ put_new job self.old) }
         ensures fault { IfErr result (λ e. e ≡ QueueFault.OutOfMemory) }
@@ -165,6 +165,7 @@ impl Queues {
     }
 
     /// Makes a fiber ready, behind those that are. It takes no memory, for `new` made room.
+    #[inline(always)]
     pub fn put_ready(&mut self, priority: Priority, fiber: Fiber)
         requires { length (all self.old.queues.ready) < self.old.fibers }
         ensures { self.new ≡ put_ready (level priority) fiber self.old }

@@ -1,13 +1,11 @@
 -- Counters that are started, awaited and taken out again.
-use Rattle.std.proofs.Common.{◌≡◌, ◌<◌, ℕ, zero, suc, false, List, [], ◌∷◌, ◌++◌, Option, Some, None, if◌then◌else◌, refl, sym, ap, ◌∙◌, arith}
+use Rattle.std.proofs.Common.{◌≡◌, ◌<◌, ℕ, zero, suc, false, List, [], ◌∷◌, ◌++◌, Some, None, if◌then◌else◌, refl, sym, ap, ◌∙◌, arith}
 use Rattle.job_core.specs.Core.{Counter, Thinks, Shown}
 use Rattle.board_model.specs.Lists.{drop_first, change_first}
 use Rattle.board_model.specs.Board.{Row, same_counter, has_key, first_row, raise, wait, with_waiter}
 use Rattle.board_model.proofs.Kit.{by_bool}
 use Rattle.board_model.proofs.Tables.{counter_other}
-use Rattle.counters.specs.Rows.{started, left_in}
-use Rattle.counters.specs.Faults.{absent_fault}
-use Rattle.counters.specs.declared.counters.CounterFault.{CounterFault}
+use Rattle.counters.specs.Rows.{started}
 use Rattle.counters.proofs.Pairs.{first_row_last, cancelled, change_dropped}
 
 -- ---- where no row of the key stands
@@ -40,10 +38,6 @@ module _ (k : Counter) where
   pub raised_there : (number : ℕ) (rows : List Row) → first_row k rows ≡ None → first_row k (raise k (suc number) rows) ≡ Some (started k (suc number))
   raised_there number rows n = first_row_last k (started k (suc number)) refl rows n
 
-  -- a row that was started above 0 does not stand at 0
-  pub not_at_zero : (number : ℕ) (rows new : List Row) → 0 < number → first_row k rows ≡ None → new ≡ rows ++ started k number ∷ [] → left_in (first_row k new) ≡ Some 0 → ⊥
-  not_at_zero number rows new l n e z = let a = sym (ap left_in (ap (first_row k) e ∙ first_row_last k (started k number) refl rows n)) ∙ z in let b : number ≡ 0 = cc in absurd (omega arith)
-
   -- a row of another key
   absent_last : (row : Row) (rows : List Row) → same_counter k row.key ≡ false → first_row k rows ≡ None → first_row k (rows ++ row ∷ []) ≡ None
   absent_last row [] o n = rw o refl
@@ -58,12 +52,3 @@ pub frame_undone : (frame number fiber : ℕ) (rows : List Row) → first_row (T
     → drop_first (has_key (Shown frame)) (drop_first (has_key (Thinks frame)) (wait (Thinks frame) fiber (raise (Thinks frame) number (raise (Shown frame) 1 rows)))) ≡ rows
 frame_undone frame number fiber rows t s =
     ap (drop_first (has_key (Shown frame))) (awaited_undone (Thinks frame) number fiber (raise (Shown frame) 1 rows) (absent_raised (Thinks frame) (Shown frame) 1 rows (λ e. cc) t)) ∙ raise_undone (Shown frame) 1 rows s
-
--- ---- what the calls on counters answer
-
-pub not_cancelled : (k : Counter) (rows : List Row) (e : CounterFault) → Some e ≡ absent_fault (first_row k rows) → first_row k rows ≡ None
-not_cancelled k rows e f = go (first_row k rows) f
-  where
-    go : (o : Option Row) → Some e ≡ absent_fault o → o ≡ None
-    go None f = refl
-    go (Some row) f = absurd cc

@@ -5,12 +5,12 @@ ghost use Rattle.board_model.specs.Board.{has_key, first_row, raise, wait};
 ghost use Rattle.counters.specs.Keys.{counter_of};
 
 use super::fault::OutOfMemory;
-use counters::{CounterKey, Counters, Waits};
+use counters::{BoardCounters, CounterKey};
 use job_queues::Fiber;
 
 // A counter at 0 has nothing to count, and is not kept.
 pub(crate) fn raise(
-    counters: &mut Counters,
+    counters: &mut BoardCounters,
     key: CounterKey,
     number: u32,
 ) -> Result<(), OutOfMemory>
@@ -27,19 +27,10 @@ pub(crate) fn raise(
     Ok(())
 }
 
-// Takes a counter out, if it is there, whatever its number.
-pub(crate) fn without(counters: &mut Counters, key: CounterKey)
-    ensures { counters.new ≡ drop_first (has_key (counter_of key)) counters.old }
-{
-    match counters.cancel(key) {
-        Ok(()) => {}
-        Err(_) => {}
-    }
-}
-
 // Starts a counter for which a fiber waits at once. One at 0 is not kept, and the fiber does not wait.
+#[inline(always)]
 pub(crate) fn raise_awaited(
-    counters: &mut Counters,
+    counters: &mut BoardCounters,
     key: CounterKey,
     number: u32,
     fiber: Fiber,
@@ -51,23 +42,15 @@ pub(crate) fn raise_awaited(
     if number == 0 {
         return Ok(());
     }
-    let Ok(()) = counters.start(key, number) else {
+    if counters.start_awaited(key, number, fiber).is_err() {
         return Err(OutOfMemory);
-    };
-    match counters.wait(key, fiber) {
-        Ok(Waits::Kept) => {}
-        Ok(Waits::AtZero) => unreachable!(),
-        Err(_) => {
-            without(counters, key);
-            return Err(OutOfMemory);
-        }
     }
     Ok(())
 }
 
 // The counters of a frame that is under way from now on. A fiber waits for its thinks.
 pub(crate) fn raise_frame(
-    counters: &mut Counters,
+    counters: &mut BoardCounters,
     frame: u32,
     thinks: u32,
     fiber: Fiber,
@@ -79,16 +62,16 @@ pub(crate) fn raise_frame(
 {
     raise(counters, CounterKey::Shown { frame }, 1)?;
     let Ok(()) = raise_awaited(counters, CounterKey::Thinks { frame }, thinks, fiber) else {
-        without(counters, CounterKey::Shown { frame });
+        counters.cancel(CounterKey::Shown { frame });
         return Err(OutOfMemory);
     };
     Ok(())
 }
 
 // Takes the counters of a frame out again.
-pub(crate) fn without_frame(counters: &mut Counters, frame: u32)
+pub(crate) fn without_frame(counters: &mut BoardCounters, frame: u32)
     ensures { counters.new ≡ drop_first (has_key (Shown frame)) (drop_first (has_key (Thinks frame)) counters.old) }
 {
-    without(counters, CounterKey::Thinks { frame });
-    without(counters, CounterKey::Shown { frame });
+    counters.cancel(CounterKey::Thinks { frame });
+    counters.cancel(CounterKey::Shown { frame });
 }

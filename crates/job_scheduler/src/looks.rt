@@ -16,6 +16,7 @@ use job_queues::{Fiber, Pick};
 // What may happen next. None of these takes memory.
 impl JobLog {
     /// The job that a worker runs.
+    #[inline(always)]
     pub fn running(&self, worker: u32) -> Result<Held, BoardFault>
         ensures { Always self.now (IsRunning worker result) }
     {

@@ -26,6 +26,7 @@ impl Scheduler {
     }
 
     /// The job that a worker runs, if it runs one.
+    #[inline(always)]
     pub fn runs(&self, worker: u32) -> Option<Held>
         ensures { result ≡ on_fiber self.now.seats (at self.now.seats.workers worker) }
     {
@@ -34,6 +35,7 @@ impl Scheduler {
     }
 
     /// The job that a fiber holds, if it holds one.
+    #[inline(always)]
     pub fn held_by(&self, fiber: Fiber) -> Option<Held>
         ensures { result ≡ at self.now.seats.jobs fiber }
     {
@@ -80,6 +82,7 @@ impl Scheduler {
     }
 
     /// Whether the board is stopped; it stays so.
+    #[inline(always)]
     pub fn is_stopped(&self) -> bool
         ensures { result ≡ self.now.stopped }
     {

@@ -7,13 +7,13 @@ ghost use Rattle.counters.specs.Keys.{counter_of};
 ghost use Rattle.job_scheduler.specs.Opening.{opened};
 ghost use Rattle.job_scheduler.specs.Seats.{holding, left_by, less_one};
 
-use super::counting::{raise, raise_awaited, raise_frame, without, without_frame};
+use super::counting::{raise, raise_awaited, raise_frame, without_frame};
 use super::fault::OutOfMemory;
 use super::held::Held;
 use super::settings::Settings;
 use super::tables::empty_table;
 use super::waking::{ready_at_once, wake};
-use counters::{CounterKey, Counters, Waits};
+use counters::{BoardCounters, CounterKey};
 use job_core::names::{Event, JobName};
 use job_queues::{Fiber, FiberPool, Queues, size_of};
 use std::alloc::Global;
@@ -27,7 +27,7 @@ pub struct Scheduler {
     pub(crate) pool: FiberPool,
     pub(crate) jobs: Vec<Option<Held>>,
     pub(crate) workers: Vec<Option<Fiber>>,
-    pub(crate) counters: Counters,
+    pub(crate) counters: BoardCounters,
     pub(crate) slots: Vec<Option<u32>>,
     pub(crate) emitted: u32,
     pub(crate) stopped: bool,
@@ -97,7 +97,7 @@ impl Scheduler {
             pool: FiberPool::new(small, large),
             jobs,
             workers,
-            counters: Counters::new(alloc),
+            counters: BoardCounters::new(alloc),
             slots,
             emitted: 0,
             stopped: false,
@@ -112,6 +112,7 @@ impl Scheduler {
     }
 
     /// The fiber that a worker runs, or the first where it runs none.
+    #[inline(always)]
     #[tactic(auto, using(crate::proofs::Entries::at_in))]
     fn fiber_of(&self, worker: u32) -> Fiber
         requires { worker < length self.now.seats.workers }
@@ -205,10 +206,8 @@ impl Scheduler {
         let key = CounterKey::Shown {
             frame: frame - self.slots.len() as u32,
         };
-        match self.counters.wait(key, fiber) {
-            Ok(Waits::Kept) => {}
-            Ok(Waits::AtZero) => unreachable!(),
-            Err(_) => return Err(OutOfMemory),
+        if self.counters.wait(key, fiber).is_err() {
+            return Err(OutOfMemory);
         }
         self.hold_on(
             worker,
@@ -258,6 +257,7 @@ impl Scheduler {
     }
 
     /// A worker's Think queues the path that its tick asks for, and waits for it.
+    #[inline(always)]
     pub fn ask(
         &mut self,
         worker: u32,
@@ -285,7 +285,7 @@ impl Scheduler {
             question,
         };
         let Ok(()) = self.queues.put_new(path) else {
-            without(&mut self.counters, key);
+            self.counters.cancel(key);
             return Err(OutOfMemory);
         };
         self.hold_on(
@@ -320,11 +320,10 @@ impl Scheduler {
         requires room { length (all self.old.queues.ready) + length (woken (counter_of key) self.old.counters) ≤ length self.old.seats.jobs }
         ensures { self.new ≡ less_one self.old (counter_of key) }
     {
-        let Some(fibers) = self.counters.lower_out(key) else {
+        let Some(waiters) = self.counters.lower(key) else {
             return;
         };
-        wake(&mut self.queues, &self.jobs, &fibers);
-        self.counters.keep(fibers);
+        wake(&mut self.queues, &self.jobs, &waiters);
     }
 
     /// A worker's Think, Path or Draw is over, and lowers the counter of its kind.
@@ -359,7 +358,7 @@ impl Scheduler {
         let fiber = self.fiber_of(worker);
         raise(&mut self.counters, CounterKey::Draws { frame }, bands)?;
         let Ok(()) = self.queues.put_all(followers) else {
-            without(&mut self.counters, CounterKey::Draws { frame });
+            self.counters.cancel(CounterKey::Draws { frame });
             return Err(OutOfMemory);
         };
         self.leave(worker, fiber);

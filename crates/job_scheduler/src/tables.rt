@@ -22,6 +22,7 @@ pub(crate) fn empty_table<T: Clone + Drop>(
 }
 
 // An entry of a table, which has none past its end.
+#[inline(always)]
 #[tactic(auto, using(crate::proofs::Entries::at_in, crate::proofs::Entries::at_out))]
 pub(crate) fn entry<T: Clone + Copy + Drop>(table: &[Option<T>], place: u32) -> Option<T>
     ensures { result ≡ at table.now place }

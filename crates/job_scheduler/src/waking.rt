@@ -6,8 +6,10 @@ ghost use Rattle.job_queues.specs.Waiting.{with_ready};
 
 use super::held::Held;
 use super::tables::entry;
+use counters::Waiters;
 use job_queues::{Fiber, Priority, Queues, job_priority};
 
+#[inline(always)]
 fn priority_at(jobs: &[Option<Held>], fiber: Fiber) -> Priority
     ensures { level result ≡ priority_on (at jobs.now fiber) }
 {
@@ -17,14 +19,39 @@ fn priority_at(jobs: &[Option<Held>], fiber: Fiber) -> Priority
     }
 }
 
-// Makes fibers ready, in order, each at the priority of the job that it holds.
-pub(crate) fn wake(queues: &mut Queues, jobs: &[Option<Held>], fibers: &[Fiber])
+// Makes a fiber ready, at the priority of the job that it holds.
+#[inline(always)]
+fn wake_one(queues: &mut Queues, jobs: &[Option<Held>], fiber: Fiber)
+    requires { length (all queues.old.queues.ready) < queues.old.fibers }
+    ensures { queues.new ≡ with_ready queues.old (add (priority_on (at jobs.now fiber)) fiber queues.old.queues.ready) }
+{
+    queues.put_ready(priority_at(jobs, fiber), fiber);
+}
+
+fn wake_all(queues: &mut Queues, jobs: &[Option<Held>], fibers: &[Fiber])
     requires { length (all queues.old.queues.ready) + length fibers.now ≤ queues.old.fibers }
     ensures { queues.new ≡ with_ready queues.old (wake jobs.now queues.old.queues.ready fibers.now) }
 {
     'fibers: for fiber in fibers {
-        queues.put_ready(priority_at(jobs, *fiber), *fiber);
+        wake_one(queues, jobs, *fiber);
     }
+}
+
+// Makes fibers ready, in order, each at the priority of the job that it holds. Mostly one waits.
+#[inline(always)]
+pub(crate) fn wake(queues: &mut Queues, jobs: &[Option<Held>], waiters: &Waiters)
+    requires { length (all queues.old.queues.ready) + length waiters.now ≤ queues.old.fibers }
+    ensures { queues.new ≡ with_ready queues.old (wake jobs.now queues.old.queues.ready waiters.now) }
+{
+    let Some(first) = waiters.first else {
+        wake_all(queues, jobs, &waiters.more);
+        return;
+    };
+    wake_one(queues, jobs, first);
+    if waiters.more.is_empty() {
+        return;
+    }
+    wake_all(queues, jobs, &waiters.more);
 }
 
 // A fiber that waits for nothing is ready at once.

@@ -4,6 +4,7 @@ pub mod ThreeWords
 pub mod ReadLines
 pub mod Items
 pub mod NodesBefore
+pub mod NamedBelow
 pub mod LeavesRead
 pub mod NodesRead
 pub mod InnerRead

@@ -5,7 +5,8 @@ use Rattle.bt_nodes.specs.Plain.{plain}
 use Rattle.bt_nodes.specs.declared.node.Node.{Node}
 use Rattle.bt_nodes.specs.declared.node.Node as node
 use Rattle.bt_nodes.proofs.Views.{plain-Par, plain-Tries, plain-Ticks}
-use Rattle.level_text.specs.Begun.{own, count, mark}
+use Rattle.level_text.specs.Begun.{own}
+use Rattle.level_text.specs.Written.{count, mark}
 use Rattle.level_text.proofs.LeavesRead.{plain-Wait, plain-Move, plain-At, plain-Signal, plain-Near, plain-Give}
 
 abbrev Children : Type 0

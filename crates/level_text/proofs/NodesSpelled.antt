@@ -3,7 +3,7 @@ use Rattle.std.proofs.Common.{◌≡◌, ℕ, ◌+◌, ◌-◌, ◌<◌, ◌≤�
 use Rattle.std.proofs.lemmas.Bool.{ltb-true, le-leb}
 use Rattle.serde_json.specs.Data.{depth as nesting, items_depth}
 use Rattle.serde_json.specs.Written.{has_float, items_have_float}
-use Rattle.bt_nodes.specs.Plain.{Plain, Composite, Star, Par, Not, Tries, Ticks, Wait, Move, Does, Seq, Fallback, Leaf, Take, Drop, At, Carrying, Item, Signal, Near, Give, Forest, none, tree}
+use Rattle.bt_nodes.specs.Plain.{Plain, Composite, Star, Par, Not, Tries, Ticks, Wait, Move, Does, Seq, Fallback, Leaf, Take, At, Signal, Give, Forest, none, tree}
 use Rattle.bt_nodes.specs.Sizes.{depth, deepest}
 use Rattle.level_text.specs.Nodes.{mark_of, node_of, forest_in}
 use Rattle.level_text.specs.Marks.{has_marks, all_have_marks, leaf_has_marks}
@@ -30,14 +30,10 @@ agent_is : (b : ℕ) → b < 26 → mark_of 65 90 ((65 + b) ∷ []) ≡ Some b
 agent_is b h = mark_of-is 65 90 b (omega arith)
 
 leaf_is : (leaf : Leaf) → leaf_has_marks leaf ≡ true → node_of (leaf_data leaf) ≡ Some (Does leaf)
-leaf_is Take h = refl
-leaf_is Drop h = refl
 leaf_is (At p) h = ap (option_map (λ q. Does (At q))) (place_is p (ltb-true p 10 h))
-leaf_is Carrying h = refl
-leaf_is Item h = refl
 leaf_is (Signal a) h = ap (option_map (λ b. Does (Signal b))) (signal_is a (ltb-true a 26 h))
-leaf_is (Near n) h = refl
 leaf_is (Give b) h = ap (option_map (λ c. Does (Give c))) (agent_is b (ltb-true b 26 h))
+leaf_is _ h = refl
 
 mutual
   pub node_of-node_data : (p : Plain) → has_marks p ≡ true → node_of (node_data p) ≡ Some p
@@ -66,13 +62,7 @@ mutual
 
 leaf_nesting : (leaf : Leaf) → nesting (leaf_data leaf) ≤ 1
 leaf_nesting Take = omega arith
-leaf_nesting Drop = omega arith
-leaf_nesting (At p) = omega arith
-leaf_nesting Carrying = omega arith
-leaf_nesting Item = omega arith
-leaf_nesting (Signal a) = omega arith
-leaf_nesting (Near n) = omega arith
-leaf_nesting (Give b) = omega arith
+leaf_nesting _ = omega arith
 
 mutual
   pub nesting-node_data : (p : Plain) → nesting (node_data p) ≤ depth p
@@ -92,13 +82,7 @@ mutual
 
 leaf_has_no_float : (leaf : Leaf) → has_float (leaf_data leaf) ≡ false
 leaf_has_no_float Take = refl
-leaf_has_no_float Drop = refl
-leaf_has_no_float (At p) = refl
-leaf_has_no_float Carrying = refl
-leaf_has_no_float Item = refl
-leaf_has_no_float (Signal a) = refl
-leaf_has_no_float (Near n) = refl
-leaf_has_no_float (Give b) = refl
+leaf_has_no_float _ = refl
 
 mutual
   pub has_float-node_data : (p : Plain) → has_float (node_data p) ≡ false

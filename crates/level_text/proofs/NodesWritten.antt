@@ -1,18 +1,14 @@
 -- Writing a node: what its array begins with, and then what lies below it.
-use Rattle.std.proofs.Common.{◌≡◌, true, List, [], ◌∷◌, ◌++◌, Option, Some, None, refl, sym, ap, ◌∙◌}
-use Rattle.serde_json.specs.Data.{Data, string, array, Items, no_items, item}
+use Rattle.std.proofs.Common.{◌≡◌, true, List, [], ◌∷◌, ◌++◌, Some, None, refl, sym, ap, ◌∙◌}
+use Rattle.serde_json.specs.Data.{string, array, no_items, item}
 use Rattle.serde_json.specs.View.{view, items_view}
 use Rattle.serde_json.specs.declared.value.Value.{Value}
-use Rattle.bt_nodes.specs.Plain.{Plain, Composite, Star, Par, Not, Tries, Ticks, Wait, Move, Does, Take, Drop, At, Carrying, Item, Signal, Near, Give, Forest}
+use Rattle.bt_nodes.specs.Plain.{Plain, Composite, Star, Par, Not, Tries, Ticks, Wait, Move, Does, Forest}
 use Rattle.bt_nodes.specs.Heads.{listed, decorated}
 use Rattle.level_text.specs.Begun.{head, own, below, has_own_mark, items_before}
 use Rattle.level_text.specs.Marks.{has_marks, all_have_marks}
-use Rattle.level_text.specs.Written.{form, node_data, forest_data}
+use Rattle.level_text.specs.Written.{form, own_before, node_data, forest_data}
 use Rattle.level_text.proofs.ItemsBefore.{items_before-no_items, items_before-push}
-
-abbrev own_before : Option Data → Items → Items
-own_before None rest = rest
-own_before (Some d) rest = item d rest
 
 begins : (p : Plain) → form (head p) (own_before (own p) (below p)) ≡ node_data p
 begins (Composite kind children) = refl
@@ -23,14 +19,7 @@ begins (Tries n child) = refl
 begins (Ticks n child) = refl
 begins (Wait n) = refl
 begins (Move p) = refl
-begins (Does Take) = refl
-begins (Does Drop) = refl
-begins (Does (At p)) = refl
-begins (Does Carrying) = refl
-begins (Does Item) = refl
-begins (Does (Signal a)) = refl
-begins (Does (Near n)) = refl
-begins (Does (Give b)) = refl
+begins (Does leaf) = refl
 
 module _ (p : Plain) (first : Value) (seen : view first ≡ string (head p)) where
   pub begun_alone : None ≡ own p → array (item (view first) (below p)) ≡ node_data p

@@ -1,21 +1,11 @@
 -- What the array of a node begins with, before what lies below the node.
-use Rattle.std.specs.Prelude.{ℕ, ◌+◌, List, [], ◌∷◌, codes, nat_lt, Bool, true, Option, Some, None}
-use Rattle.serde_json.specs.Data.{Data, number, unsigned, string, Items, no_items, item}
+use Rattle.std.specs.Prelude.{ℕ, ◌+◌, List, [], ◌∷◌, codes, nat_lt, Bool, true, Option, None}
+use Rattle.serde_json.specs.Data.{Data, Items, no_items, item}
 use Rattle.serde_json.specs.View.{view}
 use Rattle.serde_json.specs.declared.value.Value.{Value}
-use Rattle.bt_nodes.specs.Plain.{Plain, Composite, Star, Par, Not, Tries, Ticks, Wait, Move, Does, Leaf, Take, Drop, At, Carrying, Item, Signal, Near, Give}
+use Rattle.bt_nodes.specs.Plain.{Plain, Composite, Star, Par, Not, Tries, Ticks, Wait, Move, Does}
 use Rattle.level_text.specs.Marks.{leaf_has_marks}
-use Rattle.level_text.specs.Written.{list_head, star_head, node_data, forest_data}
-
-abbrev pub leaf_head : Leaf → List ℕ
-leaf_head Take = codes "take"
-leaf_head Drop = codes "drop"
-leaf_head (At p) = codes "at"
-leaf_head Carrying = codes "carrying"
-leaf_head Item = codes "item"
-leaf_head (Signal a) = codes "signal"
-leaf_head (Near n) = codes "near"
-leaf_head (Give b) = codes "give"
+use Rattle.level_text.specs.Written.{list_head, star_head, leaf_head, leaf_own, count, mark, node_data, forest_data}
 
 -- the word that names the kind
 abbrev pub head : Plain → List ℕ
@@ -28,23 +18,6 @@ head (Ticks n child) = codes "ticks"
 head (Wait n) = codes "wait"
 head (Move p) = codes "move"
 head (Does leaf) = leaf_head leaf
-
-abbrev pub count : ℕ → Option Data
-count n = Some (number (unsigned n))
-
--- a text of one character
-abbrev pub mark : ℕ → Option Data
-mark c = Some (string (c ∷ []))
-
-abbrev pub leaf_own : Leaf → Option Data
-leaf_own Take = None
-leaf_own Drop = None
-leaf_own (At p) = mark (48 + p)
-leaf_own Carrying = None
-leaf_own Item = None
-leaf_own (Signal a) = mark (97 + a)
-leaf_own (Near n) = count n
-leaf_own (Give b) = mark (65 + b)
 
 -- the argument that stands in the node itself
 abbrev pub own : Plain → Option Data

@@ -1,5 +1,6 @@
 pub mod Scripts
 pub mod Nodes
+pub mod Named
 pub mod Inner
 pub mod Parts
 pub mod Drafts

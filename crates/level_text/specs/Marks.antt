@@ -1,16 +1,12 @@
 -- Trees whose places are digits and whose signals and agents are letters, as those of nodes are.
 use Rattle.std.specs.Prelude.{nat_lt, Bool, true, ◌&&◌}
-use Rattle.bt_nodes.specs.Plain.{Plain, Composite, Star, Par, Not, Tries, Ticks, Wait, Move, Does, Leaf, Take, Drop, At, Carrying, Item, Signal, Near, Give, Forest, none, tree}
+use Rattle.bt_nodes.specs.Plain.{Plain, Composite, Star, Par, Not, Tries, Ticks, Wait, Move, Does, Leaf, At, Signal, Give, Forest, none, tree}
 
 abbrev pub leaf_has_marks : Leaf → Bool
-leaf_has_marks Take = true
-leaf_has_marks Drop = true
 leaf_has_marks (At p) = nat_lt p 10
-leaf_has_marks Carrying = true
-leaf_has_marks Item = true
 leaf_has_marks (Signal a) = nat_lt a 26
-leaf_has_marks (Near n) = true
 leaf_has_marks (Give b) = nat_lt b 26
+leaf_has_marks _ = true
 
 abbrev mutual
   pub has_marks : Plain → Bool

@@ -1,5 +1,5 @@
 -- The JSON value of a level, and its text.
-use Rattle.std.specs.Prelude.{ℕ, ◌+◌, List, [], ◌∷◌, codes}
+use Rattle.std.specs.Prelude.{ℕ, ◌+◌, List, [], ◌∷◌, codes, Option, Some, None}
 use Rattle.serde_json.specs.Data.{Data, number, unsigned, string, array, object, Items, no_items, item, Members, no_members, member}
 use Rattle.serde_json.specs.Written.{compact_text}
 use Rattle.bt_nodes.specs.Plain.{Plain, Composite, Star, Par, Not, Tries, Ticks, Wait, Move, Does, Kind, Seq, Fallback, Leaf, Take, Drop, At, Carrying, Item, Signal, Near, Give, Forest, none, tree}
@@ -17,15 +17,39 @@ counted n items = item (number (unsigned n)) items
 abbrev pub marked : ℕ → Items
 marked c = item (string (c ∷ [])) no_items
 
+-- a node's own argument: a number, or a text of one character
+abbrev pub count : ℕ → Option Data
+count n = Some (number (unsigned n))
+
+abbrev pub mark : ℕ → Option Data
+mark c = Some (string (c ∷ []))
+
+-- it stands before the others
+abbrev pub own_before : Option Data → Items → Items
+own_before None rest = rest
+own_before (Some d) rest = item d rest
+
+-- the word that names a leaf
+abbrev pub leaf_head : Leaf → List ℕ
+leaf_head Take = codes "take"
+leaf_head Drop = codes "drop"
+leaf_head (At p) = codes "at"
+leaf_head Carrying = codes "carrying"
+leaf_head Item = codes "item"
+leaf_head (Signal a) = codes "signal"
+leaf_head (Near n) = codes "near"
+leaf_head (Give b) = codes "give"
+
+-- its argument, if it has one
+abbrev pub leaf_own : Leaf → Option Data
+leaf_own (At p) = mark (48 + p)
+leaf_own (Signal a) = mark (97 + a)
+leaf_own (Near n) = count n
+leaf_own (Give b) = mark (65 + b)
+leaf_own _ = None
+
 abbrev pub leaf_data : Leaf → Data
-leaf_data Take = form (codes "take") no_items
-leaf_data Drop = form (codes "drop") no_items
-leaf_data (At p) = form (codes "at") (marked (48 + p))
-leaf_data Carrying = form (codes "carrying") no_items
-leaf_data Item = form (codes "item") no_items
-leaf_data (Signal a) = form (codes "signal") (marked (97 + a))
-leaf_data (Near n) = form (codes "near") (counted n no_items)
-leaf_data (Give b) = form (codes "give") (marked (65 + b))
+leaf_data leaf = form (leaf_head leaf) (own_before (leaf_own leaf) no_items)
 
 abbrev pub list_head : Kind → List ℕ
 list_head Seq = codes "seq"

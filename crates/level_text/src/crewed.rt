@@ -3,6 +3,7 @@ ghost use Rattle.std.specs.Prelude.{◌≡◌};
 ghost use Rattle.std.specs.List.{list_all};
 ghost use Rattle.bt_nodes.specs.Plain.{plain, plains};
 ghost use Rattle.game_session.specs.Agents.{agents, agents_in, has_agent, has_agent as is_on_map};
+ghost use Rattle.level_text.specs.Named.{own_agents};
 
 use bt_nodes::Node;
 use grid_world::{Letter, World};
@@ -14,28 +15,27 @@ fn has_agent(world: &World, letter: Letter) -> bool
     (letter.number() as usize) < world.agents().len()
 }
 
+// Whether the agent that stands in a node itself, if one does, is on the map.
+fn has_own_agent(node: &Node<Global>, world: &World) -> bool
+    ensures { result ≡ list_all (has_agent world.now) (own_agents (plain node.now)) }
+{
+    match node {
+        Node::Give(letter) => has_agent(world, *letter),
+        _ => true,
+    }
+}
+
 /// Whether each agent that a node and those below it name is on the map.
 #[cycle(crewed)]
 pub(crate) fn is_crewed(node: &Node<Global>, world: &World) -> bool
     ensures { result ≡ list_all (has_agent world.now) (agents (plain node.now)) }
 {
-    match node {
-        Node::Seq(children)
-        | Node::Fallback(children)
-        | Node::Par(_, children)
-        | Node::SeqStar(children)
-        | Node::FallbackStar(children) => are_crewed(children, world),
-        Node::Not(child) | Node::Tries(_, child) | Node::Ticks(_, child) => is_crewed(child, world),
-        Node::Give(letter) => has_agent(world, *letter),
-        Node::Wait(_)
-        | Node::Move(_)
-        | Node::Take
-        | Node::Drop
-        | Node::At(_)
-        | Node::Carrying
-        | Node::Item
-        | Node::Signal(_)
-        | Node::Near(_) => true,
+    if !has_own_agent(node, world) {
+        return false;
+    }
+    match node.decorated() {
+        Some(child) => is_crewed(child, world),
+        None => are_crewed(node.listed(), world),
     }
 }
 

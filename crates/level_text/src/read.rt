@@ -60,10 +60,7 @@ fn trees_within(alloc: Global, nodes: Vec<NamedNode>) -> Result<Vec<NamedTree>, 
 {
     let mut trees = Vec::with_capacity(alloc, nodes.len())?;
     'nodes: for named in nodes {
-        match tree_within(named) {
-            Ok(tree) => trees.push(tree)?,
-            Err(fault) => return Err(fault),
-        }
+        trees.push(tree_within(named)?)?;
     }
     Ok(trees)
 }
@@ -133,21 +130,12 @@ fn level_from(alloc: Global, draft: Draft) -> Result<Level, LevelFault>
     ensures ok { IfOk result (λ level. of_parts (Some (parts_view draft)) ≡ Ok (value_of level)) }
     ensures err { IfErr result (IsFaultOf (of_parts (Some (parts_view draft)))) }
 {
-    let world = match world_of(alloc, &draft.rows) {
-        Ok(world) => world,
-        Err(fault) => return Err(fault),
-    };
+    let world = world_of(alloc, &draft.rows)?;
     if !is_counted(&draft.names, &world) {
         return Err(LevelFault::AgentCount);
     }
-    let mut trees = match trees_within(alloc, draft.trees) {
-        Ok(trees) => trees,
-        Err(fault) => return Err(fault),
-    };
-    let picks = match picks_of(alloc, &draft.names, &trees) {
-        Ok(picks) => picks,
-        Err(fault) => return Err(fault),
-    };
+    let mut trees = trees_within(alloc, draft.trees)?;
+    let picks = picks_of(alloc, &draft.names, &trees)?;
     if let Some(i) = first_unplaced(&trees, &world) {
         return Err(LevelFault::NoPlace {
             name: trees.remove(i).name,

@@ -4,8 +4,8 @@ ghost use Rattle.serde_json.specs.Data.{array};
 ghost use Rattle.serde_json.specs.View.{view, items_view};
 ghost use Rattle.bt_nodes.specs.Plain.{plain, plains};
 ghost use Rattle.level_text.specs.Marks.{has_marks, all_have_marks};
-ghost use Rattle.level_text.specs.Begun.{head, mark as mark_data, own, below, has_own_mark, items_before};
-ghost use Rattle.level_text.specs.Written.{node_data, forest_data};
+ghost use Rattle.level_text.specs.Begun.{head, own, below, has_own_mark, items_before};
+ghost use Rattle.level_text.specs.Written.{mark as mark_data, node_data, forest_data};
 
 use bt_nodes::Node;
 use serde_json::Value;

@@ -1,2 +1,13 @@
 pub mod Marks
 pub mod Whole
+pub mod Given
+pub mod ReadBack
+pub mod Unrolled
+pub mod NoMark
+pub mod Pieces
+pub mod Plain
+pub mod Rows
+pub mod Lines
+pub mod Films
+pub mod Parts
+pub mod Steps

@@ -4,7 +4,7 @@ use Rattle.std.specs.Prelude.{OnOk, Result, Ok, Err}
 use Rattle.job_core.specs.declared.names.Event.{Event}
 use Rattle.job_scheduler.specs.Numbers.{Numbers}
 use Rattle.log_text.specs.Text.{log_text_of}
-use Rattle.event_slices.specs.declared.span.FrameSpan.{FrameSpan}
+use Rattle.trace_text.specs.declared.span.FrameSpan.{FrameSpan}
 use Rattle.page_text.specs.Emits.{emits_text}
 use Rattle.page_text.specs.Escapes.{escaped}
 use Rattle.page_text.specs.Pages.{counts_text, ending_text, jobs_text, page_of, run_text, sources_text}

@@ -2,3 +2,8 @@ pub mod Escapes
 pub mod Emits
 pub mod Slices
 pub mod Pages
+pub mod Changes
+pub mod Reading
+pub mod Films
+pub mod Frames
+pub mod Filming

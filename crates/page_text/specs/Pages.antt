@@ -3,7 +3,7 @@ use Rattle.std.specs.Prelude.{ℕ, List, ◌++◌, codes, decimal, length, take,
 use Rattle.job_core.specs.declared.names.Event.{Event}
 use Rattle.job_scheduler.specs.Numbers.{Numbers}
 use Rattle.log_text.specs.Text.{log_text_of}
-use Rattle.event_slices.specs.declared.span.FrameSpan.{FrameSpan}
+use Rattle.trace_text.specs.declared.span.FrameSpan.{FrameSpan}
 use Rattle.page_text.specs.Escapes.{escaped}
 use Rattle.page_text.specs.Emits.{emits_text}
 use Rattle.page_text.specs.Slices.{slices_text}

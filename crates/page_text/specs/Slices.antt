@@ -4,10 +4,11 @@ use Rattle.job_core.specs.declared.names.JobName.{JobName}
 use Rattle.job_core.specs.declared.names.JobName.TheVariants.{Logic, Think, Path, Draw}
 use Rattle.job_core.specs.declared.names.Event.{Event}
 use Rattle.job_core.specs.declared.names.Event.TheVariants.{Start, Resume, Ask, Spread, Hold, Finish, Emit, Stop}
-use Rattle.event_slices.specs.declared.slice.Slice.{Slice}
-use Rattle.event_slices.specs.declared.span.FrameSpan.{FrameSpan}
-use Rattle.event_slices.specs.Slices.{slices_of}
-use Rattle.event_slices.specs.Spans.{frame_of, has_frame}
+use Rattle.trace_text.specs.declared.slice.Slice.{Slice}
+use Rattle.trace_text.specs.declared.span.FrameSpan.{FrameSpan}
+use Rattle.trace_text.specs.Slices.{slices_of}
+use Rattle.job_core.specs.Names.{frame_of}
+use Rattle.trace_text.specs.Spans.{has_frame}
 
 -- a number, and the byte that ends it: a comma (44), or the line's feed (10)
 abbrev pub ended : (number end : ℕ) → List ℕ

@@ -10,9 +10,9 @@ use crate::script_hands::HANDS;
 use crate::script_jobs::JOBS;
 use crate::script_map::MAP;
 use crate::slices::slices_text;
-use event_slices::FrameSpan;
 use job_core::names::Event;
 use std::alloc::{AllocError, Global};
+use trace_text::FrameSpan;
 
 pub const EMITS: &str = "</script>\n<script type=\"text/plain\" id=\"emits\">";
 

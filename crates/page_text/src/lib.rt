@@ -1,13 +1,21 @@
-//! The text of a page that shows a run: fixed parts, and between them what the page holds. No byte of what it holds is a `<`,
-//! so each part of it ends where the next fixed part begins.
+//! The text of a page that shows a run: fixed parts, and between them what the page holds, the frames that a log shows among
+//! it, kept as changes. No byte of what it holds is a `<`, so each part of it ends where the next fixed part begins.
 #![tactic(auto)]
 
 mod body;
+mod change;
+pub mod change_laws;
+mod drawn;
 mod emits;
 mod escaped;
+mod film;
+pub mod film_laws;
+mod filmed;
+mod filming;
 mod jobs;
 pub mod laws;
 mod numbers;
+mod reel;
 mod run;
 mod script_agents;
 mod script_data;
@@ -17,8 +25,11 @@ mod script_map;
 mod slices;
 mod sources;
 mod style;
+mod writing;
 
-pub use event_slices::FrameSpan;
+pub use filmed::Filmed;
+pub use filming::film_log;
 pub use jobs::push_jobs;
 pub use run::push_run;
 pub use sources::push_sources;
+pub use trace_text::FrameSpan;

@@ -1,114 +1,184 @@
-// Shows the agents, what changed, and all frames at a glance.
+// Shows the agents, what happens in a frame, a tree, and all frames at a glance, for both pages.
 
-pub const AGENTS: &str = r#"// ---- the agents
+pub const AGENTS: &str = r#"// ---- the table of the agents
 
+const WORDS = ['Success', 'Failure', 'Running'];
+const put = (box, kind, text, name = '') => box.appendChild(Object.assign(document.createElement(kind), { textContent: text, className: name }));
+
+// A row for each agent, whose tree TREES names. ROOM is how high all rows may be; CHOOSE is called with the agent of a row.
 const cells = [];
-function buildAgents() {
-  const body = $('agents'), many = A > 8, room = $('side').clientHeight - 24;
-  $('side').classList.toggle('many', many);
-  const height = many ? Math.max(14, Math.min(26, Math.floor(room / A * 10) / 10)) : Math.max(22, Math.min(28, room * .6 / Math.max(1, A)));
-  body.textContent = ''; cells.length = 0;
-  for (let a = 0; a < A; a += 1) {
-    const row = document.createElement('tr');
-    row.className = 'agent'; row.style.height = height + 'px';
-    const cell = (name, html) => { const td = document.createElement('td'); td.className = name; if (html) td.append(html); row.append(td); return td; };
-    const mark = document.createElement('span'); mark.className = 'letter'; mark.style.background = colour(a); mark.textContent = letter(a); mark.style.fontSize = height < 20 ? '10.5px' : '13px'; mark.style.lineHeight = height < 20 ? '13px' : '1.35';
-    cell('', mark);
-    const strip = document.createElement('canvas');
-    const it = { row, answer: cell('answer'), since: cell('num'), cell: cell('mono'), load: cell('load'), tree: cell('tree'), strip, height };
-    it.tree.textContent = level.agents[a]; it.tree.title = level.agents[a];
-    cell('', strip);
-    if (height < 20) row.style.cssText += ';font-size:12px;line-height:' + (height - 1) + 'px';
-    row.onclick = () => choose(a === chosen ? -1 : a);
-    cells.push(it); body.append(row);
-  }
+function buildAgents(trees, room, choose) {
+  const body = $('agents'), count = trees.length, isMany = count > 8;
+  body.closest('.roster').classList.toggle('many', isMany);
+  const high = isMany ? Math.max(14, Math.min(26, Math.floor(room / count * 10) / 10)) : Math.max(22, Math.min(28, room * .6 / Math.max(1, count)));
+  body.textContent = '';
+  cells.length = 0;
+  trees.forEach((tree, a) => {
+    const row = put(body, 'tr', '', 'agent'), letter = put(put(row, 'td', ''), 'button', letterOf(a), 'letter');
+    row.style.height = high + 'px';
+    if (high < 20) row.style.cssText += `;font-size:12px;line-height:${high - 1}px`;
+    letter.style.background = colourOf(a);
+    letter.setAttribute('aria-label', 'choose agent ' + letterOf(a));
+    const it = { row, letter, high, answer: put(row, 'td', ''), since: put(row, 'td', '', 'num since'), cell: put(row, 'td', '', 'mono'), load: put(row, 'td', '', 'load') };
+    put(row, 'td', tree, 'tree').title = tree;
+    it.strip = put(put(row, 'td', ''), 'canvas', '');
+    row.onclick = () => choose(a);
+    cells.push(it);
+  });
 }
-const AROUND = 20, PX = 4;
-const moved = (f, a) => agentX[f * A + a] !== agentX[(f - 1) * A + a] || agentY[f * A + a] !== agentY[(f - 1) * A + a];
-const shadeOf = (f, a) => answer[f * A + a] === 82 && moved(f, a) ? MOVED : ANSWER[answer[f * A + a]];
-function drawTable() {
-  for (let a = 0; a < A; a += 1) {
-    const it = cells[a], i = shown * A + a, before = Math.max(0, shown - 1) * A + a;
-    const h = Math.min(14, it.height - 3), w = (2 * AROUND + 1) * PX, ctx = canvasFor(it.strip, w, h);
-    it.strip.style.width = w + 'px'; it.strip.style.height = h + 'px';
+
+function drawTable(film, frame, chosen, around) {
+  cells.forEach((it, a) => {
+    const at = frame * film.agents + a, before = Math.max(0, frame - 1) * film.agents + a;
+    const word = frame > 0 ? WORDS[film.answer[at]] : '', dx = film.x[at] - film.x[before], dy = film.y[at] - film.y[before];
     it.row.classList.toggle('chosen', a === chosen);
-    if (shown === 0) { it.cell.textContent = agentX[a] + ',' + agentY[a]; continue; }
-    const word = WORD[answer[i]];
-    it.answer.textContent = word; it.answer.className = 'answer ' + word[0];
-    it.since.textContent = since[i];
-    const dx = agentX[i] - agentX[before], dy = agentY[i] - agentY[before];
-    it.cell.textContent = (agentX[i] + ',' + agentY[i]).padEnd(7) + (dx > 0 ? '\u2192' : dx < 0 ? '\u2190' : dy > 0 ? '\u2193' : dy < 0 ? '\u2191' : '');
-    it.load.textContent = loaded[i] ? '\u2605' : '\u2013';
-    ctx.clearRect(0, 0, w, h);
-    for (let d = -AROUND; d <= AROUND; d += 1) {
-      const g = shown + d; if (g < 1 || g > N) continue;
-      ctx.fillStyle = shadeOf(g, a); ctx.fillRect((d + AROUND) * PX, 0, PX - .6, h);
-      if (loaded[g * A + a]) { ctx.fillStyle = '#7d5600'; ctx.fillRect((d + AROUND) * PX, h - 3, PX - .6, 3); }
-    }
-    ctx.strokeStyle = '#1c2430'; ctx.lineWidth = 1.5; ctx.strokeRect(AROUND * PX - 1, .75, PX + 1.4, h - 1.5);
-  }
-}
-function choose(a) {
-  chosen = a >= 0 && a < A ? a : -1;
-  $('side').classList.toggle('picked', chosen >= 0);
-  show(shown);
-  if (chosen >= 0) cells[chosen].row.scrollIntoView({ block: 'nearest' });
-}
-// Beside the table: what changed in the frame, and the tree of the chosen agent.
-function drawDetail() {
-  const box = $('detail'), line = text => { const li = document.createElement('li'); li.textContent = text; return li; };
-  box.textContent = '';
-  const head = text => { const h = document.createElement('h2'); h.textContent = text; return h; };
-  if (shown > 0 && (A <= 8 || chosen >= 0)) {
-    const list = document.createElement('ul');
-    for (const l of scriptLines) if (l.frame === shown) list.append(line('the script sets ' + l.door + (l.on ? ' on' : ' off')));
-    for (let a = 0; a < A; a += 1) {
-      if (chosen >= 0 && a !== chosen) continue;
-      const i = shown * A + a, was = i - A, at = agentX[i] + ',' + agentY[i];
-      if (loaded[i] !== loaded[was]) list.append(line(letter(a) + (loaded[i] ? ' takes the item at ' : ' puts its item down at ') + at));
-      if (shown > 1 && answer[i] !== answer[was]) list.append(line(letter(a) + ' answers ' + WORD[answer[i]] + ' after ' + WORD[answer[was]]));
-      if (moved(shown, a)) list.append(line(letter(a) + ' goes from ' + agentX[was] + ',' + agentY[was] + ' to ' + at));
-    }
-    if (!list.firstChild) list.append(line('nothing changes'));
-    box.append(head('In frame ' + shown), list);
-  }
-  if (chosen >= 0) { const pre = document.createElement('pre'), h = head('Tree ' + level.agents[chosen]); pre.className = 'mono'; pre.textContent = spell(level.trees[level.agents[chosen]], 0); h.style.marginTop = '8px'; box.append(h, pre); }
-  else if (A > 0 && A <= 8) { const p = document.createElement('p'); p.textContent = 'Press an agent\'s letter, or click its row, for its tree, its way and its jobs.'; box.append(p); }
-}
-// a tree, short nodes on one line
-function spell(node, depth) {
-  const flat = JSON.stringify(node).replace(/,/g, ', ');
-  if (flat.length + depth * 2 <= 64 || !node.some(Array.isArray)) return '  '.repeat(depth) + flat;
-  const head = node.filter(part => !Array.isArray(part)).map(part => JSON.stringify(part)).join(', ');
-  return '  '.repeat(depth) + '[' + head + ',\n' + node.filter(Array.isArray).map(part => spell(part, depth + 1)).join(',\n') + ']';
+    it.letter.setAttribute('aria-pressed', a === chosen);
+    it.answer.textContent = word || '\u2013';
+    it.answer.className = 'answer ' + word.slice(0, 1);
+    it.since.textContent = frame > 0 ? film.since[at] : '';
+    it.cell.textContent = film.cell(frame, a).padEnd(7) + (dx > 0 ? '\u2192' : dx < 0 ? '\u2190' : dy > 0 ? '\u2193' : dy < 0 ? '\u2191' : '');
+    it.load.textContent = film.loaded[at] ? '\u2605' : '\u2013';
+    drawStrip(it.strip, film, frame, a, Math.min(14, it.high - 3), around);
+  });
 }
 
-// ---- the run
+// The answers of as many frames before the one that is shown and behind it.
+const STRIPE = 4;
+function drawStrip(canvas, film, frame, a, high, around) {
+  const width = (2 * around + 1) * STRIPE, pen = penOf(canvas, width, high);
+  Object.assign(canvas.style, { width: width + 'px', height: high + 'px' });
+  pen.clearRect(0, 0, width, high);
+  for (let by = -around; by <= around; by += 1) {
+    const at = frame + by, x = (by + around) * STRIPE;
+    if (at < 1 || at > film.count) continue;
+    pen.fillStyle = theme.glances[film.glance[at * film.agents + a]];
+    pen.fillRect(x, 0, STRIPE - .6, high);
+    if (film.loaded[at * film.agents + a]) {
+      pen.fillStyle = '#7d5600';
+      pen.fillRect(x, high - 3, STRIPE - .6, 3);
+    }
+  }
+  pen.strokeStyle = theme.ink;
+  pen.lineWidth = 1.5;
+  pen.strokeRect(around * STRIPE - 1, .75, STRIPE + 1.4, high - 1.5);
+}
 
-let band = null;
-function drawOverview() {
-  const canvas = $('overview'), width = canvas.clientWidth, rowsHigh = Math.max(1, A), high = A > 6 ? 36 : A > 0 ? 7 * A + 8 : 10;
+// ---- below it: what happens, and a tree
+
+const switchesSaid = (film, frame) => film.switched(frame).map(({ letter, isOn }) => `${letter} ${isOn ? 'on' : 'off'}`).join(', ');
+
+// What happens in a frame: to the chosen agent, or to all where they are few.
+function putHappened(box, film, frame, chosen) {
+  put(box, 'h2', 'In frame ' + frame);
+  const list = put(box, 'ul', ''), say = text => put(list, 'li', text);
+  for (const { letter, isOn } of film.switched(frame)) say(`signal ${letter} goes ${isOn ? 'on' : 'off'}`);
+  for (let a = 0; a < film.agents; a += 1) {
+    if (chosen >= 0 ? a !== chosen : film.agents > 8) continue;
+    const at = frame * film.agents + a, was = at - film.agents, name = letterOf(a);
+    if (film.loaded[at] !== film.loaded[was]) say(`${name} ${film.loaded[at] ? 'has an item now' : 'has no item any more'}, at ${film.cell(frame, a)}`);
+    if (frame > 1 && film.answer[at] !== film.answer[was]) say(`${name} answers ${WORDS[film.answer[at]]} after ${WORDS[film.answer[was]]}`);
+    if (film.hasMoved(frame, a)) say(`${name} goes from ${film.cell(frame - 1, a)} to ${film.cell(frame, a)}`);
+  }
+  if (!list.firstChild) say('nothing changes');
+}
+
+// A tree as a list in lists; an only child stands behind its parent. ANSWERS are those of its nodes in preorder ('S', 'F', 'R', or
+// '' for one that isn't ticked), or null where they are not known. NODETEXTS says what a kind of node does.
+function putTree(box, heading, tree, answers, nodeTexts) {
+  put(box, 'h2', heading, 'later');
+  let count = 0;
+  const putList = (inside, nodes, name) => {
+    const list = put(inside, 'ul', '', name);
+    for (const node of nodes) putNode(put(list, 'li', ''), node);
+  };
+  const putNode = (line, [kind, ...rest]) => {
+    const children = rest.filter(Array.isArray), words = rest.filter(part => !Array.isArray(part)).join(' ');
+    const answer = answers ? answers[count] : undefined;
+    count += 1;
+    if (answers) put(line, 'span', answer || '\u00b7', 'said ' + answer);
+    const head = put(line, 'span', '', `${children.length > 0 ? 'inner' : 'leaf'} ${answers && !answer ? 'silent' : ''}`);
+    head.title = nodeTexts[kind] || '';
+    put(head, 'b', kind);
+    if (words) {
+      head.append(' ');
+      put(head, 'code', words);
+    }
+    if (children.length === 1) {
+      put(line, 'span', '\u203a', 'then');
+      putNode(line, children[0]);
+    } else if (children.length > 1) putList(line, children, '');
+  };
+  putList(box, [tree], 'outline mono');
+}
+
+// ---- all frames at a glance
+
+// The next frame, or the last one before it, in which an answer or a load changes: of the chosen agent, or of any.
+function changeFrom(film, frame, way, chosen) {
+  for (let at = frame + way; at >= 1 && at <= film.count; at += way)
+    for (let a = 0; a < film.agents; a += 1) if ((chosen < 0 || a === chosen) && film.hasChanged(at, a)) return at;
+  return null;
+}
+
+const OVER = 8; // room for marks over the band
+const placeInOverview = (frame, total, width) => Math.max(0, Math.min(width, (frame - .5) / Math.max(1, total) * width));
+function frameAt(canvas, event, total) {
+  const box = canvas.getBoundingClientRect();
+  return Math.ceil((event.clientX - box.left) / box.width * total);
+}
+
+// The band is drawn once for each state of the film: of many frames at one place a failure shows before a success, that before a step,
+// that before standing still.
+const band = { key: '', film: null, canvas: null };
+function drawOverview(canvas, film, total, frame) {
+  const width = canvas.clientWidth, high = film.agents > 6 ? 36 : film.agents > 0 ? 7 * film.agents + 8 : 12;
   canvas.style.height = high + 'px';
-  const ctx = canvasFor(canvas, width, high), top = 8, each = (high - top) / rowsHigh;
-  const key = [width, high, window.devicePixelRatio].join();
-  if (!band || band.key !== key) { // drawn once: of many frames at one place a Failure shows before a Success, that before a Running
-    const copy = document.createElement('canvas'), to = canvasFor(copy, width, high);
-    to.fillStyle = '#f4f6f8'; to.fillRect(0, top, width, high - top);
-    const columns = Math.min(N, Math.ceil(width * (window.devicePixelRatio || 1))), wide = width / Math.max(1, columns);
-    for (let k = 0; k < columns; k += 1) {
-      const f0 = 1 + Math.floor(k * N / columns), f1 = Math.max(f0, Math.floor((k + 1) * N / columns));
-      for (let a = 0; a < A; a += 1) {
-        let seen = ANSWER[82];
-        for (let f = f0; f <= f1; f += 1) { const c = shadeOf(f, a); if (c === ANSWER[70]) { seen = c; break; } if (c === ANSWER[83] || (c === MOVED && seen !== ANSWER[83])) seen = c; }
-        to.fillStyle = seen; to.fillRect(k * wide, top + a * each, wide + .3, each - (each > 4 ? 1 : .3));
-      }
-    }
-    for (const line of scriptLines) if (line.frame <= N) { const x = (line.frame - .5) / N * width; to.fillStyle = '#7a4a1e'; to.beginPath(); to.moveTo(x - 4, 0); to.lineTo(x + 4, 0); to.lineTo(x, 7); to.fill(); }
-    band = { key, copy };
+  const key = [width, high, total, film.version, theme.floor, window.devicePixelRatio].join();
+  if (band.key !== key || band.film !== film) {
+    band.canvas = band.canvas || document.createElement('canvas');
+    const pen = penOf(band.canvas, width, high);
+    drawBand(pen, film, total, OVER / high);
+    for (let at = 1; at <= Math.min(total, film.count); at += 1)
+      for (const { isOn } of film.switched(at)) drawMark(pen, placeInOverview(at, total, width), isOn);
+    Object.assign(band, { key, film });
   }
-  ctx.clearRect(0, 0, width, high);
-  ctx.drawImage(band.copy, 0, 0, width, high);
-  if (N > 0) { const x = N > 1 ? (shown - 1) / (N - 1) * width : width / 2; ctx.fillStyle = '#1c2430'; ctx.fillRect(x - 1, 0, 2, high); }
+  const pen = penOf(canvas, width, high);
+  pen.clearRect(0, 0, width, high);
+  pen.drawImage(band.canvas, 0, 0, width, high);
+  pen.fillStyle = theme.ink;
+  pen.fillRect(placeInOverview(frame, total, width) - 1, 0, 2, high);
+}
+// Sets each pixel: at 9,999 frames and 26 agents, rectangles take a tenth of a second.
+function drawBand(pen, film, total, over) {
+  const { width, height } = pen.canvas, image = pen.createImageData(width, height), pixels = new Uint32Array(image.data.buffer);
+  const top = Math.round(height * over), each = (height - top) / Math.max(1, film.agents), gap = each > 4 ? 1 : 0;
+  const colours = theme.glances.map(pixelOf);
+  pixels.fill(pixelOf(theme.strip), top * width);
+  for (let x = 0; x < width; x += 1) {
+    const from = 1 + Math.floor(x * total / width), to = Math.min(film.count, Math.max(from, Math.floor((x + 1) * total / width)));
+    if (from > film.count) break;
+    for (let a = 0; a < film.agents; a += 1) {
+      let seen = STAYED;
+      for (let frame = from; frame <= to && seen < FAILED; frame += 1) seen = Math.max(seen, film.glance[frame * film.agents + a]);
+      const end = Math.round(top + (a + 1) * each) - gap;
+      for (let y = Math.round(top + a * each); y < end; y += 1) pixels[y * width + x] = colours[seen];
+    }
+  }
+  pen.putImageData(image, 0, 0);
+}
+// A colour #rrggbb as a pixel.
+function pixelOf(colour) {
+  const [red, green, blue] = [1, 3, 5].map(at => parseInt(colour.slice(at, at + 2), 16));
+  return (255 << 24 | blue << 16 | green << 8 | red) >>> 0;
+}
+// Where a signal is switched: filled where it goes on.
+function drawMark(pen, x, isOn) {
+  pen.beginPath();
+  for (const [dx, y] of [[-4, 0], [4, 0], [0, 7]]) pen.lineTo(x + dx, y);
+  pen.closePath();
+  Object.assign(pen, { fillStyle: theme.door, strokeStyle: theme.door, lineWidth: 1 });
+  if (isOn) pen.fill();
+  pen.stroke();
 }
 
 "#;

@@ -17,43 +17,32 @@ const W = level.map[0].length, H = level.map.length, A = level.agents.length, N 
 // comma, and behind the rows or changes of each frame its agents' lines. Places count the rows' bytes, line feeds too.
 const frames = data('frames');
 const changesAt = new Uint32Array(N + 2), agentsAt = new Uint32Array(N + 2);
-const answer = new Uint8Array((N + 1) * A), agentX = new Uint8Array((N + 1) * A), agentY = new Uint8Array((N + 1) * A), loaded = new Uint8Array((N + 1) * A);
 const firstRows = new Uint8Array(W * H);
-const mapRows = new Uint8Array(W * H);
-level.map.forEach((row, y) => { for (let x = 0; x < W; x += 1) mapRows[y * W + x] = row.charCodeAt(x); });
-function readFrames() {
+// Whose frames these are is known only once the page's other scripts stand.
+function readFilm() {
+  const film = new Frames(A, { of: f => onIn[f] });
+  film.setStarts(level.map);
   let at = 0;
   if (N > 0) for (let y = 0; y < H; y += 1) { for (let x = 0; x < W; x += 1) firstRows[y * W + x] = frames.charCodeAt(at++); at += 1; }
-  else firstRows.set(mapRows);
+  kept[0] = firstRows.slice(); rows = firstRows.slice();
+  const number = end => { let n = 0, c; while ((c = frames.charCodeAt(at++)) !== end) n = n * 10 + c - 48; return n; };
   for (let f = 1; f <= N; f += 1) {
     changesAt[f] = at;
     if (f > 1) at = frames.indexOf('\n', at) + 1;
     agentsAt[f] = at;
     for (let a = 0; a < A; a += 1) {
-      const i = f * A + a;
-      answer[i] = frames.charCodeAt(at + 2);
+      const answer = 'SFR'.indexOf(frames[at + 2]);
       at += 4;
-      let n = 0, c;
-      while ((c = frames.charCodeAt(at++)) !== 44) n = n * 10 + c - 48;
-      agentX[i] = n; n = 0;
-      while ((c = frames.charCodeAt(at++)) !== 32) n = n * 10 + c - 48;
-      agentY[i] = n;
-      loaded[i] = frames.charCodeAt(at) === 42 ? 1 : 0;
+      film.note(f, a, { answer, x: number(44), y: number(32), loaded: frames.charCodeAt(at) === 42 ? 1 : 0 });
       at += 2;
     }
+    film.count = f;
   }
+  return film;
 }
-readFrames();
-// world 0 is the map: where the agents stand in it
-for (let cell = 0; cell < W * H; cell += 1) { const a = mapRows[cell] - 65; if (a >= 0 && a < 26) { agentX[a] = cell % W; agentY[a] = cell / W | 0; } }
-
-// for how many frames in a row an agent has answered so
-const since = new Uint16Array((N + 1) * A);
-for (let f = 1; f <= N; f += 1) for (let a = 0; a < A; a += 1) { const i = f * A + a; since[i] = f > 1 && answer[i] === answer[i - A] ? since[i - A] + 1 : 1; }
 
 const STEP = 64, kept = [];
-let rowsFrame = 1, rows = firstRows.slice();
-kept[0] = firstRows.slice();
+let rowsFrame = 1, rows = null;
 function change(f) {
   let at = changesAt[f], c;
   while ((c = frames.charCodeAt(at++)) !== 10) {
@@ -76,12 +65,10 @@ function rowsOf(f) {
   }
   return rows;
 }
+const textsOf = rows => level.map.map((_, y) => String.fromCharCode.apply(null, rows.subarray(y * W, y * W + W)));
 // The text of frame f, as `replay` writes it.
 function textOf(f) {
-  const r = rowsOf(f);
-  let text = 'frame ' + f + '\n';
-  for (let y = 0; y < H; y += 1) text += String.fromCharCode.apply(null, r.subarray(y * W, y * W + W)) + '\n';
-  return text + frames.slice(agentsAt[f], f < N ? changesAt[f + 1] : frames.length);
+  return ['frame ' + f, ...textsOf(rowsOf(f)), ''].join('\n') + frames.slice(agentsAt[f], f < N ? changesAt[f + 1] : frames.length);
 }
 
 // Slices: a line for each, of eight numbers: worker, events since the last slice began, events until it ends, how it began and
@@ -100,7 +87,16 @@ const sWorker = new Uint8Array(COUNT), sBegin = new Uint32Array(COUNT), sEnd = n
   }
 })();
 const emits = data('emits').split(',').filter(n => n !== '').map(Number); // the event that shows frame f stands at f - 1
-const scriptLines = data('script').split('\n').filter(l => l !== '').map(l => { const [f, s, d] = l.split(' '); return { frame: +f, on: s === 'on', door: d }; });
+// which signals are on in which frame, a's the lowest bit
+const onIn = new Uint32Array(N + 2);
+(function readScript() {
+  const lines = data('script').split('\n').filter(l => l !== '').map(l => l.split(' '));
+  let on = 0, k = 0;
+  for (let f = 1; f <= N; f += 1) {
+    for (; k < lines.length && +lines[k][0] <= f; k += 1) { const bit = 1 << lines[k][2].charCodeAt(0) - 97; on = lines[k][1] === 'on' ? on | bit : on & ~bit; }
+    onIn[f] = on;
+  }
+})();
 const begun = new Int32Array(about.frames + 2).fill(-1); // the event at which the Logic of a frame starts
 for (let i = 0; i < COUNT; i += 1) if (sKind[i] === LOGIC && begun[sFrame[i]] < 0) begun[sFrame[i]] = sBegin[i];
 // the row that a frame's bar stands in: the lowest that is free
@@ -116,10 +112,9 @@ for (let f = 1, free = []; f <= about.frames; f += 1) {
   free[row] = shownAt(f); frameRow[f] = row; frameRows = Math.max(frameRows, row + 1);
 }
 
-const nameOf = i => { const k = sKind[i], f = sFrame[i]; return k === LOGIC ? 'Logic ' + f : k === THINK ? 'Think ' + f + letter(sNum[i]) : k === PATH ? 'Path ' + f + letter(sNum[i]) + '.' + sAsk[i] : 'Draw ' + f + '.' + sNum[i]; };
+const nameOf = i => { const k = sKind[i], f = sFrame[i]; return k === LOGIC ? 'Logic ' + f : k === THINK ? 'Think ' + f + letterOf(sNum[i]) : k === PATH ? 'Path ' + f + letterOf(sNum[i]) + '.' + sAsk[i] : 'Draw ' + f + '.' + sNum[i]; };
 const sameJob = (i, j) => sKind[i] === sKind[j] && sFrame[i] === sFrame[j] && sNum[i] === sNum[j] && sAsk[i] === sAsk[j];
 const ENDS = ['spreads its thinks', 'holds until its slot is free', 'asks for a way', 'is finished', 'is not over where the log ends', 'is broken off by another start'];
-const letter = a => String.fromCharCode(65 + a);
 const grouped = n => String(n).replace(/\B(?=(\d{3})+$)/g, ',');
 
 "#;

@@ -2,17 +2,42 @@
 
 pub const HANDS: &str = r#"// ---- what is shown
 
+const film = readFilm(), look = { zoom: 1, x: 0, y: 0 }, scene = { map: level.map, ground: groundOf(level.map), place: null };
+let shown = N > 0 ? 1 : 0, playing = false, chosen = -1, hovered = -1;
+let view = null; // the events that the jobs' axis shows
+
+function drawMap() {
+  const width = $('mapBox').clientWidth, height = $('mapBox').clientHeight;
+  if (shown > 0) scene.map = textsOf(rowsOf(shown));
+  scene.place = placeOf(width, height, W, H, look);
+  drawScene(penOf($('map'), width, height), scene, film, shown, chosen);
+}
+function drawDetail() {
+  const box = $('detail');
+  box.textContent = '';
+  if (shown > 0 && (A <= 8 || chosen >= 0)) putHappened(box, film, shown, chosen);
+  if (chosen >= 0) putTree(box, 'Tree ' + level.agents[chosen], level.trees[level.agents[chosen]], null, {});
+  else if (A > 0 && A <= 8) put(box, 'p', 'Press an agent\'s letter, or click its row, for its tree, its way and its jobs.');
+}
+function choose(a) {
+  chosen = a >= 0 && a < A && a !== chosen ? a : -1;
+  $('side').classList.toggle('picked', chosen >= 0);
+  show(shown);
+  if (chosen >= 0) cells[chosen].row.scrollIntoView({ block: 'nearest' });
+}
 function show(f, keepView) {
   const was = shown;
   shown = N > 0 ? Math.max(1, Math.min(N, f)) : 0;
   if (!keepView && (was !== shown || !view)) follow();
   $('slider').value = shown; if (document.activeElement !== $('number')) $('number').value = shown;
-  const lines = scriptLines.filter(l => l.frame === shown), on = new Map();
-  for (const l of scriptLines) if (l.frame <= shown) { if (l.on) on.set(l.door, l.frame); else on.delete(l.door); }
-  $('frameName').innerHTML = N > 0 ? 'frame ' + shown + (lines.length ? '<small>script: ' + lines.map(l => l.door + (l.on ? ' on' : ' off')).join(', ') + '</small>' : '') : 'no frame is shown<small>the map of the level</small>';
-  $('signals').innerHTML = scriptLines.length ? 'signals on: ' + (on.size ? [...on.keys()].sort().map(d => '<b>' + d + '</b>').join(' ') : 'none') : '';
+  const said = N > 0 ? switchesSaid(film, shown) : 'the map of the level';
+  $('frameName').textContent = N > 0 ? 'frame ' + shown : 'no frame is shown';
+  if (said) put($('frameName'), 'small', N > 0 ? 'signal ' + said : said);
+  const on = [...'abcdefghijklmnopqrstuvwxyz'].filter((_, k) => onIn[shown] >> k & 1);
+  $('signals').textContent = onIn.some(mask => mask > 0) ? 'signals on: ' + (on.length ? '' : 'none') : '';
+  put($('signals'), 'b', on.join(' '));
   $('jobsName').textContent = N > 0 ? 'Jobs around frame ' + shown : 'Jobs';
-  drawMap(); drawTable(); drawDetail(); drawOverview(); drawJobs();
+  drawMap(); drawTable(film, shown, chosen, 20); drawDetail(); drawOverview($('overview'), film, N, shown); drawJobs();
   clearTimeout(show.later);
   show.later = setTimeout(() => { try { history.replaceState(null, '', '#' + shown); } catch (_) { location.hash = shown; } }, 250);
 }
@@ -36,11 +61,7 @@ function setPlaying(on) {
   cancelAnimationFrame(timer);
   if (playing) { last = performance.now(); timer = requestAnimationFrame(tick); }
 }
-function seekChange(way) {
-  for (let f = shown + way; f >= 1 && f <= N; f += way)
-    for (let a = 0; a < A; a += 1) if ((chosen < 0 || a === chosen) && f > 1 && (answer[f * A + a] !== answer[(f - 1) * A + a] || loaded[f * A + a] !== loaded[(f - 1) * A + a])) { show(f); return; }
-  show(way > 0 ? N : 1);
-}
+function seekChange(way) { show(changeFrom(film, shown, way, chosen) || (way > 0 ? N : 1)); }
 function zoomJobs(by, atX) {
   const wide = $('lanes').clientWidth - LEFT, share = atX === undefined ? .5 : (atX - LEFT) / wide, span = view.to - view.from;
   const now = Math.max(12, Math.min(Math.max(60, about.events * 1.1), 60000, span * by)), at = view.from + span * share;
@@ -48,22 +69,19 @@ function zoomJobs(by, atX) {
   drawJobs();
 }
 function zoomMap(by, x, y) {
-  const p = mapPlace(), cx = x === undefined ? p.width / 2 : x, cy = y === undefined ? p.height / 2 : y;
-  const was = mapZoom; mapZoom = Math.max(1, Math.min(24, mapZoom * by));
-  const k = mapZoom / was, left = cx - (cx - p.left) * k, top = cy - (cy - p.top) * k;
-  const cell = mapCell(p.width, p.height), above = topOf(cell, p.width, p.height); mapX = left - (p.width - cell * W) / 2; mapY = top - (p.height + above - cell * H) / 2;
+  zoomView(look, scene, by, x === undefined ? scene.place.width / 2 : x, y === undefined ? scene.place.height / 2 : y);
   drawMap();
 }
 function setTall(on) { document.body.classList.toggle('tall', on); $('tall').textContent = on ? 'Map and jobs' : 'Map only'; resized(); }
 // The help takes the focus, and gives it back.
 let asker = null;
-const isAsked = () => $('help').style.display === 'flex';
+const isAsked = () => !$('help').hidden;
 function setHelp(on) {
   if (on === isAsked()) return;
-  $('help').style.display = on ? 'flex' : 'none';
+  $('help').hidden = !on;
   if (on) { asker = document.activeElement; $('helpText').focus(); } else asker.focus();
 }
-function resized() { drawJobs(); buildAgents(); show(shown, true); }
+function resized() { drawJobs(); buildAgents(level.agents, $('side').clientHeight - 24, choose); show(shown, true); }
 
 // ---- the head
 
@@ -90,8 +108,7 @@ $('closer').onclick = () => zoomJobs(1 / 1.5); $('wider').onclick = () => zoomJo
 $('keys').onclick = () => setHelp(true); $('help').onclick = () => setHelp(false);
 for (const id of ['first', 'last', 'back', 'next', 'play', 'before', 'after', 'tall', 'keys', 'closer', 'wider', 'fit']) $(id).addEventListener('keydown', event => { if (event.key === ' ') event.preventDefault(); });
 
-const overview = $('overview');
-const seek = event => { const box = overview.getBoundingClientRect(); show(1 + Math.round((event.clientX - box.left) / box.width * (N - 1))); };
+const overview = $('overview'), seek = event => show(frameAt(overview, event, N));
 overview.onpointerdown = event => { overview.setPointerCapture(event.pointerId); seek(event); };
 overview.onpointermove = event => { if (event.buttons) seek(event); };
 
@@ -118,26 +135,16 @@ lanes.onpointerup = event => { if (grip && !grip.moved) { const box = lanes.getB
 lanes.onpointerleave = () => { tip.style.display = 'none'; if (hovered >= 0) { hovered = -1; drawJobs(); } };
 lanes.addEventListener('wheel', event => { event.preventDefault(); zoomJobs(event.deltaY > 0 ? 1.2 : 1 / 1.2, event.clientX - lanes.getBoundingClientRect().left); }, { passive: false });
 
-const map = $('map');
+const map = $('map'), onMap = event => { const box = map.getBoundingClientRect(); return [event.clientX - box.left, event.clientY - box.top]; };
 let mapGrip = null;
-map.onpointerdown = event => { map.setPointerCapture(event.pointerId); mapGrip = { x: event.clientX, y: event.clientY, mapX, mapY, moved: false }; };
+map.onpointerdown = event => { map.setPointerCapture(event.pointerId); mapGrip = { x: event.clientX, y: event.clientY, look: { ...look }, moved: false }; };
 map.onpointermove = event => {
-  if (mapGrip && event.buttons) { if (Math.abs(event.clientX - mapGrip.x) + Math.abs(event.clientY - mapGrip.y) > 4) mapGrip.moved = true; if (mapGrip.moved) { mapX = mapGrip.mapX + event.clientX - mapGrip.x; mapY = mapGrip.mapY + event.clientY - mapGrip.y; drawMap(); } return; }
-  const box = map.getBoundingClientRect(), p = mapPlace(), x = Math.floor((event.clientX - box.left - p.left) / p.cell), y = Math.floor((event.clientY - box.top - p.top) / p.cell);
-  $('mapInfo').textContent = x >= 0 && y >= 0 && x < W && y < H ? saidOf(x, y) : '';
+  if (mapGrip && event.buttons) { if (Math.abs(event.clientX - mapGrip.x) + Math.abs(event.clientY - mapGrip.y) > 4) mapGrip.moved = true; if (mapGrip.moved) { look.x = mapGrip.look.x + event.clientX - mapGrip.x; look.y = mapGrip.look.y + event.clientY - mapGrip.y; drawMap(); } return; }
+  const cell = cellAt(scene, ...onMap(event));
+  $('mapInfo').textContent = cell ? cellSaid(scene, cell) : '';
 };
-map.onpointerup = event => {
-  if (mapGrip && !mapGrip.moved && shown > 0) { const box = map.getBoundingClientRect(), p = mapPlace(), px = event.clientX - box.left, py = event.clientY - box.top; let best = -1, near = Math.max(9, p.cell * .6);
-    for (let a = 0; a < A; a += 1) { const d = Math.hypot(px - p.left - (agentX[shown * A + a] + .5) * p.cell, py - p.top - (agentY[shown * A + a] + .5) * p.cell); if (d < near) { near = d; best = a; } }
-    choose(best === chosen ? -1 : best); }
-  mapGrip = null;
-};
-map.addEventListener('wheel', event => { event.preventDefault(); const box = map.getBoundingClientRect(); zoomMap(event.deltaY > 0 ? 1 / 1.25 : 1.25, event.clientX - box.left, event.clientY - box.top); }, { passive: false });
-function saidOf(x, y) {
-  const i = y * W + x, c = String.fromCharCode(shown > 0 ? rowsOf(shown)[i] : mapRows[i]), g = String.fromCharCode(ground[i]);
-  const under = g === '#' ? 'wall' : g === '.' ? 'floor' : g >= 'a' ? 'door ' + g : 'place ' + g;
-  return x + ',' + y + '  ' + under + (c === '*' ? ', item' : c >= 'A' && c <= 'Z' ? ', agent ' + c : c === '/' ? ', open' : g >= 'a' && c === g ? ', shut' : '');
-}
+map.onpointerup = event => { if (mapGrip && !mapGrip.moved && shown > 0) choose(agentNear(scene, film, shown, ...onMap(event))); mapGrip = null; };
+map.addEventListener('wheel', event => { event.preventDefault(); zoomMap(event.deltaY > 0 ? 1 / 1.25 : 1.25, ...onMap(event)); }, { passive: false });
 
 document.addEventListener('keydown', event => {
   if (event.ctrlKey || event.metaKey || event.altKey) return;
@@ -164,18 +171,18 @@ document.addEventListener('keydown', event => {
     case '0': view = null; fitJobs(); drawJobs(); return done();
     case '[': zoomMap(1 / 1.3); return done();
     case ']': zoomMap(1.3); return done();
-    case '=': mapZoom = 1; mapX = mapY = 0; drawMap(); return done();
+    case '=': Object.assign(look, { zoom: 1, x: 0, y: 0 }); drawMap(); return done();
     case '1': setTall(!document.body.classList.contains('tall')); return done();
     case '?': setHelp(!isAsked()); return done();
   }
-  if (/^[a-zA-Z]$/.test(event.key)) { const a = event.key.toUpperCase().charCodeAt(0) - 65; if (a < A) choose(a === chosen ? -1 : a); }
+  if (/^[a-zA-Z]$/.test(event.key) && event.key.toUpperCase() < letterOf(A)) choose(event.key.toUpperCase().charCodeAt(0) - 65);
 });
 window.addEventListener('resize', resized);
 window.addEventListener('hashchange', () => { const f = +location.hash.slice(1); if (f && f !== shown) show(f); });
 new ResizeObserver(() => drawMap()).observe($('mapBox'));
 
 shown = Math.max(N > 0 ? 1 : 0, Math.min(N, +location.hash.slice(1) || 1));
-fitJobs(); drawJobs(); buildAgents(); show(shown, true);
+readTheme(); fitJobs(); resized();
 window.btview = { textOf, show, frames: N };
 </script>
 </body>

@@ -2,6 +2,8 @@
 
 pub const JOBS: &str = r#"// ---- the jobs
 
+const SOLID = ['#6a3fb5', '#1668b8', '#b35c00', '#1d7f4e'], PALE = ['#e9e1f7', '#dbe9f8', '#fbe7cf', '#d6eee1'];
+
 function firstEndingAfter(event) { // slices are in the order of their begins: the first that may reach into the view
   let low = 0, high = COUNT;
   while (low < high) { const mid = (low + high) >> 1; if (sBegin[mid] < event) low = mid + 1; else high = mid; }
@@ -24,7 +26,7 @@ function drawJobs() {
   laneHigh = WORKERS <= 4 ? 24 : WORKERS <= 8 ? 18 : 13;
   const high = AXIS + FRAMES_ROWS * FRAME_HIGH + 4 + (WORKERS + 1) * laneHigh + 2;
   if (canvas.style.height !== high + 'px') canvas.style.height = high + 'px';
-  const ctx = canvasFor(canvas, width, high);
+  const ctx = penOf(canvas, width, high);
   if (!view) fitJobs();
   const scale = (width - LEFT) / (view.to - view.from), X = event => LEFT + (event - view.from) * scale;
   ctx.fillStyle = '#fff'; ctx.fillRect(0, 0, width, high);
@@ -82,7 +84,7 @@ function drawSlice(ctx, i, x, w) {
   else if (!mine) { ctx.fillStyle = SOLID[k]; ctx.globalAlpha *= .55; ctx.fillRect(x, y, w, h); }
   if (strong) { ctx.strokeStyle = '#000'; ctx.lineWidth = 2; ctx.strokeRect(x, y, Math.max(w, 2), h); }
   if (w > 9 && h >= 9) {
-    const f = sFrame[i], a = k === THINK || k === PATH ? letter(sNum[i]) : '';
+    const f = sFrame[i], a = k === THINK || k === PATH ? letterOf(sNum[i]) : '';
     const long = nameOf(i), middle = k === LOGIC ? 'L' + f : k === DRAW ? 'D' + f + '.' + sNum[i] : f + a, small = k === LOGIC ? 'L' : k === DRAW ? 'D' : a;
     ctx.font = '600 ' + (h < 12 ? 10 : 11.5) + 'px system-ui, sans-serif'; ctx.fillStyle = mine ? '#fff' : '#222b37'; ctx.textAlign = 'center';
     const width = h < 12 ? 5.6 : 6.4, text = long.length * width < w - 4 ? long : middle.length * width < w - 3 ? middle : small.length * width < w - 1 ? small : '';

@@ -1,128 +1,322 @@
-// Draws the map.
+// Draws the map and the agents on it, for `btview page` and for play.html (scripts/play_page takes it from here).
 
-pub const MAP: &str = r#"// ---- colours
+pub const MAP: &str = r#"// ---- what is drawn: a page keeps it so
 
-const hueOf = a => (a * 137.508 + 205) % 360;
-const colour = a => 'hsl(' + hueOf(a).toFixed(0) + ' 72% ' + (hueOf(a) > 40 && hueOf(a) < 190 ? 29 : 40) + '%)';
-const SOLID = ['#6a3fb5', '#1668b8', '#b35c00', '#1d7f4e'], PALE = ['#e9e1f7', '#dbe9f8', '#fbe7cf', '#d6eee1'];
-const ANSWER = { 83: '#3aa873', 70: '#dc5a5a', 82: '#cfd7e1' }, MOVED = '#6f9fd8', WORD = { 83: 'Success', 70: 'Failure', 82: 'Running' };
+// What each agent did in each frame, at frame * agents + agent; frame 0 is the map.
+const SUCCESS = 0, FAILURE = 1, RUNNING = 2;
+// How an agent's frame is shown at a glance: what counts more is the greater number.
+const STAYED = 0, MOVED = 1, SUCCEEDED = 2, FAILED = 3;
+class Frames {
+  // SIGNALS.of(frame) are the signals that are on in a frame, a's the lowest bit. VERSION grows with each change.
+  constructor(agents, signals) {
+    Object.assign(this, { agents, signals, count: 0, version: 0, room: 0 });
+    for (const name of ['answer', 'x', 'y', 'loaded', 'glance']) this[name] = new Uint8Array(0);
+    this.since = new Uint16Array(0); // for how many frames in a row it has answered so
+    this.grow(128);
+  }
 
-// ---- state
+  // Room for more frames.
+  grow(room) {
+    for (const name of ['answer', 'x', 'y', 'loaded', 'glance', 'since']) {
+      const grown = new this[name].constructor(room * this.agents);
+      grown.set(this[name]);
+      this[name] = grown;
+    }
+    this.room = room;
+  }
 
-let shown = N > 0 ? 1 : 0, playing = false, chosen = -1, hovered = -1, hovering = null;
-let view = null, mapZoom = 1, mapX = 0, mapY = 0;
+  // Where the agents stand on the map.
+  setStarts(map) {
+    eachStart(map, (agent, x, y) => { this.x[agent] = x; this.y[agent] = y; });
+  }
 
-function canvasFor(canvas, width, height) {
+  // Notes what an agent did in a frame behind those that are noted.
+  note(frame, agent, { answer, x, y, loaded }) {
+    if (frame >= this.room) this.grow(2 * frame);
+    const at = frame * this.agents + agent;
+    this.answer[at] = answer;
+    this.x[at] = x;
+    this.y[at] = y;
+    this.loaded[at] = loaded;
+    this.since[at] = frame > 1 && answer === this.answer[at - this.agents] ? this.since[at - this.agents] + 1 : 1;
+    this.glance[at] = answer === FAILURE ? FAILED : answer === SUCCESS ? SUCCEEDED : this.hasMoved(frame, agent) ? MOVED : STAYED;
+  }
+
+  hasMoved(frame, agent) {
+    const at = frame * this.agents + agent, before = at - this.agents;
+    return frame > 0 && (this.x[at] !== this.x[before] || this.y[at] !== this.y[before]);
+  }
+
+  // Whether an agent answers or carries otherwise than in the frame before.
+  hasChanged(frame, agent) {
+    const at = frame * this.agents + agent, before = at - this.agents;
+    return frame > 1 && (this.answer[at] !== this.answer[before] || this.loaded[at] !== this.loaded[before]);
+  }
+
+  cell(frame, agent) {
+    const at = frame * this.agents + agent;
+    return this.x[at] + ',' + this.y[at];
+  }
+
+  // Which signals a frame switches.
+  switched(frame) {
+    const is = this.signals.of(frame), differ = is ^ (frame > 1 ? this.signals.of(frame - 1) : 0), found = [];
+    for (let k = 0; k < 26; k += 1) if (differ >> k & 1) found.push({ letter: String.fromCharCode(97 + k), isOn: (is >> k & 1) === 1 });
+    return found;
+  }
+}
+
+// ---- characters of a map
+
+const isAgent = char => char >= 'A' && char <= 'Z';
+const isPlace = char => char >= '0' && char <= '9';
+const isDoor = char => char >= 'a' && char <= 'z';
+const letterOf = agent => String.fromCharCode(65 + agent);
+// The ground of a map: floor where an item or an agent is drawn.
+const groundOf = map => map.map(row => row.replace(/[*A-Z]/g, '.'));
+function eachStart(map, call) {
+  map.forEach((row, y) => [...row].forEach((char, x) => { if (isAgent(char)) call(char.charCodeAt(0) - 65, x, y); }));
+}
+
+// ---- colours
+
+const hueOf = agent => (agent * 137.508 + 205) % 360;
+const lightOf = agent => (hueOf(agent) > 40 && hueOf(agent) < 190 ? 29 : 40);
+const colourOf = agent => `hsl(${hueOf(agent).toFixed(0)} 72% ${lightOf(agent)}%)`;
+const wayOf = agent => `hsl(${hueOf(agent).toFixed(0)} 72% ${lightOf(agent) + theme.lighter}%)`; // of its way over the ground
+
+// The colours that the style names.
+let theme = {};
+function readTheme() {
+  const style = getComputedStyle(document.documentElement);
+  for (const name of ['ink', 'outer', 'floor', 'wall', 'grid', 'place', 'place-ink', 'door', 'door-open', 'strip', 'success-fill', 'failure-fill', 'moved-fill', 'stayed-fill'])
+    theme[name] = style.getPropertyValue('--' + name).trim();
+  theme.lighter = +style.getPropertyValue('--lighter');
+  theme.glances = ['stayed', 'moved', 'success', 'failure'].map(name => theme[name + '-fill']);
+}
+
+// A canvas's pen in CSS pixels.
+function penOf(canvas, width, height) {
   const ratio = window.devicePixelRatio || 1;
   const w = Math.max(1, Math.round(width * ratio)), h = Math.max(1, Math.round(height * ratio));
-  if (canvas.width !== w || canvas.height !== h) { canvas.width = w; canvas.height = h; }
-  const ctx = canvas.getContext('2d');
-  ctx.setTransform(ratio, 0, 0, ratio, 0, 0);
-  return ctx;
+  if (canvas.width !== w || canvas.height !== h) Object.assign(canvas, { width: w, height: h });
+  const pen = canvas.getContext('2d');
+  pen.setTransform(ratio, 0, 0, ratio, 0, 0);
+  return pen;
 }
 
-// ---- the map
+// ---- where the map lies
 
-const ground = (() => { const g = mapRows.slice(); for (let i = 0; i < g.length; i += 1) { const c = g[i]; if (c === 42 || (c >= 65 && c <= 90)) g[i] = 46; } return g; })();
-let layer = null, layerFor = '';
-function groundLayer(cell, left, top, width, height) {
-  const key = [cell, left, top, width, height, window.devicePixelRatio].join();
-  if (layer && layerFor === key) return layer;
-  layer = document.createElement('canvas'); layerFor = key;
-  const ctx = canvasFor(layer, width, height);
-  ctx.fillStyle = '#e3e7ec'; ctx.fillRect(0, 0, width, height);
-  ctx.fillStyle = '#fdfdfb'; ctx.fillRect(left, top, cell * W, cell * H);
-  ctx.textAlign = 'center'; ctx.textBaseline = 'middle';
-  for (let y = 0; y < H; y += 1) for (let x = 0; x < W; x += 1) {
-    const c = ground[y * W + x], px = left + x * cell, py = top + y * cell;
-    if (px + cell < 0 || py + cell < 0 || px > width || py > height) continue;
-    if (c === 35) { ctx.fillStyle = '#5b6675'; ctx.fillRect(px, py, cell + .4, cell + .4); }
-    else if (c >= 48 && c <= 57) { ctx.fillStyle = '#cfe3f7'; ctx.fillRect(px, py, cell + .2, cell + .2); }
-  }
-  if (cell >= 12) { ctx.strokeStyle = 'rgba(60,75,95,.13)'; ctx.lineWidth = 1; ctx.beginPath();
-    for (let x = 0; x <= W; x += 1) { ctx.moveTo(left + x * cell, top); ctx.lineTo(left + x * cell, top + H * cell); }
-    for (let y = 0; y <= H; y += 1) { ctx.moveTo(left, top + y * cell); ctx.lineTo(left + W * cell, top + y * cell); }
-    ctx.stroke(); }
-  return layer;
-}
-// a place's digit, small in its corner where something lies or stands on it
-function placeMark(ctx, c, px, py, cell, covered) {
-  if (cell < 13) { ctx.fillStyle = '#cfe3f7'; ctx.fillRect(px + cell / 2 - 6.5, py + cell / 2 - 6.5, 13, 13); }
-  else if (covered && cell < 22) return;
-  const small = covered && cell >= 22, size = small ? Math.max(8.5, cell * .23) : Math.max(10, Math.min(22, cell * .55)), away = small ? cell / 2 - size * .48 : 0;
-  ctx.fillStyle = '#174a7c'; ctx.font = '600 ' + size + 'px system-ui, sans-serif';
-  ctx.fillText(String.fromCharCode(c), px + cell / 2 - away, py + cell / 2 + away + .5);
-}
-function star(ctx, cx, cy, r) {
-  ctx.beginPath();
-  for (let i = 0; i < 10; i += 1) { const t = -Math.PI / 2 + i * Math.PI / 5, d = i % 2 ? r * .45 : r; ctx.lineTo(cx + d * Math.cos(t), cy + d * Math.sin(t)); }
-  ctx.closePath(); ctx.fillStyle = '#f2b21b'; ctx.fill(); ctx.strokeStyle = '#7d5600'; ctx.lineWidth = Math.max(.7, r / 9); ctx.stroke();
-}
-// The frame's name stands beside the map where there is room, else above it.
-const NAME = 34;
-const topOf = (cell, width, height) => (width - cell * W) / 2 > 150 || cell * H + 2 * NAME < height || mapZoom > 1 ? 0 : NAME;
-function mapCell(width, height) {
-  const fitted = room => { const f = Math.min((width - 16) / W, (height - room) / H, 52); return f >= 8 ? Math.floor(f) : f; };
-  const whole = fitted(16);
-  return ((width - whole * W) / 2 > 150 || whole * H + 2 * NAME < height ? whole : fitted(NAME + 10)) * mapZoom;
-}
-function mapPlace() {
-  const box = $('mapBox'), width = box.clientWidth, height = box.clientHeight;
-  const cell = mapCell(width, height), above = topOf(cell, width, height);
-  let left = (width - cell * W) / 2 + mapX, top = (height + above - cell * H) / 2 + mapY;
-  if (cell * W <= width) left = (width - cell * W) / 2; else left = Math.min(20, Math.max(width - cell * W - 20, left));
-  if (cell * H <= height - above) top = (height + above - cell * H) / 2; else top = Math.min(20, Math.max(height - cell * H - 20, top));
-  mapX = left - (width - cell * W) / 2; mapY = top - (height + above - cell * H) / 2;
+// Where a map lies in its box: the side of a cell, and the left upper corner. A view is a zoom and how far the map was dragged.
+const HEAD = 34; // the frame's name stands above the map where there is no room beside it
+function placeOf(width, height, columns, rows, view) {
+  const fitted = room => {
+    const side = Math.min((width - 16) / columns, (height - room) / rows, 72);
+    return side >= 8 ? Math.floor(side) : side;
+  };
+  const whole = fitted(16), isBeside = side => (width - side * columns) / 2 > 170 || side * rows + 2 * HEAD < height;
+  const cell = (isBeside(whole) ? whole : fitted(HEAD + 10)) * view.zoom;
+  const above = isBeside(cell) || view.zoom > 1 ? 0 : HEAD;
+  const along = (room, size, moved) => (size <= room ? (room - size) / 2 : Math.min(20, Math.max(room - size - 20, (room - size) / 2 + moved)));
+  const left = along(width, cell * columns, view.x);
+  const top = cell * rows <= height - above ? (height + above - cell * rows) / 2 : along(height, cell * rows, view.y);
+  view.x = left - (width - cell * columns) / 2;
+  view.y = cell * rows <= height - above ? 0 : top - (height - cell * rows) / 2;
   return { width, height, cell, left, top };
 }
-function drawMap() {
-  const { width, height, cell, left, top } = mapPlace();
-  const ctx = canvasFor($('map'), width, height);
-  ctx.drawImage(groundLayer(cell, left, top, width, height), 0, 0, width, height);
-  const now = shown > 0 ? rowsOf(shown) : mapRows;
-  ctx.textAlign = 'center'; ctx.textBaseline = 'middle';
-  for (let i = 0; i < now.length; i += 1) {
-    const c = now[i], g = ground[i];
-    if (c === 46 || c === 35) continue;
-    const px = left + (i % W) * cell, py = top + (i / W | 0) * cell;
-    if (px + cell < 0 || py + cell < 0 || px > width || py > height) continue;
-    const isDoor = g >= 97 && g <= 122;
-    if (isDoor) drawDoor(ctx, px, py, cell, g, c === g);
-    if (g >= 48 && g <= 57) placeMark(ctx, g, px, py, cell, c !== g);
-    if (c === 42) { const aside = cell < 13 && g >= 48 && g <= 57 ? 6 : 0; star(ctx, px + cell / 2 + aside, py + cell / 2 + aside, Math.max(3.2, cell * .3)); }
-  }
-  if (shown > 0) drawAgents(ctx, cell, left, top);
-  else for (let i = 0; i < now.length; i += 1) if (now[i] >= 65 && now[i] <= 90) disc(ctx, now[i] - 65, left + (i % W + .5) * cell, top + ((i / W | 0) + .5) * cell, radius(cell), 0, false);
+
+// Zooms a view, so that what lies at a point of the box stays there.
+function zoomView(view, scene, by, x, y) {
+  const { width, height, cell, left, top } = scene.place, was = view.zoom;
+  view.zoom = Math.max(1, Math.min(24, was * by));
+  const grown = view.zoom / was, columns = scene.map[0].length, rows = scene.map.length;
+  view.x = x - (x - left) * grown - (width - cell * grown * columns) / 2;
+  view.y = y - (y - top) * grown - (height - cell * grown * rows) / 2;
 }
-function drawDoor(ctx, px, py, cell, g, shut) {
-  const s = Math.max(cell, 5), x = px + (cell - s) / 2, y = py + (cell - s) / 2;
-  if (shut) { ctx.fillStyle = '#8a5426'; ctx.fillRect(x, y, s, s); }
-  else { ctx.fillStyle = '#f7ead9'; ctx.fillRect(x, y, s, s); ctx.strokeStyle = '#8a5426'; ctx.lineWidth = Math.max(1, s / 14);
-    if (s >= 12) ctx.setLineDash([s / 6, s / 8]); ctx.strokeRect(x + ctx.lineWidth / 2, y + ctx.lineWidth / 2, s - ctx.lineWidth, s - ctx.lineWidth); ctx.setLineDash([]); }
-  if (s >= 11) { ctx.fillStyle = shut ? '#fff' : '#8a5426'; ctx.font = '600 ' + Math.min(22, s * .55) + 'px system-ui, sans-serif'; ctx.fillText(String.fromCharCode(g), px + cell / 2, py + cell / 2 + .5); }
+
+// The cell of the map that a pointer is over, or null.
+function cellAt(scene, px, py) {
+  const { left, top, cell } = scene.place, x = Math.floor((px - left) / cell), y = Math.floor((py - top) / cell);
+  return y >= 0 && y < scene.map.length && x >= 0 && x < scene.map[0].length ? { x, y } : null;
 }
-const radius = cell => Math.max(6.5, cell * .4);
-function disc(ctx, a, cx, cy, r, load, strong) {
-  if (strong) { ctx.beginPath(); ctx.arc(cx, cy, r + 5, 0, 7); ctx.fillStyle = 'rgba(255,214,0,.75)'; ctx.fill(); ctx.lineWidth = 2; ctx.strokeStyle = '#1c2430'; ctx.stroke(); }
-  ctx.beginPath(); ctx.arc(cx, cy, r, 0, 7); ctx.fillStyle = colour(a); ctx.fill();
-  ctx.lineWidth = Math.max(1, r / 9); ctx.strokeStyle = '#fff'; ctx.stroke();
-  ctx.fillStyle = '#fff'; ctx.font = '700 ' + Math.max(9, r * 1.1) + 'px system-ui, sans-serif'; ctx.fillText(letter(a), cx, cy + .5);
-  if (load) { const away = r < 10 ? r * 1.15 : r * .8; star(ctx, cx + away, cy - away, Math.max(3.5, r * .5)); }
+function cellSaid(scene, { x, y }) {
+  const char = scene.map[y][x], ground = scene.ground[y][x];
+  const under = ground === '#' ? 'wall' : ground === '.' ? 'floor' : isDoor(ground) ? 'door ' + ground : 'place ' + ground;
+  return `${x},${y}  ${under}` + (char === '*' ? ', item' : isAgent(char) ? ', agent ' + char : char === '/' ? ', open' : isDoor(char) ? ', shut' : '');
 }
-function drawAgents(ctx, cell, left, top) {
-  const r = radius(cell), from = Math.max(0, shown - 1) * A, now = shown * A;
-  const mid = (x, y) => [left + (x + .5) * cell, top + (y + .5) * cell];
-  if (chosen >= 0 && chosen < A) { // where it has been
-    ctx.strokeStyle = colour(chosen); ctx.globalAlpha = .55; ctx.lineWidth = Math.max(2, cell * .12); ctx.lineJoin = 'round'; ctx.beginPath();
-    for (let f = Math.max(0, shown - 40); f <= shown; f += 1) { const [x, y] = mid(agentX[f * A + chosen], agentY[f * A + chosen]); ctx.lineTo(x, y); }
-    ctx.stroke(); ctx.globalAlpha = 1;
+
+// The agent that a pointer is at in a frame, or -1.
+function agentNear(scene, film, frame, px, py) {
+  const { left, top, cell } = scene.place;
+  let best = -1, near = Math.max(9, cell * .6);
+  for (let a = 0; a < film.agents; a += 1) {
+    const [x, y] = middleOf(film, frame, a, scene.place), far = Math.hypot(px - x, py - y);
+    if (far < near) [near, best] = [far, a];
   }
-  for (let a = 0; a < A; a += 1) { // the step of this frame
-    const [x0, y0] = mid(agentX[from + a], agentY[from + a]), [x1, y1] = mid(agentX[now + a], agentY[now + a]);
-    if (x0 !== x1 || y0 !== y1) { ctx.strokeStyle = colour(a); ctx.globalAlpha = .45; ctx.lineWidth = Math.max(2, r * .6); ctx.lineCap = 'round'; ctx.beginPath(); ctx.moveTo(x0, y0); ctx.lineTo(x1, y1); ctx.stroke(); ctx.globalAlpha = 1; }
+  return best;
+}
+
+// ---- the ground and what lies on it
+
+// A scene is { map, ground, place }: rows of texts, and where they lie.
+function drawScene(pen, scene, film, frame, chosen) {
+  drawGround(pen, scene);
+  if (frame > 0 && chosen >= 0) drawWay(pen, film, frame, chosen, scene.place);
+  drawThings(pen, scene);
+  if (frame > 0) drawAgents(pen, film, frame, chosen, scene.place);
+  else drawStarts(pen, scene.map, chosen, scene.place);
+}
+
+// The ground is drawn once for each place.
+const layer = { key: '', ground: null, canvas: null };
+function drawGround(pen, { ground, place }) {
+  const { width, height } = place, key = [...Object.values(place), theme.floor, window.devicePixelRatio].join();
+  if (layer.key !== key || layer.ground !== ground) {
+    layer.canvas = layer.canvas || document.createElement('canvas');
+    drawLayer(penOf(layer.canvas, width, height), ground, place);
+    Object.assign(layer, { key, ground });
   }
-  for (let a = 0; a < A; a += 1) if (a !== chosen) disc(ctx, a, ...mid(agentX[now + a], agentY[now + a]), r, loaded[now + a], false);
-  if (chosen >= 0 && chosen < A) disc(ctx, chosen, ...mid(agentX[now + chosen], agentY[now + chosen]), r, loaded[now + chosen], true);
+  pen.drawImage(layer.canvas, 0, 0, width, height);
+}
+function drawLayer(pen, ground, place) {
+  const { width, height, cell, left, top } = place, columns = ground[0].length, rows = ground.length;
+  pen.fillStyle = theme.outer;
+  pen.fillRect(0, 0, width, height);
+  pen.fillStyle = theme.floor;
+  pen.fillRect(left, top, cell * columns, cell * rows);
+  eachCell(ground, place, (char, px, py) => {
+    if (char === '#') {
+      pen.fillStyle = theme.wall;
+      pen.fillRect(px, py, cell + .4, cell + .4);
+    } else if (isPlace(char)) {
+      pen.fillStyle = theme.place;
+      pen.fillRect(px, py, cell + .2, cell + .2);
+    }
+  });
+  if (cell < 12) return;
+  pen.strokeStyle = theme.grid;
+  pen.lineWidth = 1;
+  pen.beginPath();
+  for (let x = 0; x <= columns; x += 1) { pen.moveTo(left + x * cell, top); pen.lineTo(left + x * cell, top + rows * cell); }
+  for (let y = 0; y <= rows; y += 1) { pen.moveTo(left, top + y * cell); pen.lineTo(left + columns * cell, top + y * cell); }
+  pen.stroke();
+}
+// Calls with each cell that is in sight.
+function eachCell(map, { width, height, cell, left, top }, call) {
+  map.forEach((row, y) => {
+    const py = top + y * cell;
+    if (py + cell < 0 || py > height) return;
+    for (let x = 0; x < row.length; x += 1) {
+      const px = left + x * cell;
+      if (px + cell >= 0 && px <= width) call(row[x], px, py, x, y);
+    }
+  });
+}
+
+// What stands on the ground but for the agents.
+function drawThings(pen, scene) {
+  const { cell } = scene.place;
+  pen.textAlign = 'center';
+  pen.textBaseline = 'middle';
+  eachCell(scene.map, scene.place, (char, px, py, x, y) => {
+    const ground = scene.ground[y][x];
+    if (isDoor(ground)) drawDoor(pen, px, py, cell, ground, char === ground);
+    if (isPlace(ground)) drawPlace(pen, px, py, cell, ground, char !== ground);
+    if (char === '*') {
+      const aside = cell < 13 && isPlace(ground) ? 6 : 0;
+      drawStar(pen, px + cell / 2 + aside, py + cell / 2 + aside, Math.max(3.2, cell * .3));
+    }
+  });
+}
+// A door on which something stands may be either: it is drawn as open.
+function drawDoor(pen, px, py, cell, letter, isShut) {
+  const side = Math.max(cell, 5), x = px + (cell - side) / 2, y = py + (cell - side) / 2, edge = Math.max(1, side / 14);
+  pen.fillStyle = isShut ? theme.door : theme['door-open'];
+  pen.fillRect(x, y, side, side);
+  if (!isShut) {
+    Object.assign(pen, { strokeStyle: theme.door, lineWidth: edge });
+    if (side >= 12) pen.setLineDash([side / 6, side / 8]);
+    pen.strokeRect(x + edge / 2, y + edge / 2, side - edge, side - edge);
+    pen.setLineDash([]);
+  }
+  if (side < 11) return;
+  pen.fillStyle = isShut ? '#fff' : theme.door;
+  pen.font = `600 ${Math.min(22, side * .55)}px system-ui, sans-serif`;
+  pen.fillText(letter, px + cell / 2, py + cell / 2 + .5);
+}
+// A place's digit, small in its corner where something lies or stands on it.
+function drawPlace(pen, px, py, cell, digit, isCovered) {
+  if (cell < 13) {
+    pen.fillStyle = theme.place;
+    pen.fillRect(px + cell / 2 - 6.5, py + cell / 2 - 6.5, 13, 13);
+  } else if (isCovered && cell < 22) return;
+  const isSmall = isCovered && cell >= 22, size = isSmall ? Math.max(8.5, cell * .23) : Math.max(10, Math.min(22, cell * .55));
+  const away = isSmall ? cell / 2 - size * .48 : 0;
+  pen.fillStyle = theme['place-ink'];
+  pen.font = `600 ${size}px system-ui, sans-serif`;
+  pen.fillText(digit, px + cell / 2 - away, py + cell / 2 + away + .5);
+}
+function drawStar(pen, x, y, radius) {
+  pen.beginPath();
+  for (let k = 0; k < 10; k += 1) {
+    const turn = -Math.PI / 2 + k * Math.PI / 5, far = k % 2 ? radius * .45 : radius;
+    pen.lineTo(x + far * Math.cos(turn), y + far * Math.sin(turn));
+  }
+  pen.closePath();
+  pen.fillStyle = '#f2b21b';
+  pen.fill();
+  pen.strokeStyle = '#7d5600';
+  pen.lineWidth = Math.max(.7, radius / 9);
+  pen.stroke();
+}
+
+// ---- the agents on it
+
+const radiusOf = cell => Math.max(6.5, cell * .4);
+function drawDisc(pen, agent, [x, y], radius, isLoaded, isChosen) {
+  const circle = (far, fill, edge, stroke) => {
+    pen.beginPath();
+    pen.arc(x, y, far, 0, 7);
+    Object.assign(pen, { fillStyle: fill, lineWidth: edge, strokeStyle: stroke });
+    pen.fill();
+    pen.stroke();
+  };
+  if (isChosen) circle(radius + 5, 'rgba(255,214,0,.75)', 2, '#1c2430');
+  circle(radius, colourOf(agent), Math.max(1, radius / 9), '#fff');
+  pen.fillStyle = '#fff';
+  pen.font = `700 ${Math.max(9, radius * 1.1)}px system-ui, sans-serif`;
+  pen.fillText(letterOf(agent), x, y + .5);
+  const away = radius < 10 ? radius * 1.15 : radius * .8;
+  if (isLoaded) drawStar(pen, x + away, y - away, Math.max(3.5, radius * .5));
+}
+
+// The middle of the cell in which an agent stands in a frame.
+const middleOf = (film, frame, a, { cell, left, top }) => [left + (film.x[frame * film.agents + a] + .5) * cell, top + (film.y[frame * film.agents + a] + .5) * cell];
+
+function drawStroke(pen, agent, alpha, width, points) {
+  Object.assign(pen, { strokeStyle: wayOf(agent), globalAlpha: alpha, lineWidth: width, lineJoin: 'round', lineCap: 'round' });
+  pen.beginPath();
+  for (const point of points) pen.lineTo(...point);
+  pen.stroke();
+  pen.globalAlpha = 1;
+}
+// Where an agent has been, below what stands on the ground.
+function drawWay(pen, film, frame, agent, place) {
+  const way = [];
+  for (let at = Math.max(0, frame - 40); at <= frame; at += 1) way.push(middleOf(film, at, agent, place));
+  drawStroke(pen, agent, .55, Math.max(2, place.cell * .12), way);
+}
+// The agents of a frame, each with the step that it has made.
+function drawAgents(pen, film, frame, chosen, place) {
+  const radius = radiusOf(place.cell), middle = (at, a) => middleOf(film, at, a, place);
+  for (let a = 0; a < film.agents; a += 1) if (film.hasMoved(frame, a)) drawStroke(pen, a, .45, Math.max(2, radius * .6), [middle(frame - 1, a), middle(frame, a)]);
+  const disc = a => drawDisc(pen, a, middle(frame, a), radius, film.loaded[frame * film.agents + a], a === chosen);
+  for (let a = 0; a < film.agents; a += 1) if (a !== chosen) disc(a);
+  if (chosen >= 0) disc(chosen);
+}
+// The agents of a level's map, before any frame.
+function drawStarts(pen, map, chosen, { cell, left, top }) {
+  eachStart(map, (agent, x, y) => drawDisc(pen, agent, [left + (x + .5) * cell, top + (y + .5) * cell], radiusOf(cell), false, agent === chosen));
 }
 
 "#;

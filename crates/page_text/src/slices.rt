@@ -3,9 +3,9 @@ ghost use Rattle.std.specs.Prelude.{◌≡◌, ◌-◌, ◌++◌, IfOk, OnOk};
 ghost use Rattle.page_text.specs.Slices.{kind_of, number_of, question_of, how_of, job_text, stretch_text, slice_text, text_within, begin_within, slices_text};
 
 use crate::numbers::push_ended;
-use event_slices::{FrameSpan, Slice, begun_at, frame_of};
 use job_core::names::{Event, JobName};
 use std::alloc::{AllocError, Global};
+use trace_text::{FrameSpan, Slice, begun_at, frame_of};
 
 fn kind_of(job: JobName) -> u64
     ensures { result ≡ kind_of job }

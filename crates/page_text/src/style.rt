@@ -1,4 +1,4 @@
-// The head of a page: its title and styles.
+// The head of a page: its title, and the styles of `btview page` and of play.html (scripts/play_page takes them from here).
 
 pub const STYLE: &str = r#"<!DOCTYPE html>
 <html lang="en">
@@ -7,77 +7,81 @@ pub const STYLE: &str = r#"<!DOCTYPE html>
 <meta name="viewport" content="width=device-width, initial-scale=1">
 <title>btview</title>
 <style>
-:root { --ink: #1c2430; --soft: #55606f; --line: #d5dae1; --panel: #ffffff; --back: #f1f3f6; --mark: #0b5cad;
-  --logic: #6a3fb5; --think: #1668b8; --path: #b35c00; --draw: #1d7f4e; --success: #1d7f4e; --failure: #c02a2a; --running: #5a6f8c; }
+:root { --ink: #1c2430; --soft: #55606f; --line: #d5dae1; --panel: #ffffff; --back: #f1f3f6; --mark: #0b5cad; --mark-fill: #0b5cad; --button: #ffffff; --button-line: #b8c0ca; --hover: #eef4fb;
+  --head: #e9edf2; --row: #edf0f3; --chosen: #dcebfb; --detail: #fbfcfe; --cover: rgba(255,255,255,.88);
+  --success: #1d7f4e; --failure: #c02a2a; --running: #5a6f8c; --load: #8a6100; --signal: #7a4a1e;
+  --outer: #e3e7ec; --floor: #fdfdfb; --wall: #5b6675; --grid: rgba(60,75,95,.13); --place: #cfe3f7; --place-ink: #174a7c; --door: #8a5426; --door-open: #f7ead9;
+  --strip: #f4f6f8; --success-fill: #3aa873; --failure-fill: #dc5a5a; --moved-fill: #6f9fd8; --stayed-fill: #cfd7e1; --lighter: 0; }
 * { box-sizing: border-box; }
+[hidden] { display: none !important; }
 html, body { margin: 0; height: 100%; }
 body { display: grid; grid-template-rows: auto minmax(0, 1fr) auto auto; gap: 6px; padding: 6px 10px; height: 100vh; min-height: 560px;
   background: var(--back); color: var(--ink); font: 14px/1.35 system-ui, "Segoe UI", Roboto, "DejaVu Sans", sans-serif; }
-.mono { font-family: ui-monospace, "SF Mono", Consolas, "DejaVu Sans Mono", monospace; }
-header { display: flex; align-items: baseline; gap: 14px; flex-wrap: wrap; }
-header button { height: 25px; }
-header h1 { font-size: 17px; margin: 0; font-weight: 650; overflow-wrap: anywhere; }
-header span { color: var(--soft); }
-header .state { padding: 1px 9px; border-radius: 10px; font-weight: 600; color: #fff; background: var(--success); }
-header .state.short { background: #9a5b00; }
-header .state.illegal { background: var(--failure); }
-header .right { margin-left: auto; }
-main { display: grid; grid-template-columns: minmax(0, 1fr) minmax(0, 530px); gap: 8px; min-height: 0; }
+.mono, textarea { font-family: ui-monospace, "SF Mono", Consolas, "DejaVu Sans Mono", monospace; }
 .panel { background: var(--panel); border: 1px solid var(--line); border-radius: 6px; min-width: 0; min-height: 0; position: relative; }
-#mapBox canvas { position: absolute; inset: 0; width: 100%; height: 100%; display: block; touch-action: none; }
-#frameName { position: absolute; left: 10px; top: 6px; font-size: 20px; font-weight: 650; background: rgba(255,255,255,.86); padding: 0 7px; border-radius: 5px; pointer-events: none; }
+
+/* controls */
+button { font: inherit; color: var(--ink); background: var(--button); border: 1px solid var(--button-line); border-radius: 5px; min-width: 34px; height: 28px; padding: 0 8px; cursor: pointer; white-space: nowrap; }
+button:hover { background: var(--hover); }
+select, input { font: inherit; height: 28px; border: 1px solid var(--button-line); border-radius: 5px; background: var(--button); color: var(--ink); }
+input[type=number] { width: 70px; text-align: right; padding: 0 4px; }
+:is(button, input, select, textarea, summary, [tabindex]):focus-visible { outline: 2px solid var(--mark); outline-offset: 1px; }
+label { color: var(--soft); white-space: nowrap; }
+kbd { font-family: inherit; border: 1px solid var(--button-line); border-bottom-width: 2px; border-radius: 4px; padding: 0 6px; background: var(--head); white-space: nowrap; }
+header h1 { font-size: 17px; margin: 0; font-weight: 650; overflow-wrap: anywhere; }
+
+/* map and side */
+main { display: grid; grid-template-columns: minmax(0, 1fr) minmax(0, 530px); gap: 8px; min-height: 0; }
+#map { position: absolute; inset: 0; width: 100%; height: 100%; display: block; touch-action: none; }
+#frameName { position: absolute; left: 10px; top: 6px; font-size: 20px; font-weight: 650; background: var(--cover); padding: 0 7px; border-radius: 5px; pointer-events: none; }
 #frameName small { font-size: 13px; font-weight: 500; color: var(--soft); margin-left: 6px; }
-#mapInfo { position: absolute; right: 8px; bottom: 6px; font-size: 12px; color: var(--soft); background: rgba(255,255,255,.9); padding: 0 6px; border-radius: 5px; pointer-events: none; }
-#side { display: flex; flex-direction: column; overflow: hidden; }
+#mapInfo { position: absolute; right: 8px; bottom: 6px; font-size: 12px; color: var(--soft); background: var(--cover); padding: 0 6px; border-radius: 5px; pointer-events: none; }
+
+/* agents */
+.roster { display: flex; flex-direction: column; overflow: hidden; }
 #agentsBox { overflow: auto; flex: 0 1 auto; min-height: 60px; }
-#detail { flex: 1 1 0; overflow: auto; padding: 6px 10px 8px; font-size: 13px; border-top: 1px solid var(--line); background: #fbfcfe; }
-#detail h2 { font-size: 13.5px; margin: 0 0 2px; } #detail ul { margin: 0; padding: 0 0 0 2px; list-style: none; } #detail pre { margin: 2px 0 0; white-space: pre-wrap; font-size: 12.5px; line-height: 1.4; } #detail p { margin: 6px 0 0; color: var(--soft); }
-.many #detail { display: none; } .many.picked #detail { display: block; flex: 0 0 38%; }
-.many #agentsBox td { border-top: 0; } .many #agentsBox tbody tr:nth-child(even) { background: #f4f6f9; }
 #agentsBox table { border-collapse: collapse; width: 100%; font-size: 13px; table-layout: fixed; }
-#agentsBox th { position: sticky; top: 0; background: #e9edf2; text-align: left; font-weight: 600; font-size: 12px; padding: 2px 6px; color: #333d4b; z-index: 1; white-space: nowrap; }
-#agentsBox td { padding: 0 6px; border-top: 1px solid #edf0f3; white-space: nowrap; }
+#agentsBox th { position: sticky; top: 0; background: var(--head); text-align: left; font-weight: 600; font-size: 12px; padding: 2px 6px; z-index: 1; white-space: nowrap; overflow: hidden; }
+#agentsBox td { padding: 0 6px; border-top: 1px solid var(--row); white-space: nowrap; }
 #agentsBox tr.agent { cursor: pointer; scroll-margin-top: 22px; }
-#agentsBox tr.agent:hover { background: #f0f6fd; }
-#agentsBox tr.chosen { background: #dcebfb !important; }
-.letter { display: inline-block; min-width: 1.45em; text-align: center; border-radius: 50%; color: #fff; font-weight: 700; }
+#agentsBox tr.agent:hover { background: var(--hover); }
+#agentsBox tr.chosen { background: var(--chosen) !important; }
+#agentsBox :is(th, td).num { text-align: right; font-variant-numeric: tabular-nums; }
+.letter { display: inline-block; min-width: 1.45em; height: auto; border: 0; padding: 0; text-align: center; border-radius: 50%; color: #fff; font-weight: 700; font-size: 13px; line-height: 1.35; }
+.letter:hover { filter: brightness(1.15); }
 .answer { font-weight: 650; }
 .S { color: var(--success); } .F { color: var(--failure); } .R { color: var(--running); }
-.num { text-align: right; font-variant-numeric: tabular-nums; }
-#agentsBox td.tree { overflow: hidden; text-overflow: ellipsis; color: var(--soft); }
-.load { color: #8a6100; font-weight: 700; }
+td.tree { overflow: hidden; text-overflow: ellipsis; color: var(--soft); }
+td.load { color: var(--load); font-weight: 700; }
 td canvas { display: block; }
+#detail { flex: 1 1 0; min-height: 0; overflow: auto; padding: 6px 10px 8px; font-size: 13px; border-top: 1px solid var(--line); background: var(--detail); }
+#detail h2 { font-size: 13.5px; margin: 0 0 2px; } #detail .later { margin-top: 8px; }
+#detail ul { margin: 0; padding: 0 0 0 2px; list-style: none; } #detail p { margin: 6px 0 0; color: var(--soft); }
+.many #agentsBox td { border-top: 0; } .many #agentsBox tbody tr:nth-child(even) { background: var(--detail); }
+.many .letter { font-size: 10.5px; line-height: 13px; min-width: 1.7em; }
+.many #detail { display: none; } .many.picked #detail { display: block; flex: 0 0 45%; }
+#detail .outline, #detail .outline ul { padding: 0; } #detail .outline ul { margin-left: 7px; padding-left: 13px; border-left: 1px solid var(--line); }
+.outline li { line-height: 1.45; }
+.outline .then { color: var(--soft); margin: 0 5px; }
+.outline b { font-weight: 650; } .outline .leaf b { color: var(--mark); font-weight: 500; } .outline code { color: var(--soft); font-size: 12.5px; }
+.outline .said { display: inline-block; width: 1.3em; margin-right: 3px; text-align: center; font-weight: 700; font-size: 12px; border-radius: 3px; }
+.outline .said.S { background: var(--success-fill); color: #fff; } .outline .said.F { background: var(--failure-fill); color: #fff; } .outline .said.R { background: var(--moved-fill); color: #fff; }
+.outline .silent { opacity: .5; }
+
+/* the run */
 #run { padding: 5px 10px 3px; }
-#bar { display: flex; align-items: center; gap: 6px; }
-button, label, #of, #jobsHead b { white-space: nowrap; }
-button { font: inherit; color: var(--ink); background: #fff; border: 1px solid #b8c0ca; border-radius: 5px; min-width: 34px; height: 28px; padding: 0 8px; cursor: pointer; }
-button:hover { background: #eef4fb; }
-button:focus-visible, input:focus-visible, select:focus-visible, [tabindex]:focus-visible { outline: 2px solid var(--mark); outline-offset: 1px; }
-#play { min-width: 74px; font-weight: 650; background: var(--mark); border-color: var(--mark); color: #fff; }
-#number { width: 74px; height: 28px; font: inherit; text-align: right; border: 1px solid #b8c0ca; border-radius: 5px; padding: 0 4px; }
-#bar label { color: var(--soft); display: flex; align-items: center; gap: 5px; }
-select { font: inherit; height: 28px; border: 1px solid #b8c0ca; border-radius: 5px; background: #fff; }
+#bar { display: flex; align-items: center; gap: 5px 6px; }
+#bar label { display: flex; align-items: center; gap: 5px; }
+#play { min-width: 74px; font-weight: 650; background: var(--mark-fill); border-color: var(--mark-fill); color: #fff; }
 #overKeys { margin-left: auto; display: flex; gap: 10px; font-size: 12px; }
-#signals { color: var(--soft); white-space: nowrap; overflow: hidden; text-overflow: ellipsis; }
-#signals b { color: #7a4a1e; }
+.key { display: inline-flex; align-items: center; gap: 5px; white-space: nowrap; } .key i { width: 12px; height: 12px; border-radius: 3px; }
 #overview { display: block; width: calc(100% - 16px); margin: 5px 8px 0; cursor: pointer; touch-action: none; }
-#slider { width: 100%; margin: 1px 0 0; height: 15px; accent-color: var(--mark); display: block; }
-#jobs { padding: 4px 10px 4px; }
-#jobsHead { display: flex; align-items: center; gap: 14px; font-size: 13px; }
-#jobsHead button { height: 22px; min-width: 28px; padding: 0 6px; font-size: 12.5px; margin-left: -8px; }
-#jobsHead b { font-size: 14px; }
-.key { display: inline-flex; align-items: center; gap: 5px; color: var(--ink); white-space: nowrap; }
-.key i { width: 12px; height: 12px; border-radius: 3px; display: inline-block; }
-#jobsHead .hint { margin-left: auto; color: var(--soft); font-size: 12px; }
-#lanes { display: block; width: 100%; cursor: crosshair; touch-action: none; }
-#tip { position: fixed; pointer-events: none; display: none; z-index: 10; background: #1c2430; color: #fff; border-radius: 6px; padding: 6px 10px; font-size: 13px; max-width: 380px; box-shadow: 0 3px 12px rgba(0,0,0,.25); }
-#tip b { font-size: 14px; } #tip div { color: #d4dbe5; }
-#help { position: fixed; inset: 0; display: none; align-items: center; justify-content: center; background: rgba(20,28,40,.45); z-index: 20; }
-#help > div { background: #fff; border-radius: 8px; padding: 14px 24px 18px; box-shadow: 0 6px 30px rgba(0,0,0,.3); max-width: 640px; }
-#help table td { padding: 2px 12px 2px 0; vertical-align: top; } #help td:first-child { white-space: nowrap; } kbd { font-family: inherit; border: 1px solid #b8c0ca; border-bottom-width: 2px; border-radius: 4px; padding: 0 6px; background: #f6f8fa; }
-body.tall { grid-template-rows: auto minmax(0, 1fr) auto; } body.tall #jobs { display: none; }
-@media (max-width: 1180px) { #overKeys, #jobsHead .hint { display: none; } #jobsHead #closer { margin-left: auto; } }
-@media (max-width: 900px) { main { grid-template-columns: 1fr; grid-template-rows: minmax(200px, 1fr) minmax(120px, 1fr); } }
-</style>
-</head>
+#slider { width: 100%; margin: 1px 0 0; height: 15px; accent-color: var(--mark); display: block; border: 0; background: none; }
+
+/* help */
+#help { position: fixed; inset: 0; display: flex; align-items: center; justify-content: center; background: rgba(20,28,40,.5); z-index: 20; padding: 10px; }
+#help > div { background: var(--panel); border-radius: 8px; padding: 14px 24px 18px; box-shadow: 0 6px 30px rgba(0,0,0,.3); max-width: 640px; max-height: 100%; overflow: auto; }
+#help h2 { margin: 0 0 8px; font-size: 17px; }
+#help td { padding: 2px 12px 2px 0; vertical-align: top; } #help td:first-child { white-space: nowrap; }
+@media (max-width: 1180px) { #overKeys { display: none; } }
 "#;

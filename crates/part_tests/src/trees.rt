@@ -72,6 +72,27 @@ fn a_refused_root_comes_back(rt: HostRuntime) {
     assert!(rt; refused(rt.alloc()) == Some((TreeFault::NoChild, true)));
 }
 
+// Why so many `Not`s over a condition are no tree. They are taken apart one by one, since to drop them would nest a call
+// for each.
+fn fault_of_nested(alloc: Global, inversions: u64) -> Option<TreeFault> {
+    let (fault, mut root) = Tree::new(nested(alloc, inversions)?).err()?;
+    for _ in 0..inversions {
+        root = match root {
+            Node::Not(child) => Box::into_inner(child),
+            other => other,
+        };
+    }
+    Some(fault)
+}
+
+#[test]
+fn a_node_a_million_deep_has_too_many_nodes(rt: HostRuntime) {
+    assert!(rt; fault_of_nested(rt.alloc(), 1_000_000) == Some(TreeFault::TooManyNodes));
+    assert!(rt; fault_of_nested(rt.alloc(), 255) == Some(TreeFault::TooManyNodes));
+    assert!(rt; fault_of_nested(rt.alloc(), 254) == Some(TreeFault::TooDeep));
+    assert!(rt; fault_of_nested(rt.alloc(), 32) == Some(TreeFault::TooDeep));
+}
+
 fn boxed(alloc: Global, node: Node<Global>) -> Option<Box<Node<Global>>> {
     Box::new(alloc, node).ok()
 }
@@ -124,21 +145,10 @@ fn a_copy_has_every_kind_of_node(rt: HostRuntime) {
     assert!(rt; copied_of_every_kind(rt.alloc()) == Some((19, 9)));
 }
 
-fn measures(node: &Node<Global>) -> (u64, u64) {
-    (node.size(), node.depth())
-}
-
-// The size and the depth of a list of three and of a condition inside four `Not`s, and the size of both.
-fn measures_of_two(alloc: Global) -> Option<([(u64, u64); 2], u64)> {
-    let three = seq_of(alloc, 3)?;
-    let both = pair(alloc, three, nested(alloc, 4)?)?;
-    match &both {
-        Node::Seq(nodes) => match nodes.as_slice() {
-            [three, four] => Some(([measures(three), measures(four)], Node::sizes(nodes))),
-            _ => None,
-        },
-        _ => None,
-    }
+// The size and the depth of a tree with this root.
+fn measures(root: Option<Node<Global>>) -> Option<(u64, u64)> {
+    let tree = Tree::new(root?).ok()?;
+    Some((tree.size(), tree.depth()))
 }
 
 // Whether a list of three nodes is copied.
@@ -150,7 +160,8 @@ fn is_copied(alloc: Global) -> Option<bool> {
 
 #[test]
 fn sizes_and_depths_of_nodes(rt: HostRuntime) {
-    assert!(rt; measures_of_two(rt.alloc()) == Some(([(4, 2), (5, 5)], 9)));
+    assert!(rt; measures(seq_of(rt.alloc(), 3)) == Some((4, 2)));
+    assert!(rt; measures(nested(rt.alloc(), 4)) == Some((5, 5)));
     assert!(rt; is_copied(rt.alloc()) == Some(true));
 }
 

@@ -13,7 +13,7 @@ use std::thread::Threads;
 use task_board::{Settings, TaskBoard};
 
 // How many bands a worker may be ahead of the printer.
-const MAIL_CAPACITY: usize = 64;
+const MAIL_CAPACITY: u32 = 64;
 
 /// The shares of a run's books and the ends of its mail, which its threads take and give back.
 #[derive(Drop)]

@@ -1,6 +1,9 @@
 // Jobs that are held until others have come: with workers enough the run comes to its end, with one fewer its gate closes.
 use crate::gates::{Four, Until};
-use crate::levels::{FOUR_BANDS, FOUR_NEIGHBOURS, NEIGHBOURS, RACE, WALK};
+use crate::levels::{
+    FOUR_BANDS, FOUR_BANDS_TEXT, FOUR_NEIGHBOURS, FOUR_NEIGHBOURS_TEXT, NEIGHBOURS,
+    NEIGHBOURS_TEXT, RACE, RACE_TEXT, WALK, WALK_TEXT_OF_2,
+};
 use play_run::{Cause, Gate, PlayFault, RunFault, run_bytes};
 use std::alloc::Global;
 use std::sync::Wait;
@@ -22,7 +25,7 @@ struct Meeting {
     held: JobName,
     other: JobName,
     worked: bool,
-    written: usize,
+    text: &'static [u8],
 }
 
 static MEETINGS: [Meeting; 4] = [
@@ -32,7 +35,7 @@ static MEETINGS: [Meeting; 4] = [
         held: JobName::Think { frame: 1, agent: 0 },
         other: JobName::Think { frame: 1, agent: 1 },
         worked: false,
-        written: 31,
+        text: NEIGHBOURS_TEXT,
     },
     Meeting {
         level: NEIGHBOURS,
@@ -40,7 +43,7 @@ static MEETINGS: [Meeting; 4] = [
         held: JobName::Think { frame: 1, agent: 0 },
         other: JobName::Think { frame: 1, agent: 1 },
         worked: true,
-        written: 31,
+        text: NEIGHBOURS_TEXT,
     },
     Meeting {
         level: RACE,
@@ -56,7 +59,7 @@ static MEETINGS: [Meeting; 4] = [
             question: 0,
         },
         worked: false,
-        written: 32,
+        text: RACE_TEXT,
     },
     Meeting {
         level: WALK,
@@ -64,7 +67,7 @@ static MEETINGS: [Meeting; 4] = [
         held: JobName::Think { frame: 2, agent: 0 },
         other: JobName::Draw { frame: 1, band: 0 },
         worked: false,
-        written: 44,
+        text: WALK_TEXT_OF_2,
     },
 ];
 
@@ -80,7 +83,7 @@ impl Meeting {
     }
 }
 
-// How many bytes a run of a level writes, where it comes to its end, and none where its gate closes at once.
+// What a run of a level writes, where it comes to its end, and none where its gate closes at once.
 fn written<G: Gate, R: Threads + Wait + Sync>(
     rt: &R,
     alloc: Global,
@@ -88,11 +91,11 @@ fn written<G: Gate, R: Threads + Wait + Sync>(
     frames: u32,
     workers: u32,
     gate: &G,
-) -> Result<Option<usize>, Fail> {
+) -> Result<Option<Vec<u8>>, Fail> {
     let settings = Settings::new(frames, workers, 8, 8, 3)?;
     let mut out: Vec<u8> = Vec::new(alloc);
     match run_bytes(rt, alloc, level, b"", settings, &mut out, gate) {
-        Ok(_) => Ok(Some(out.len())),
+        Ok(_) => Ok(Some(out)),
         Err(
             PlayFault::Run(
                 RunFault {
@@ -102,6 +105,13 @@ fn written<G: Gate, R: Threads + Wait + Sync>(
             ),
         ) if out.is_empty() => Ok(None),
         Err(_) => Err(Fail::from("another fault")),
+    }
+}
+
+fn is_text(written: &Option<Vec<u8>>, text: &[u8]) -> bool {
+    match written {
+        Some(bytes) => bytes.as_slice() == text,
+        None => false,
     }
 }
 
@@ -118,7 +128,7 @@ fn two_workers_work_two_jobs_at_once(rt: HostRuntime) -> Result<(), Fail> {
                 workers,
                 &gate,
             )?;
-            assert_eq!(rt; ended, Some(meeting.written), "{workers}");
+            assert!(rt; is_text(&ended, meeting.text), "{workers}");
         }
     }
     Ok(())
@@ -129,18 +139,21 @@ fn one_worker_works_one_job_at_a_time(rt: HostRuntime) -> Result<(), Fail> {
     for meeting in &MEETINGS {
         let gate = meeting.gate(FEWER_LOOKS);
         let ended = written(&rt, rt.alloc(), meeting.level, meeting.frames, 1, &gate)?;
-        assert_eq!(rt; ended, None);
+        assert!(rt; ended.is_none());
     }
     Ok(())
 }
 
 #[test]
 fn four_workers_work_four_jobs_at_once(rt: HostRuntime) -> Result<(), Fail> {
-    for (level, draws, bytes) in [(FOUR_NEIGHBOURS, false, 106), (FOUR_BANDS, true, 144)] {
+    for (level, draws, text) in [
+        (FOUR_NEIGHBOURS, false, FOUR_NEIGHBOURS_TEXT),
+        (FOUR_BANDS, true, FOUR_BANDS_TEXT),
+    ] {
         for workers in [4, 16] {
             let gate = Four::new(draws, LOOKS);
             let ended = written(&rt, rt.alloc(), level, 2, workers, &gate)?;
-            assert_eq!(rt; ended, Some(bytes), "{workers}");
+            assert!(rt; is_text(&ended, text), "{workers}");
         }
     }
     Ok(())
@@ -151,7 +164,7 @@ fn three_workers_work_three_jobs_at_once(rt: HostRuntime) -> Result<(), Fail> {
     for (level, draws) in [(FOUR_NEIGHBOURS, false), (FOUR_BANDS, true)] {
         let gate = Four::new(draws, FEWER_LOOKS);
         let ended = written(&rt, rt.alloc(), level, 2, 3, &gate)?;
-        assert_eq!(rt; ended, None);
+        assert!(rt; ended.is_none());
     }
     Ok(())
 }

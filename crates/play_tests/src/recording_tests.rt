@@ -77,7 +77,7 @@ fn each_job_is_asked_for_twice(rt: HostRuntime) -> Result<(), Fail> {
         asked: Mutex::new(Vec::new(alloc)),
     };
     let mut out: Vec<u8> = Vec::new(alloc);
-    let settings = Settings::new(2, 16, 16, 16, 3)?;
+    let settings = Settings::new(2, 16, 16, 63, 16)?;
     let report = run_bytes(&rt, alloc, CROWD, b"", settings, &mut out, &gate)?;
     let asked = gate.asked.into_inner();
     assert!(rt; is_asked_right(&report.events, &asked));

@@ -13,7 +13,7 @@ use Rattle.draw_list.specs.Bands.{bands_of, band_count}
 use Rattle.draw_list.proofs.Counting.{count_up-zero, count_up-suc, count_up-append}
 use Rattle.frame_state.specs.Contents.{world_after, signals_in, statuses_in, bands_in, band_in}
 use Rattle.frame_state.proofs.Turning.{height_stays}
-use Rattle.job_results.proofs.Texts.{text-frame}
+use Rattle.task_board.proofs.Texts.{text-frame}
 
 -- one band more
 pub one_more : (g : Game) (f n : ℕ) (drawn : List Band) (band : Band) → drawn ≡ map (band_in g f) (count_up 0 n) → band ≡ band_in g f n

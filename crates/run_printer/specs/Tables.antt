@@ -4,7 +4,7 @@ use Rattle.std.specs.Prelude.{◌≡◌, ◌≢◌, ◌%◌, ℕ, List, [], Opti
 use Rattle.grid_world.specs.Map.{count_up}
 use Rattle.game_rules.specs.Game.{Game}
 use Rattle.draw_list.specs.declared.band.Band.{Band}
-use Rattle.frame_state.specs.Contents.{band_in}
+use Rattle.frame_state.specs.Contents.{band_in, bands_in}
 
 -- no bands
 abbrev pub no_bands : (frames bands : ℕ) → List (List (Option ℕ))
@@ -32,3 +32,7 @@ AreAtTheirNumbers numbers = (place number : ℕ) → slice_index_or numbers plac
 -- the first bands of a frame, from the top
 abbrev pub AreFirstBands : Game → (frame : ℕ) → List Band → Type 0
 AreFirstBands g frame bands = bands ≡ map (band_in g frame) (count_up 0 (length bands))
+
+-- all bands of a frame, from the top
+abbrev pub AreAllBands : Game → (frame : ℕ) → List Band → Type 0
+AreAllBands g frame bands = AreFirstBands g frame bands × (length bands ≡ bands_in g)

@@ -4,20 +4,19 @@ ghost use Rattle.game_rules.specs.Game.{Game};
 ghost use Rattle.game_rules.specs.Text.{frame_text, texts};
 ghost use Rattle.frame_state.specs.Contents.{bands_in};
 ghost use Rattle.run_shared.specs.Printed.{WrotePart};
-ghost use Rattle.run_printer.specs.Tables.{AreFirstBands};
+ghost use Rattle.run_printer.specs.Tables.{AreFirstBands, AreAllBands};
 
 use crate::band_table::BandTable;
 use crate::inbox::Inbox;
 use byte_streams::write_whole;
 use draw_list::{Band, band_count, frame_text};
 use game_session::Session;
-use run_shared::{Cause, RunFault, RunLedger, Shared};
+use run_shared::{Cause, Rest, RunFault, RunLedger, Shared, ShownFrame};
 use std::alloc::{AllocError, Global};
 use std::io::Write;
 use std::sync::Wait;
 use std::sync::ledger::{Ledger, Share};
 use task_board::{BoardFault, Settings, Shown};
-use thread_parking::Rest;
 
 // How many bands each frame has.
 fn bands_of(session: &Session) -> u32
@@ -109,6 +108,39 @@ impl<'t, L: RunLedger> Printer<'t, L> {
         unreachable!()
     }
 
+    // Shows the frame whose bands lie in `next`, all of them, once its last Draw is finished. A worker is called where there is a
+    // job to take then: a Logic may have waited for the frame's slot.
+    fn show<M: Ledger, D: Ledger, R: Wait>(
+        &self,
+        rt: &R,
+        shared: &Shared<'t, L, M, D>,
+        emits: &mut Share<M>,
+        rest: &mut Rest,
+    ) -> Result<Shown<'t>, Cause>
+        requires emits { (emits.old.parts ≡ M.parts) × (0 < M.parts) }
+        requires drawn { (g : Game) → L.game ≡ Some g → AreAllBands g (emits.old.amount + 1) self.now.next.items }
+        ensures parts { emits.new.parts ≡ emits.old.parts }
+        ensures counted { OnOk result (emits.new.amount ≡ emits.old.amount + 1) }
+        ensures next { IfOk result (λ shown. shown.frame ≡ emits.old.amount + 1) }
+        ensures game { IfOk result (λ shown. L.game ≡ Some shown.game) }
+    {
+        for _ in rt.forever() {
+            match shared.lock(rt).emit(emits) {
+                Ok(ShownFrame { shown, is_more }) => {
+                    if is_more {
+                        shared.waiting.call_worker();
+                    }
+                    return Ok(shown);
+                }
+                Err(BoardFault::Illegal) => shared.waiting.printer.wait(rt, rest),
+                Err(BoardFault::OutOfMemory) => return Err(Cause::OutOfMemory),
+                // Who stopped a board has a cause of its own, which goes before this one.
+                Err(_) => return Err(Cause::Stranger),
+            }
+        }
+        unreachable!()
+    }
+
     // The text of the next frame, once all of it is drawn.
     fn next_text<M: Ledger, D: Ledger, R: Wait>(
         &mut self,
@@ -130,7 +162,7 @@ impl<'t, L: RunLedger> Printer<'t, L> {
         ensures text { IfOk result (λ text. text.items ≡ frame_text session.now frame) }
     {
         self.gather(rt, shared, frame, bands_of(session), rest)?;
-        let turn = show(rt, shared, emits, rest)?.into_turn();
+        let turn = self.show(rt, shared, emits, rest)?.into_turn();
         let text = frame_text(alloc, frame, &self.next, turn.world(), turn.statuses());
         shared.leave_printed(rt, &mut self.next);
         match text {
@@ -138,41 +170,6 @@ impl<'t, L: RunLedger> Printer<'t, L> {
             Err(_) => Err(Cause::OutOfMemory),
         }
     }
-}
-
-// Shows the next frame, whose bands are all there, once its last Draw is finished. A worker is called where there is a job to
-// take then: a Logic may have waited for the frame's slot.
-fn show<'t, L: RunLedger, M: Ledger, D: Ledger, R: Wait>(
-    rt: &R,
-    shared: &Shared<'t, L, M, D>,
-    emits: &mut Share<M>,
-    rest: &mut Rest,
-) -> Result<Shown<'t>, Cause>
-    requires emits { (emits.old.parts ≡ M.parts) × (0 < M.parts) }
-    ensures parts { emits.new.parts ≡ emits.old.parts }
-    ensures counted { OnOk result (emits.new.amount ≡ emits.old.amount + 1) }
-    ensures next { IfOk result (λ shown. shown.frame ≡ emits.old.amount + 1) }
-    ensures game { IfOk result (λ shown. L.game ≡ Some shown.game) }
-{
-    for _ in rt.forever() {
-        let mut board = shared.lock(rt);
-        let shown = board.emit(emits);
-        let is_more = shown.is_ok() && board.may_take();
-        drop(board);
-        match shown {
-            Ok(shown) => {
-                if is_more {
-                    shared.waiting.call_worker();
-                }
-                return Ok(shown);
-            }
-            Err(BoardFault::Illegal) => shared.waiting.printer.wait(rt, rest),
-            Err(BoardFault::OutOfMemory) => return Err(Cause::OutOfMemory),
-            // Who stopped a board has a cause of its own, which goes before this one.
-            Err(_) => return Err(Cause::Stranger),
-        }
-    }
-    unreachable!()
 }
 
 /// Shows and writes all frames in order, and flushes. At a fault it stops the board.

@@ -21,7 +21,7 @@ use task_board::{BoardFault, Event, Shown, Spent, TaskBoard};
 
 /// The board of a run with three books: one of its events that name a worker, one of those that show a frame, one of those
 /// that end a Draw. Each call that makes an event happen makes one, and adds one to a share of the thread that calls it, or to
-/// two where a Draw ends; a call that is refused changes nothing.
+/// two where a Draw ends; a call that is refused changes nothing. What changes it or looks at it is for a `Hold` alone.
 #[derive(Drop)]
 pub struct SharedBoard<'t, L: RunLedger, M: Ledger, D: Ledger> {
     board: TaskBoard<'t>,
@@ -47,6 +47,7 @@ impl<'t, L: RunLedger, M: Ledger, D: Ledger> Model for SharedBoard<'t, L, M, D> 
 }
 
 /// How many Draws end with what a board is told.
+#[inline(always)]
 pub fn draws_in(step: &BoardStep<'_>) -> u64
     ensures { result ≡ draws_ended step.now }
 {
@@ -80,7 +81,8 @@ impl<'t, L: RunLedger, M: Ledger, D: Ledger> SharedBoard<'t, L, M, D> {
     }
 
     /// Takes a task for an idle worker. None where it can neither start nor resume a job.
-    pub fn take(
+    #[inline(always)]
+    pub(crate) fn take(
         &mut self,
         worker: u32,
         mine: &mut Share<L>,
@@ -104,7 +106,8 @@ impl<'t, L: RunLedger, M: Ledger, D: Ledger> SharedBoard<'t, L, M, D> {
 
     /// Hands in what the work of a worker's job came to. At a Logic's beginning its thinks are spread, or it holds where
     /// that is illegal.
-    pub fn hand_in(
+    #[inline(always)]
+    pub(crate) fn hand_in(
         &mut self,
         worker: u32,
         step: BoardStep<'t>,
@@ -138,14 +141,15 @@ impl<'t, L: RunLedger, M: Ledger, D: Ledger> SharedBoard<'t, L, M, D> {
     }
 
     /// Takes out what the last events have left over, to be let go with the lock free.
-    pub fn take_spent(&mut self) -> Spent<'t>
+    #[inline(always)]
+    pub(crate) fn take_spent(&mut self) -> Spent<'t>
         ensures { self.new ≡ self.old }
     {
         self.board.take_spent()
     }
 
     /// Shows the next frame. Whoever holds the whole share of frames knows which one that is.
-    pub fn emit(&mut self, mine: &mut Share<M>) -> Result<Shown<'t>, BoardFault>
+    pub(crate) fn emit(&mut self, mine: &mut Share<M>) -> Result<Shown<'t>, BoardFault>
         requires mine { (mine.old.parts ≡ M.parts) × (0 < M.parts) }
         ensures shown { IfOk result (IsShown self.old self.new) }
         ensures refused { IfErr result (IsEmitRefused self.old) }
@@ -168,35 +172,36 @@ impl<'t, L: RunLedger, M: Ledger, D: Ledger> SharedBoard<'t, L, M, D> {
     }
 
     /// Nothing happens any more; a second call changes nothing.
-    pub fn stop(&mut self)
+    pub(crate) fn stop(&mut self)
         ensures { IsStopped self.old self.new }
     {
         self.board.stop();
     }
 
     /// Whether all frames are shown, and the board isn't stopped.
-    pub fn is_done(&self) -> bool
+    pub(crate) fn is_done(&self) -> bool
         ensures { IsTrue result ↔ IsComplete (setup_in self.now) self.now.events }
     {
         self.board.is_done()
     }
 
     /// Whether nothing happens any more.
-    pub fn is_stopped(&self) -> bool
+    pub(crate) fn is_stopped(&self) -> bool
         ensures { result ≡ (state_in self.now).stopped }
     {
         self.board.is_stopped()
     }
 
     /// Whether an idle worker could be given a task.
-    pub fn may_take(&self) -> bool
+    #[inline(always)]
+    pub(crate) fn may_take(&self) -> bool
         ensures { IsTrue result ↔ GivesJob self.now }
     {
         self.board.may_take()
     }
 
     /// Whether the next frame can be shown.
-    pub fn may_show(&self) -> bool
+    pub(crate) fn may_show(&self) -> bool
         ensures { IsTrue result ↔ (f : ℕ) × IsLegal (setup_in self.now) (state_in self.now) (Emit f) }
     {
         self.board.may_show()

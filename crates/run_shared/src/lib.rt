@@ -1,22 +1,37 @@
-//! What the threads of a run share: the locked board with its books, the mail of bands, and who waits for whom.
+//! What the threads of a run share: the locked board with its books, the mail of bands, and who waits for whom and how.
 #![tactic(auto)]
 
 mod board;
+mod crowd;
 mod fault;
+mod given;
+mod handed_in;
+mod hold;
 mod joining;
 mod ledger;
+mod lock;
+mod parking;
+mod rest;
 mod run_band;
 mod run_task;
 mod shared;
+mod shown_frame;
 mod waiting;
 mod worked;
 
 pub use board::{SharedBoard, draws_in};
+pub use crowd::Crowd;
 pub use fault::{Cause, RunFault};
+pub use given::Given;
+pub use handed_in::HandedIn;
+pub use hold::Hold;
 pub use joining::joined;
 pub use ledger::RunLedger;
+pub use parking::Parking;
+pub use rest::Rest;
 pub use run_band::RunBand;
 pub use run_task::RunTask;
 pub use shared::Shared;
+pub use shown_frame::ShownFrame;
 pub use waiting::Waiting;
 pub use worked::Worked;

@@ -17,6 +17,7 @@ pub struct RunTask<'t, L: RunLedger> {
 
 impl<'t, L: RunLedger> RunTask<'t, L> {
     /// A task of the run's game.
+    #[inline(always)]
     pub fn new(task: Task<'t>) -> RunTask<'t, L>
         requires { L.game ≡ Some (game_of task) }
         ensures { result.task ≡ task.entry }

@@ -1,17 +1,19 @@
 ghost use Rattle.std.specs.Prelude.{◌≡◌, length, vec_len};
-ghost use Rattle.band_mail.specs.Mails.{ArePuttersOf, IsAllDelivered, all_put};
+ghost use Rattle.band_mail.specs.Mails.{ArePuttersOf, IsAllDelivered, put_by};
 
 use crate::board::SharedBoard;
+use crate::crowd::Crowd;
+use crate::hold::Hold;
 use crate::ledger::RunLedger;
+use crate::lock::lock_soon;
 use crate::run_band::RunBand;
 use crate::waiting::Waiting;
 use band_mail::{BandMail, Putter, Taker};
 use draw_list::Band;
 use std::mem;
 use std::sync::ledger::Ledger;
-use std::sync::{Mutex, MutexGuard, Wait};
+use std::sync::{Mutex, Wait};
 use std::thread::Threads;
-use thread_parking::{Crowd, lock_soon};
 
 /// What the threads of a run share.
 pub struct Shared<'t, L: RunLedger, M: Ledger, D: Ledger> {
@@ -54,28 +56,22 @@ impl<'t, L: RunLedger, M: Ledger, D: Ledger> Shared<'t, L, M, D> {
         }
     }
 
-    /// Takes the board's lock.
-    pub fn lock<R: Wait>(&self, rt: &R) -> MutexGuard<'_, SharedBoard<'t, L, M, D>> {
+    /// Takes the board's lock, for one event or one look.
+    pub fn lock<R: Wait>(&self, rt: &R) -> Hold<'_, 't, L, M, D> {
         let (board, _) = lock_soon(rt, &self.board);
-        board
+        Hold::new(board)
     }
 
     /// The same for a worker, which learns how crowded the lock is.
-    pub fn lock_in_turn<R: Wait>(
-        &self,
-        rt: &R,
-        crowd: &mut Crowd,
-    ) -> MutexGuard<'_, SharedBoard<'t, L, M, D>> {
+    pub fn lock_in_turn<R: Wait>(&self, rt: &R, crowd: &mut Crowd) -> Hold<'_, 't, L, M, D> {
         let (board, was_held) = lock_soon(rt, &self.board);
         crowd.learn(was_held);
-        board
+        Hold::new(board)
     }
 
     /// Stops the board, so that all threads end.
     pub fn stop<R: Wait>(&self, rt: &R) {
-        let mut board = self.lock(rt);
-        board.stop();
-        drop(board);
+        self.lock(rt).stop();
         self.waiting.call_all();
     }
 
@@ -102,7 +98,7 @@ impl<'t, L: RunLedger, M: Ledger, D: Ledger> Shared<'t, L, M, D> {
     ) -> (SharedBoard<'t, L, M, D>, Vec<(u32, RunBand<'t, L>)>)
         requires putters { (vec_len putters ≡ length self.mail) × ArePuttersOf self.mail putters.items }
         requires taker { taker.mail ≡ self.mail }
-        ensures { IsAllDelivered (all_put putters.entry.items) taker.entry.taken result.1.items }
+        ensures { IsAllDelivered (put_by putters.entry.items) taker.entry.taken result.1.items }
     {
         let Self {
             board,

@@ -12,10 +12,10 @@
 //! made it possible, since it takes the next job itself and then looks whether there is another. Who fails stops the board
 //! and calls all, and the printer calls all workers behind the last frame. Besides each sleep ends by itself after a second
 //! at most.
+use crate::parking::Parking;
 use std::sync::Wait;
 use std::thread::{Threads, available_parallelism};
 use std::time::Duration;
-use thread_parking::Parking;
 
 // How long a worker rests that met the lock held too often: milliseconds.
 const REST: u64 = 16;

@@ -4,7 +4,6 @@
 
 mod delivered;
 mod gate;
-mod given;
 mod scratch;
 mod worker;
 

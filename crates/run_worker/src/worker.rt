@@ -10,18 +10,18 @@ ghost use Rattle.run_worker.specs.declared.delivered.Delivered.TheVariants.{Told
 
 use crate::delivered::Delivered;
 use crate::gate::Gate;
-use crate::given::Given;
 use crate::scratch::Scratch;
 use band_mail::Putter;
 use frame_params::{BoardStep, Step, Task};
 use game_session::Session;
-use run_shared::{Cause, RunBand, RunLedger, RunTask, Shared, Worked, draws_in};
+use run_shared::{
+    Cause, Crowd, Given, HandedIn, Rest, RunBand, RunLedger, RunTask, Shared, Worked, draws_in,
+};
 use std::alloc::Global;
 use std::hint;
 use std::sync::Wait;
 use std::sync::ledger::{Ledger, Share};
 use task_board::{BoardFault, Spent};
-use thread_parking::{Crowd, Rest};
 
 // How often a full queue is tried again before its worker waits for room: some microseconds.
 const TRIES: u32 = 100;
@@ -47,27 +47,20 @@ struct Worker<'h, 't, L: RunLedger, M: Ledger, D: Ledger, G: Gate, R: Wait> {
 }
 
 impl<'h, 't, L: RunLedger, M: Ledger, D: Ledger, G: Gate, R: Wait> Worker<'h, 't, L, M, D, G, R> {
-    // Looks for a task once, in one hold of the lock. Where there is one and another could be taken, calls a worker for that.
+    // Looks for a task once. Where there is one and another could be taken, calls a worker for that.
+    #[inline(always)]
     fn look(&self, share: &mut Share<L>) -> Result<Given<'t, L>, Cause>
         requires part { 0 < share.old.parts }
         ensures part { share.new.parts ≡ share.old.parts }
     {
-        let mut board = self.shared.lock(self.rt);
-        match board.take(self.number, share) {
-            Ok(Some(task)) => {
-                let is_more = board.may_take();
-                drop(board);
-                if is_more {
+        let hold = self.shared.lock(self.rt);
+        match hold.take(self.number, share) {
+            Ok(given) => {
+                if let Given::Task(_, true) = &given {
                     self.shared.waiting.call_worker();
                 }
-                Ok(Given::Task(task))
+                Ok(given)
             }
-            Ok(None) => Ok(if board.is_done() {
-                Given::Over
-            } else {
-                Given::Nothing
-            }),
-            Err(BoardFault::Stopped) => Ok(Given::Over),
             Err(fault) => Err(cause_of(fault)),
         }
     }
@@ -103,7 +96,7 @@ impl<'h, 't, L: RunLedger, M: Ledger, D: Ledger, G: Gate, R: Wait> Worker<'h, 't
             given => given,
         };
         match given {
-            Ok(Given::Task(task)) => Ok(Some(task)),
+            Ok(Given::Task(task, _)) => Ok(Some(task)),
             Ok(_) => Ok(None),
             Err(cause) => Err(cause),
         }
@@ -128,8 +121,7 @@ impl<'h, 't, L: RunLedger, M: Ledger, D: Ledger, G: Gate, R: Wait> Worker<'h, 't
     }
 
     fn is_stopped(&self) -> bool {
-        let board = self.shared.lock(self.rt);
-        board.is_stopped()
+        self.shared.lock(self.rt).is_stopped()
     }
 
     // Puts a band into the worker's queue of the mail once there is room. False, and the band is let go, where the board is
@@ -213,15 +205,16 @@ impl<'h, 't, L: RunLedger, M: Ledger, D: Ledger, G: Gate, R: Wait> Worker<'h, 't
         Some(told)
     }
 
-    // Tells the board what the work came to, in one hold of the lock. The printer is called where a frame can be shown then. What
-    // the board has left over is given back, to be let go once the lock isn't wanted.
+    // Tells the board what the work came to. The printer is called where a frame can be shown then. What the board has left over is
+    // given back, to be let go once the lock isn't wanted.
+    #[inline(always)]
     fn tell(
         &self,
         told: BoardStep<'t>,
         crowd: &mut Crowd,
         share: &mut Share<L>,
         draws: &mut Share<D>,
-    ) -> Result<(Delivered, Spent<'t>), Cause>
+    ) -> Result<(Delivered, Option<Spent<'t>>), Cause>
         requires own { IsToldIn self.now.session.now told }
         requires part { (0 < share.old.parts) × (0 < draws.old.parts) }
         ensures part { (share.new.parts ≡ share.old.parts) × (draws.new.parts ≡ draws.old.parts) }
@@ -230,23 +223,20 @@ impl<'h, 't, L: RunLedger, M: Ledger, D: Ledger, G: Gate, R: Wait> Worker<'h, 't
         ensures drawn { OnOk result (draws.new.amount ≡ draws.old.amount + draws_ended told.entry) }
     {
         let ended = draws_in(&told);
-        let mut board = self.shared.lock_in_turn(self.rt, crowd);
-        let handed_in = board.hand_in(self.number, told, share, draws);
-        let spent = board.take_spent();
-        // Nothing else makes a frame ready to be shown.
-        let shows = ended != 0 && board.may_show();
-        drop(board);
-        if shows {
-            self.shared.waiting.printer.call_one();
-        }
-        match handed_in {
-            Ok(()) => Ok((Delivered::Told, spent)),
+        let hold = self.shared.lock_in_turn(self.rt, crowd);
+        match hold.hand_in(self.number, told, share, draws) {
+            Ok(HandedIn { shows, spent }) => {
+                if shows {
+                    self.shared.waiting.printer.call_one();
+                }
+                Ok((Delivered::Told, Some(spent)))
+            }
             Err(BoardFault::Stopped) => {
                 if ended != 0 {
                     // Its band is put and not told. Who stopped the board has a cause that goes before this one.
                     return Err(Cause::Stranger);
                 }
-                Ok((Delivered::Stopped, spent))
+                Ok((Delivered::Stopped, None))
             }
             Err(fault) => Err(cause_of(fault)),
         }
@@ -275,8 +265,7 @@ impl<'h, 't, L: RunLedger, M: Ledger, D: Ledger, G: Gate, R: Wait> Worker<'h, 't
         let Some(told) = self.put_drawn(step, putter) else {
             return Ok((Delivered::Stopped, None));
         };
-        let (delivered, spent) = self.tell(told, crowd, share, draws)?;
-        Ok((delivered, Some(spent)))
+        self.tell(told, crowd, share, draws)
     }
 
     // Works on tasks until the board is done or stopped.

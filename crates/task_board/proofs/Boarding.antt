@@ -26,13 +26,13 @@ use Rattle.frame_params.specs.declared.task.Task.{Task}
 use Rattle.task_board.specs.Boards.{Played, jobs_of, setup_in, state_in, with_event, Happens, IsStart, IsResume, Starts, Resumes, IsOn, IsBeginning, NeedsBeginning, IsRefused, IsTakeRefused, IsEmitRefused, NoOther, IsBoard}
 use Rattle.frame_state.specs.Names.{QuestionOf}
 use Rattle.frame_state.specs.Contents.{questions_in, seen, memory_before, world_after, memories_after}
-use Rattle.job_results.specs.Dones.{game_done, job_done, IsOtherDone, IsDoneAt}
-use Rattle.job_results.specs.declared.done.Done.{Done}
-use Rattle.job_results.specs.declared.done.Done.TheVariants.{Turned, Thought, Way, Drawn}
+use Rattle.task_board.specs.Dones.{game_done, job_done, IsOtherDone, IsDoneAt}
+use Rattle.task_board.specs.declared.done.Done.{Done}
+use Rattle.task_board.specs.declared.done.Done.TheVariants.{Turned, Thought, Way, Drawn}
 use Rattle.board_model.specs.Stored.{store}
 use Rattle.board_model.specs.Needed.{HasParts, IsThere}
 use Rattle.job_scheduler.specs.Numbers.{IsWithinLimits}
-use Rattle.job_results.specs.Shelf.{Shelved, Stores, sizes}
+use Rattle.task_board.specs.Shelf.{Shelved, Stores, sizes}
 use Rattle.task_board.proofs.Sized.{shelf_of, there_of, stored_next}
 use Rattle.task_board.specs.Given.{MayBeTakenUp}
 use Rattle.task_board.specs.Parked.{IsOtherParked}

@@ -4,7 +4,7 @@ use denote.Param.Send.{IsSend, sendable}
 use Rattle.std.proofs.Crossing.{crosses}
 use Rattle.job_scheduler.proofs.jobs.JobLog.TheSendSync.{the_send as job_scheduler}
 use Rattle.frame_state.proofs.Crossing.{session}
-use Rattle.job_results.proofs.Crossing.{shelf}
+use Rattle.task_board.proofs.ResultsCrossing.{shelf}
 use Rattle.task_board.specs.contracts.board.TaskBoard as TaskBoard
 
 pub board : (κ : NamedLft) → IsSend (TaskBoard.the_row κ)

@@ -15,7 +15,7 @@ use Rattle.job_scheduler.specs.Looks.{Always, IsGivenTo, IsPlace, as_pick}
 use Rattle.job_scheduler.specs.declared.next.Next.{Next}
 use Rattle.job_scheduler.specs.declared.next.Next.TheVariants as next
 use Rattle.job_scheduler.specs.declared.board_fault.BoardFault.TheVariants.{OutOfMemory}
-use Rattle.job_results.specs.Shelf.{Shelved}
+use Rattle.task_board.specs.Shelf.{Shelved}
 use Rattle.task_board.specs.Boards.{Played, setup_in, state_in, pick_in, Happens, IsBoard, IsTaken, IsTakeRefused}
 use Rattle.task_board.specs.Found.{IsFound, event_of, job_next, step_next}
 use Rattle.task_board.specs.Given.{MayBeTakenUp}

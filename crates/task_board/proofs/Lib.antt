@@ -6,3 +6,10 @@ pub mod Beginning
 pub mod Handing
 pub mod Idling
 pub mod Crossing
+pub mod Parting
+pub mod Shelving
+pub mod SameSizes
+pub mod Handed
+pub mod GoingOn
+pub mod ResultsCrossing
+pub mod Texts

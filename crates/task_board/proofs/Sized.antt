@@ -6,8 +6,8 @@ use Rattle.job_core.specs.Core.{IsLegal, IsLegalList}
 use Rattle.board_model.specs.Stored.{store, stored_after}
 use Rattle.board_model.specs.Needed.{HasParts, IsThere}
 use Rattle.board_model.proofs.Stores.{needed_is_there, places_are, stored_more}
-use Rattle.job_results.specs.Shelf.{Shelved, sizes}
-use Rattle.job_results.proofs.SameSizes.{same_parts, same_store, same_there}
+use Rattle.task_board.specs.Shelf.{Shelved, sizes}
+use Rattle.task_board.proofs.SameSizes.{same_parts, same_store, same_there}
 use Rattle.task_board.specs.Boards.{Played, setup_in, state_in}
 
 abbrev pub shelf_of : Played → Shelved

@@ -19,7 +19,7 @@ use Rattle.board_model.specs.Stored.{stored_after}
 use Rattle.job_scheduler.specs.Numbers.{Numbers, IsWithinLimits}
 use Rattle.job_scheduler.specs.Logged.{Logged, setup_of}
 use Rattle.job_scheduler.specs.declared.board_fault.BoardFault.{BoardFault}
-use Rattle.job_results.specs.Shelf.{Shelved}
+use Rattle.task_board.specs.Shelf.{Shelved}
 use Rattle.job_scheduler.specs.declared.board_fault.BoardFault.TheVariants.{Stopped, NoWorker, Busy, NotRunning, WrongResult, Illegal, OutOfMemory}
 
 -- the game, the numbers of the run, and the events so far

@@ -10,9 +10,9 @@ use Rattle.frame_params.specs.declared.think_step.ThinkStep.TheVariants.{Ended, 
 use Rattle.job_scheduler.specs.declared.board_fault.BoardFault.{BoardFault}
 use Rattle.job_scheduler.specs.declared.board_fault.BoardFault.TheVariants.{Illegal}
 use Rattle.task_board.specs.Boards.{Played, state_in, Happens, IsDoneByLogic, IsRefused, NoOther}
-use Rattle.job_results.specs.Dones.{IsOtherDone}
+use Rattle.task_board.specs.Dones.{IsOtherDone}
 use Rattle.task_board.specs.Parked.{IsOtherParked}
-use Rattle.job_results.specs.declared.done.Done.TheVariants.{Turned as TurnedDone, Thought as ThoughtDone, Way as WayDone, Drawn as DrawnDone}
+use Rattle.task_board.specs.declared.done.Done.TheVariants.{Turned as TurnedDone, Thought as ThoughtDone, Way as WayDone, Drawn as DrawnDone}
 
 -- a frame that begins has spread, or holds
 abbrev pub HasBegun : (old new : Played) → ℕ → Type 0

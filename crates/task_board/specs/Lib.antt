@@ -5,3 +5,7 @@ pub mod Parked
 pub mod HandedIn
 pub mod Given
 pub mod Setups
+pub mod Parts
+pub mod Shelf
+pub mod ShelfCode
+pub mod Dones

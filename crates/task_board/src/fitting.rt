@@ -1,15 +1,16 @@
 ghost use Rattle.std.specs.Prelude.{◌≡◌, ◌<◌, ◌⊎◌, true, false, ◌↔◌, IsTrue};
 ghost use Rattle.job_core.specs.declared.names.JobName.TheVariants.{Think};
 ghost use Rattle.frame_state.specs.Contents.{questions_in};
-ghost use Rattle.job_results.specs.Dones.{job_done};
+ghost use Rattle.task_board.specs.Dones.{job_done};
 
+use crate::done::Done;
 use frame_params::Parked;
 use job_core::names::JobName;
 use job_queues::is_same;
-use job_results::Done;
 use job_scheduler::Held;
 
 // Whether it is the end of this job.
+#[inline(always)]
 pub(crate) fn is_of(done: &Done, job: JobName) -> bool
     ensures { IsTrue result ↔ (job_done done.now ≡ job) }
 {
@@ -20,6 +21,7 @@ pub(crate) fn is_of(done: &Done, job: JobName) -> bool
 }
 
 // Whether a parked tick is that of the job and the question at which a worker stands.
+#[inline(always)]
 pub(crate) fn is_parked_at(parked: &Parked, held: Held) -> bool
     ensures here { result ≡ true → (Think parked.now.frame parked.now.agent ≡ held.job) × (parked.now.question ≡ held.step)
         × (held.step < questions_in parked.now.game parked.now.frame parked.now.agent) }

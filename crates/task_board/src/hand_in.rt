@@ -1,14 +1,15 @@
 ghost use Rattle.std.specs.Prelude.{◌≡◌, IfErr, OnOk, OnErr};
 ghost use Rattle.job_core.specs.declared.names.Event.TheVariants.{Finish};
 ghost use Rattle.task_board.specs.Boards.{Happens, IsRefused};
-ghost use Rattle.job_results.specs.Dones.{game_done, job_done, step_done, IsOtherDone};
+ghost use Rattle.task_board.specs.Dones.{game_done, job_done, step_done, IsOtherDone};
 ghost use Rattle.frame_params.specs.BoardSteps.{IsToldIn};
 ghost use Rattle.task_board.specs.HandedIn.{HasBegun, IsBeginRefused, IsHandedIn, IsHandInRefused};
 
 use super::board::TaskBoard;
 use super::refused::Refused;
+use crate::done::Done;
+use crate::spent::Spent;
 use frame_params::{BoardStep, LogicStep, ThinkStep};
-use job_results::{Done, Spent};
 use job_scheduler::BoardFault;
 
 impl<'t> TaskBoard<'t> {
@@ -54,6 +55,7 @@ impl<'t> TaskBoard<'t> {
     }
 
     /// Takes out what the last events have left over: it is let go sooner outside a lock.
+    #[inline(always)]
     pub fn take_spent(&mut self) -> Spent<'t>
         ensures { self.new ≡ self.old }
     {

@@ -4,14 +4,16 @@ ghost use Rattle.job_core.specs.declared.names.Event.TheVariants.{Ask, Finish};
 ghost use Rattle.job_core.specs.Core.{Runs, IsLegal};
 ghost use Rattle.job_scheduler.specs.declared.board_fault.BoardFault.TheVariants.{OutOfMemory};
 ghost use Rattle.task_board.specs.Boards.{setup_in, state_in, Happens, IsRefused, IsEmitRefused, IsShown, IsStopped};
-ghost use Rattle.job_results.specs.Dones.{game_done, job_done, IsOtherDone};
+ghost use Rattle.task_board.specs.Dones.{game_done, job_done, IsOtherDone};
 ghost use Rattle.task_board.specs.Parked.{IsOtherParked};
 
 use super::board::TaskBoard;
 use super::fitting::{is_of, is_parked_at};
 use super::refused::Refused;
+use crate::done::Done;
+use crate::shelf::next_of;
+use crate::shown::Shown;
 use frame_params::Parked;
-use job_results::{Done, Shown, next_of};
 use job_scheduler::BoardFault;
 
 // The calls that hand a result in, and those that hand one out.
@@ -179,7 +181,7 @@ impl<'t> TaskBoard<'t> {
         let Ok(()) = self.jobs.finish(worker, done.name()) else {
             return Err(done);
         };
-        self.shelf.keep(self.alloc, done, next);
+        self.shelf.keep(done, next);
         Ok(())
     }
 

@@ -1,1 +1,3 @@
 pub mod OneMore
+pub mod Apart
+pub mod Ends

@@ -1,2 +1,5 @@
 pub mod Jobs
 pub mod Trace
+pub mod Slices
+pub mod Laws
+pub mod Spans

@@ -4,10 +4,11 @@ use Rattle.std.specs.List.{flat_map}
 use Rattle.job_core.specs.declared.names.Event.{Event}
 use Rattle.job_core.specs.declared.names.Event.TheVariants.{Emit}
 use Rattle.job_scheduler.specs.Numbers.{Numbers}
-use Rattle.event_slices.specs.declared.slice.Slice.{Slice}
-use Rattle.event_slices.specs.declared.span.FrameSpan.{FrameSpan}
-use Rattle.event_slices.specs.Slices.{slices_of}
-use Rattle.event_slices.specs.Spans.{frame_of, has_frame}
+use Rattle.trace_text.specs.declared.slice.Slice.{Slice}
+use Rattle.trace_text.specs.declared.span.FrameSpan.{FrameSpan}
+use Rattle.trace_text.specs.Slices.{slices_of}
+use Rattle.job_core.specs.Names.{frame_of}
+use Rattle.trace_text.specs.Spans.{has_frame}
 use Rattle.trace_text.specs.Jobs.{where_text, what_text, how_text, arrow_text}
 use Rattle.trace_text.specs.declared.whole.TheConstants.{HEAD, TAIL}
 use Rattle.trace_text.specs.declared.lanes.TheConstants.{LANE, WORKER, PRINTER, NAME_END, PLACE, PLACE_END}

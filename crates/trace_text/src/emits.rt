@@ -3,7 +3,7 @@ ghost use Rattle.std.specs.Prelude.{◌≡◌, ◌++◌, OnOk};
 ghost use Rattle.trace_text.specs.Trace.{told_text, emit_text, shown_text, emits_from};
 
 use crate::parts::{push_two, push_where};
-use event_slices::FrameSpan;
+use crate::span::FrameSpan;
 use job_core::names::Event;
 use std::alloc::AllocError;
 

@@ -1,12 +1,18 @@
-//! A list of events in Chrome's trace format.
+//! The stretches in which workers run jobs, read off the events of a log, and such a list in Chrome's trace format.
 #![tactic(auto)]
 
 mod arrows;
 mod emits;
 mod lanes;
 mod parts;
+mod reading;
+mod slice;
+pub mod slice_laws;
 mod slices;
+mod span;
 mod whole;
 
-pub use event_slices::FrameSpan;
+pub use reading::{begun_at, slices_of};
+pub use slice::Slice;
+pub use span::{FrameSpan, frame_of};
 pub use whole::trace;

@@ -4,7 +4,8 @@ ghost use Rattle.trace_text.specs.Trace.{slice_text, text_within, slices_text};
 
 use crate::arrows::push_arrow;
 use crate::parts::{push_number, push_text, push_where, thread_of};
-use event_slices::{FrameSpan, Slice, frame_of};
+use crate::slice::Slice;
+use crate::span::{FrameSpan, frame_of};
 use job_core::names::{Event, JobName};
 use std::alloc::AllocError;
 

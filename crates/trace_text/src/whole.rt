@@ -1,11 +1,13 @@
 ghost use Rattle.std.specs.Prelude.{◌≡◌, ◌++◌, OnOk, IfOk};
-ghost use Rattle.event_slices.specs.Slices.{slices_of};
+ghost use Rattle.trace_text.specs.Slices.{slices_of};
 ghost use Rattle.trace_text.specs.Trace.{lanes_text, slices_text, emits_from, trace_of};
 
 use crate::emits::push_emits;
 use crate::lanes::push_lanes;
+use crate::reading::slices_of;
+use crate::slice::Slice;
 use crate::slices::push_slices;
-use event_slices::{FrameSpan, Slice, slices_of};
+use crate::span::FrameSpan;
 use job_core::names::Event;
 use job_scheduler::Settings;
 use std::alloc::{AllocError, Global};

@@ -2,10 +2,10 @@
 use crate::sample::Played;
 use anyhow::{Context, Result};
 use case_files::Taker;
-use event_slices::FrameSpan;
 use std::alloc::Global;
 use std::io::Write;
 use std::str::Lines;
+use trace_text::FrameSpan;
 use view_commands::page_bytes;
 
 /// What the page's element that begins so holds: it ends at the first `<`.

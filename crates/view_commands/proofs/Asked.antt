@@ -2,7 +2,7 @@
 use Rattle.std.proofs.Common.{◌≡◌, ◌<◌, ◌∙◌, ℕ, List, [], Option, Some, None, sym, ap, subst, length, codes, arith}
 use Rattle.clap.specs.Words.{Row, Text, first_of}
 use Rattle.words.specs.Program.{IsNumber}
-use Rattle.event_slices.specs.declared.span.FrameSpan.{FrameSpan}
+use Rattle.trace_text.specs.declared.span.FrameSpan.{FrameSpan}
 use Rattle.view_commands.specs.declared.request.View.{View}
 use Rattle.view_commands.specs.declared.request.View.TheVariants.{Trace, Page}
 use Rattle.view_commands.specs.Program.{AreFrames, AsksForPage, AsksToTrace, Enters, IsReading}

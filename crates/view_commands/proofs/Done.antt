@@ -2,8 +2,8 @@
 use Rattle.std.proofs.Common.{ℕ, List, Option}
 use Rattle.std.specs.Prelude.{⊤, Result, Ok, Err, OnOk, OnErr}
 use Rattle.clap.specs.Words.{Text}
-use Rattle.event_slices.specs.declared.span.FrameSpan.{FrameSpan}
-use Rattle.program_fault.specs.declared.fault.Fault.{Fault}
+use Rattle.trace_text.specs.declared.span.FrameSpan.{FrameSpan}
+use Rattle.words.specs.declared.program_fault.Fault.{Fault}
 use Rattle.view_commands.specs.declared.request.View.{View}
 use Rattle.view_commands.specs.declared.request.View.TheVariants.{Trace, Page}
 use Rattle.view_commands.specs.Doing.{IsDone, IsPartDone, TracesSome, TracesSomePart}

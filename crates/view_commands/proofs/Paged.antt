@@ -11,14 +11,14 @@ use Rattle.job_scheduler.specs.Numbers.{Numbers}
 use Rattle.log_text.specs.Readings.{IsLog}
 use Rattle.task_board.specs.Setups.{setup_for}
 use Rattle.replay_log.specs.Replays.{IsIllegalAt, emits}
-use Rattle.event_slices.specs.declared.span.FrameSpan.{FrameSpan}
-use Rattle.frame_changes.specs.Films.{film_of}
-use Rattle.log_film.specs.Frames.{frames_to}
-use Rattle.log_film.specs.declared.filmed.Filmed.{Filmed}
-use Rattle.log_film.specs.Filming.{IsFilmOf}
+use Rattle.trace_text.specs.declared.span.FrameSpan.{FrameSpan}
+use Rattle.page_text.specs.Films.{film_of}
+use Rattle.page_text.specs.Frames.{frames_to}
+use Rattle.page_text.specs.declared.filmed.Filmed.{Filmed}
+use Rattle.page_text.specs.Filming.{IsFilmOf}
 use Rattle.page_text.specs.Pages.{page_of}
-use Rattle.program_fault.specs.declared.fault.Fault.{Fault}
-use Rattle.program_fault.specs.declared.fault.Fault.TheVariants.{Incomplete}
+use Rattle.words.specs.declared.program_fault.Fault.{Fault}
+use Rattle.words.specs.declared.program_fault.Fault.TheVariants.{Incomplete}
 use Rattle.level_text.specs.Games.{spelled_game}
 use Rattle.view_commands.specs.Paging.{IsDoneLog, IsPageFault, IsShort, IsShowingFault, IsWhole, Pages, PagesPart, PagesSome, PagesSomePart, Sources, page_for}
 

@@ -23,7 +23,7 @@ use Rattle.level_text.specs.Levels.{json_of, of_json, of_parts, spelled, unless_
 use Rattle.level_text.specs.Parts.{parts_of}
 use Rattle.level_text.specs.Scripts.{script_of}
 use Rattle.level_text.specs.declared.script_file.ScriptFault.{ScriptFault}
-use Rattle.log_film.specs.Frames.{IsPlayable}
+use Rattle.page_text.specs.Frames.{IsPlayable}
 use Rattle.level_text.specs.Games.{of_both, spelled_game}
 
 -- ---- a level's parts have no fault

@@ -6,7 +6,7 @@ use Rattle.byte_streams.specs.Streams.{AppendsPart}
 use Rattle.job_core.specs.declared.names.Event.{Event}
 use Rattle.job_scheduler.specs.Numbers.{Numbers}
 use Rattle.log_text.specs.Readings.{IsLog}
-use Rattle.event_slices.specs.declared.span.FrameSpan.{FrameSpan}
+use Rattle.trace_text.specs.declared.span.FrameSpan.{FrameSpan}
 use Rattle.trace_text.specs.Trace.{trace_of}
 use Rattle.view_commands.specs.Doing.{Traces, TracesPart, TracesSome, TracesSomePart}
 

@@ -5,11 +5,11 @@ use Rattle.byte_streams.specs.Streams.{AppendsPart}
 use Rattle.job_core.specs.declared.names.Event.{Event}
 use Rattle.job_scheduler.specs.Numbers.{Numbers}
 use Rattle.log_text.specs.Readings.{IsLog}
-use Rattle.event_slices.specs.declared.span.FrameSpan.{FrameSpan}
+use Rattle.trace_text.specs.declared.span.FrameSpan.{FrameSpan}
 use Rattle.trace_text.specs.Trace.{trace_of}
-use Rattle.program_fault.specs.declared.fault.Fault.{Fault}
-use Rattle.program_fault.specs.declared.fault.Fault.TheVariants.{Write}
-use Rattle.program_fault.specs.Faults.{IsReadingFault}
+use Rattle.words.specs.declared.program_fault.Fault.{Fault}
+use Rattle.words.specs.declared.program_fault.Fault.TheVariants.{Write}
+use Rattle.words.specs.Faults.{IsReadingFault}
 use Rattle.view_commands.specs.Paging.{PagesSome, PagesSomePart}
 use Rattle.view_commands.specs.declared.request.View.{View}
 use Rattle.view_commands.specs.declared.request.View.TheVariants.{Trace, Page}

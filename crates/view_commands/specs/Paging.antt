@@ -9,14 +9,14 @@ use Rattle.job_scheduler.specs.Numbers.{Numbers}
 use Rattle.log_text.specs.Readings.{IsLog}
 use Rattle.task_board.specs.Setups.{setup_for}
 use Rattle.replay_log.specs.Replays.{IsIllegalAt, emits}
-use Rattle.event_slices.specs.declared.span.FrameSpan.{FrameSpan}
-use Rattle.frame_changes.specs.Films.{film_of}
-use Rattle.log_film.specs.Frames.{frames_to}
-use Rattle.log_film.specs.declared.filmed.Filmed.{Filmed}
+use Rattle.trace_text.specs.declared.span.FrameSpan.{FrameSpan}
+use Rattle.page_text.specs.Films.{film_of}
+use Rattle.page_text.specs.Frames.{frames_to}
+use Rattle.page_text.specs.declared.filmed.Filmed.{Filmed}
 use Rattle.page_text.specs.Pages.{page_of}
-use Rattle.program_fault.specs.declared.fault.Fault.{Fault}
-use Rattle.program_fault.specs.declared.fault.Fault.TheVariants.{IllegalEvent, Incomplete, OutOfMemory, Write}
-use Rattle.program_fault.specs.Faults.{IsReadingFault}
+use Rattle.words.specs.declared.program_fault.Fault.{Fault}
+use Rattle.words.specs.declared.program_fault.Fault.TheVariants.{IllegalEvent, Incomplete, OutOfMemory, Write}
+use Rattle.words.specs.Faults.{IsReadingFault}
 use Rattle.level_text.specs.Games.{spelled_game}
 
 -- what the files of a level and a script hold, and what the level is called

@@ -4,7 +4,7 @@ use Rattle.clap.specs.Words.{App, IsAmong, Row, Text, fault_of, first_of, new_ap
 use Rattle.clap.specs.declared.error.kind.ErrorKind.TheVariants as kinds
 use Rattle.clap.specs.declared.parser.matches.ArgMatches.{ArgMatches}
 use Rattle.clap.specs.Simple.{on_top}
-use Rattle.event_slices.specs.declared.span.FrameSpan.{FrameSpan}
+use Rattle.trace_text.specs.declared.span.FrameSpan.{FrameSpan}
 use Rattle.words.specs.declared.fault.WordsFault.{WordsFault}
 use Rattle.words.specs.declared.fault.WordsFault.TheVariants.{Help}
 use Rattle.words.specs.Program.{default_rule, path_rule, word_rule, IsNumber, IsOptional, IsText}

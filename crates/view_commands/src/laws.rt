@@ -1,7 +1,7 @@
 // Laws over the definitions alone.
 ghost use Rattle.std.specs.Prelude.{◌≡◌, ℕ, List, Some, length};
-ghost use Rattle.frame_changes.specs.Films.{film_of, frames_in};
-ghost use Rattle.log_film.specs.Frames.{frames_to, size_of, texts_from};
+ghost use Rattle.page_text.specs.Films.{film_of, frames_in};
+ghost use Rattle.page_text.specs.Frames.{frames_to, size_of, texts_from};
 ghost use Rattle.game_rules.specs.Game.{Game};
 ghost use Rattle.game_rules.specs.Text.{texts};
 ghost use Rattle.page_text.specs.Escapes.{escaped};

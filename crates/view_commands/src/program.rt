@@ -1,6 +1,6 @@
 // What the viewer does with its words.
 ghost use Rattle.std.specs.Prelude.{◌≡◌, ◌≢◌, map, string_bytes, OnOk, OnErr};
-ghost use Rattle.event_slices.specs.declared.span.FrameSpan.{FrameSpan};
+ghost use Rattle.trace_text.specs.declared.span.FrameSpan.{FrameSpan};
 ghost use Rattle.view_commands.specs.Doing.{TracesSome, TracesSomePart, IsDone, IsPartDone};
 ghost use Rattle.view_commands.specs.Paging.{PagesSome, PagesSomePart};
 ghost use Rattle.view_commands.specs.Program.{AreRefused, AsksForPage, AsksToTrace};
@@ -9,10 +9,10 @@ use crate::paging::page_files;
 use crate::reading::read_view_words;
 use crate::request::View;
 use crate::tracing::trace_file;
-use program_fault::{Fault, end_with, refuse_words};
 use std::alloc::Global;
 use std::io::Write;
 use std::rt::Files;
+use words::{Fault, end_with, refuse_words};
 
 /// Does what words ask for.
 fn act<H: Files, W: Write>(rt: &H, alloc: Global, view: View, out: &mut W) -> Result<(), Fault>

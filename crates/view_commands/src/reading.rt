@@ -6,8 +6,8 @@ ghost use Rattle.view_commands.specs.Program.{IsReading, Enters, AreFrames, IsAs
 use crate::arguments::{SUBCOMMANDS, program_command};
 use crate::request::View;
 use clap::ArgMatches;
-use event_slices::FrameSpan;
 use std::alloc::Global;
+use trace_text::FrameSpan;
 use words::{WordsFault, fault_of, missing, number_entry, optional_entry, text_entry};
 
 fn frames_entry(alloc: Global, matches: &ArgMatches<'_>) -> Result<FrameSpan, WordsFault>

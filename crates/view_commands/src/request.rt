@@ -1,4 +1,4 @@
-use event_slices::FrameSpan;
+use trace_text::FrameSpan;
 
 /// What the viewer's words ask for. Each text is the path of a file.
 #[derive(Debug, Drop)]

@@ -1,17 +1,31 @@
-//! The words after the program's name, and what they ask for; and what other programs need to read theirs in the same way.
+//! What a program reads of its words and of the files that they name, and what it says of what went wrong; and what other
+//! programs need to read theirs in the same way.
 #![tactic(auto)]
 
 mod arguments;
+mod ending;
 mod entries;
 mod fault;
+mod files;
+mod level_fault;
+mod log_fault;
 mod negative;
+mod program_fault;
 mod reading;
 mod request;
+mod script_fault;
+mod session;
 mod table;
+mod unread;
 
 pub use arguments::{new_command, with_subcommands};
+pub use ending::{end_with, refuse_words};
 pub use entries::{missing, number_entry, optional_entry, text_entry};
 pub use fault::WordsFault;
+pub use files::{put, read_file, read_optional_file, write_file};
+pub use program_fault::Fault;
 pub use reading::{fault_of, read_words};
 pub use request::Words;
+pub use session::session_of;
 pub use table::{Argument, Form, Subcommand};
+pub use unread::{refuse_unread_words, words_given};

@@ -1,91 +1,154 @@
-use Rattle.std.proofs.Common.{◌≡◌, ◌≢◌, ◌+◌, ◌*◌, ◌<◌, ◌++◌, [], ℕ, List, map, arith, ap, sym, ◌∙◌, get_or, length, vec_len, add-mul, one-mul, ⊎_elim}
-use Rattle.std.proofs.lemmas.List.{append-nil, get_or-map}
-use Rattle.crossbeam_queue.specs.Passes.{ruled_capacity}
-use Rattle.band_mail.specs.Mails.{Putting, all_put, of_worker}
-use Rattle.band_mail.specs.Queues.{pass_name, queue_name, all_taken, taken_by}
+use Rattle.std.proofs.Common.{◌≡◌, ◌+◌, ◌*◌, ◌<◌, ◌++◌, [], ◌∷◌, List, refl, arith, ap, sym, ◌∙◌, get_or, length, vec_len, add-mul, one-mul, subst, append_assoc}
+use Rattle.std.proofs.lemmas.List.{append-nil, get_or-map, length-map}
+use Rattle.std.proofs.lemmas.List.Elements.{All-set}
+use Rattle.crossbeam_queue.specs.Passes.{view, ruled_capacity}
+use Rattle.band_mail.specs.Mails.{Putting, of_worker}
+use Rattle.band_mail.specs.Queues.{pass_name, queue_name, queue_names, all_taken, taken_by}
 use Rattle.band_mail.specs.Relay.{MayTake}
-use Rattle.band_mail.proofs.Named.{as_many, same_name, at_place, popped, kept, same_or_not}
-use Rattle.band_mail.proofs.OfWorkers.{of_worker-append, of_worker-same, of_worker-other}
+use Rattle.band_mail.proofs.Named.{as_many, same_name, at_place}
+use Rattle.band_mail.proofs.Taken.{pass_names-set, all_taken-other}
+use Rattle.band_mail.proofs.AnyOrder.{AreDrained, one_of_all, one_more, delivered}
 use Rattle.band_mail.proofs.queues.drain_all.Goals as goal
+
+nothing : {X : Type 0} (xs : List X) → length xs ≡ 0 → xs ≡ []
+nothing [] e = refl
+nothing (x ∷ xs) e = absurd (omega (arith, e))
+
+pub loop-putter-init : goal.loop-putter-init
+loop-putter-init g c =
+    let queues = c.args.queues.now.items in
+    let named : length (queue_names queues) ≡ length queues = length-map queues queue_name in
+    let many : vec_len c.args.putters ≡ vec_len c.args.queues.now = omega (arith, c.requires.putters.many, named, c.args.putters.ok.0, c.args.queues.now.ok.0) in
+    let room : vec_len c.args.putters * c.args.capacity ≡ vec_len c.args.queues.now * c.args.capacity = ap (λ n. n * c.args.capacity) many in
+    record {
+      names = refl;
+      may = c.requires.may;
+      room = omega (arith, c.requires.room.1, room, ap length c.requires.room.0, c.args.into.now.ok.0);
+      drained = ([], sym (append-nil c.args.putters.items), record { others = λ w none. (ap (of_worker w) c.requires.room.0, refl); these = λ w one. absurd (omega (arith, one)) });
+    }
+
+pub index-queue-requires : goal.index-queue-requires
+index-queue-requires g c =
+    let queues = c.args.queues.now.items in
+    let inv = c.loop-putter.invariant in
+    let x : Putting _ = record { worker = c.putter.inside.worker; queue = c.putter.inside.pass.table_id; put = (view c.putter.inside.pass).put } in
+    let left = c.pop.new.self.items in
+    let split = inv.drained.1 ∙ ap (λ l. l ++ inv.drained.0) (c.in-Some.ensures.items ∙ ap (λ (p : Putting _). left ++ p ∷ []) (sym c.putter.view_is)) in
+    let mine = one_of_all (queue_names queues) c.args.putters.items left inv.drained.0 x c.requires.putters split in
+    let named : length (queue_names queues) ≡ length queues = length-map queues queue_name in
+    omega (arith, mine.0.0, named, c.args.queues.now.ok.0)
+
+pub index_mut-pass-requires : goal.index_mut-pass-requires
+index_mut-pass-requires g c =
+    let queues = c.args.queues.now.items in
+    let inv = c.loop-putter.invariant in
+    let x : Putting _ = record { worker = c.putter.inside.worker; queue = c.putter.inside.pass.table_id; put = (view c.putter.inside.pass).put } in
+    let left = c.pop.new.self.items in
+    let split = inv.drained.1 ∙ ap (λ l. l ++ inv.drained.0) (c.in-Some.ensures.items ∙ ap (λ (p : Putting _). left ++ p ∷ []) (sym c.putter.view_is)) in
+    let mine = one_of_all (queue_names queues) c.args.putters.items left inv.drained.0 x c.requires.putters split in
+    let named : length (queue_names queues) ≡ length queues = length-map queues queue_name in
+    let second : length c.loop-putter.passes.items ≡ length queues = as_many pass_name queue_name c.loop-putter.passes.items queues (inv.names ∙ c.requires.passes) in
+    omega (arith, mine.0.0, named, second, c.loop-putter.passes.ok.0)
 
 pub drain-requires-clause-passes : goal.drain-requires-clause-passes
 drain-requires-clause-passes g c =
-    let m = c.len-worker.result in
-    let here : m ≡ vec_len c.pop.new.self = c.len-worker.ensures in
-    let inv = c.loop-putter.invariant in
-    let x = c.in-Some.putter in
-    let y = c.in-Some-pop.takes in
-    let one = c.in-Some.ensures.cases in
-    let two = c.in-Some-pop.ensures.cases in
     let queues = c.args.queues.now.items in
-    let name_of = λ (p : Putting _). p.queue in
-    let first : length c.args.putters.items ≡ length queues = as_many name_of queue_name c.args.putters.items queues c.requires.putters in
-    let second : length c.args.passes.items ≡ length queues = as_many pass_name queue_name c.args.passes.items queues c.requires.passes in
-    let at : get_or c.args.putters.items m x ≡ x = sym (inv.putters_are m x (omega (arith, here, one))) ∙ popped _ c.pop.new.self.items x x m c.in-Some.ensures.items (omega (arith, here, c.pop.new.self.ok.0)) in
-    let by : get_or c.args.passes.items m y ≡ y =
-    sym (inv.passes_are m y (omega (arith, here, one))) ∙ popped _ c.pop-in-Some.new.self.items y y m c.in-Some-pop.ensures.items (omega (arith, here, one, two, inv.as_many, c.pop-in-Some.new.self.ok.0)) in
-    let low : m < length c.args.putters.items = omega (arith, here, one, inv.fewer, c.args.putters.ok.0) in
-    let mine = same_name name_of queue_name c.args.putters.items queues m x _ c.requires.putters low (sym at) c.index-queue.ensures in
-    let theirs = same_name pass_name queue_name c.args.passes.items queues m y _ c.requires.passes (omega (arith, low, first, second)) (sym by) c.index-queue.ensures in
-    let may = at_place MayTake c.args.passes.items m y c.requires.may (omega (arith, low, first, second)) (sym by) in
-    ((ap name_of c.putter.view_is ∙ mine, c.putter.invariant.0), (theirs, may.0))
+    let passes = c.loop-putter.passes.items in
+    let inv = c.loop-putter.invariant in
+    let w = c.putter.inside.worker in
+    let x : Putting _ = record { worker = w; queue = c.putter.inside.pass.table_id; put = (view c.putter.inside.pass).put } in
+    let left = c.pop.new.self.items in
+    let split = inv.drained.1 ∙ ap (λ l. l ++ inv.drained.0) (c.in-Some.ensures.items ∙ ap (λ (p : Putting _). left ++ p ∷ []) (sym c.putter.view_is)) in
+    let mine = one_of_all (queue_names queues) c.args.putters.items left inv.drained.0 x c.requires.putters split in
+    let named : length (queue_names queues) ≡ length queues = length-map queues queue_name in
+    let names = inv.names ∙ c.requires.passes in
+    let second : length passes ≡ length queues = as_many pass_name queue_name passes queues names in
+    let below : w < length queues = omega (arith, mine.0.0, named) in
+    let low : w < length passes = omega (arith, below, second) in
+    let at = c.index_mut-pass.ensures.value in
+    let theirs = same_name pass_name queue_name passes queues w _ _ names low at c.index-queue.ensures in
+    let puts = sym mine.0.1 ∙ get_or-map queue_name queues w c.index-queue.result.now x.queue below ∙ ap queue_name (sym c.index-queue.ensures) in
+    ((theirs, (at_place MayTake passes w _ inv.may low at).0), (puts, c.putter.invariant.0))
+
+pub drain-requires-clause-may : goal.drain-requires-clause-may
+drain-requires-clause-may g c =
+    let queues = c.args.queues.now.items in
+    let inv = c.loop-putter.invariant in
+    let w = c.putter.inside.worker in
+    let x : Putting _ = record { worker = w; queue = c.putter.inside.pass.table_id; put = (view c.putter.inside.pass).put } in
+    let left = c.pop.new.self.items in
+    let split = inv.drained.1 ∙ ap (λ l. l ++ inv.drained.0) (c.in-Some.ensures.items ∙ ap (λ (p : Putting _). left ++ p ∷ []) (sym c.putter.view_is)) in
+    let mine = one_of_all (queue_names queues) c.args.putters.items left inv.drained.0 x c.requires.putters split in
+    let named : length (queue_names queues) ≡ length queues = length-map queues queue_name in
+    let below : w < length queues = omega (arith, mine.0.0, named) in
+    let passes = c.loop-putter.passes.items in
+    let second : length passes ≡ length queues = as_many pass_name queue_name passes queues (inv.names ∙ c.requires.passes) in
+    let low : w < length passes = omega (arith, below, second) in
+    ((at_place MayTake passes w _ inv.may low c.index_mut-pass.ensures.value).1, c.putter.invariant.1)
 
 pub drain-requires-clause-room : goal.drain-requires-clause-room
 drain-requires-clause-room g c =
-    let m = c.len-worker.result in
-    let here : m ≡ vec_len c.pop.new.self = c.len-worker.ensures in
-    let cap = c.args.capacity in
-    let one = c.in-Some.ensures.cases in
-    let inv = c.loop-putter.invariant in
     let queues = c.args.queues.now.items in
-    let name_of = λ (p : Putting _). p.queue in
-    let first : length c.args.putters.items ≡ length queues = as_many name_of queue_name c.args.putters.items queues c.requires.putters in
-    let low : m < length queues = omega (arith, here, one, inv.fewer, first, c.args.putters.ok.0) in
-    let fits : ruled_capacity c.index-queue.result.now ≡ cap = at_place (λ q. ruled_capacity q ≡ cap) queues m _ c.requires.capacity low c.index-queue.ensures in
-    let more : vec_len c.loop-putter.putters * cap ≡ m * cap + cap = ap (λ n. n * cap) (sym one) ∙ ap (λ n. (n + 1) * cap) (sym here) ∙ add-mul m 1 cap ∙ ap (λ n. m * cap + n) (one-mul cap) in
+    let inv = c.loop-putter.invariant in
+    let w = c.putter.inside.worker in
+    let x : Putting _ = record { worker = w; queue = c.putter.inside.pass.table_id; put = (view c.putter.inside.pass).put } in
+    let left = c.pop.new.self.items in
+    let split = inv.drained.1 ∙ ap (λ l. l ++ inv.drained.0) (c.in-Some.ensures.items ∙ ap (λ (p : Putting _). left ++ p ∷ []) (sym c.putter.view_is)) in
+    let mine = one_of_all (queue_names queues) c.args.putters.items left inv.drained.0 x c.requires.putters split in
+    let named : length (queue_names queues) ≡ length queues = length-map queues queue_name in
+    let below : w < length queues = omega (arith, mine.0.0, named) in
+    let cap = c.args.capacity in
+    let m = vec_len c.pop.new.self in
+    let fits : ruled_capacity c.index-queue.result.now ≡ cap = at_place (λ q. ruled_capacity q ≡ cap) queues w _ c.requires.capacity below c.index-queue.ensures in
+    let more : vec_len c.loop-putter.putters * cap ≡ m * cap + cap = ap (λ n. n * cap) (sym c.in-Some.ensures.cases) ∙ add-mul m 1 cap ∙ ap (λ n. m * cap + n) (one-mul cap) in
     omega (arith, inv.room, more, fits)
 
 pub loop-putter-preserved : goal.loop-putter-preserved
 loop-putter-preserved g c =
-    let m = c.len-worker.result in
-    let here : m ≡ vec_len c.pop.new.self = c.len-worker.ensures in
-    let inv = c.loop-putter.invariant in
-    let x = c.in-Some.putter in
-    let y = c.in-Some-pop.takes in
-    let cap = c.args.capacity in
-    let one = c.in-Some.ensures.cases in
-    let two = c.in-Some-pop.ensures.cases in
     let queues = c.args.queues.now.items in
-    let name_of = λ (p : Putting _). p.queue in
-    let first : length c.args.putters.items ≡ length queues = as_many name_of queue_name c.args.putters.items queues c.requires.putters in
-    let second : length c.args.passes.items ≡ length queues = as_many pass_name queue_name c.args.passes.items queues c.requires.passes in
-    let at : get_or c.args.putters.items m x ≡ x = sym (inv.putters_are m x (omega (arith, here, one))) ∙ popped _ c.pop.new.self.items x x m c.in-Some.ensures.items (omega (arith, here, c.pop.new.self.ok.0)) in
-    let by : get_or c.args.passes.items m y ≡ y =
-    sym (inv.passes_are m y (omega (arith, here, one))) ∙ popped _ c.pop-in-Some.new.self.items y y m c.in-Some-pop.ensures.items (omega (arith, here, one, two, inv.as_many, c.pop-in-Some.new.self.ok.0)) in
-    let low : m < length c.args.putters.items = omega (arith, here, one, inv.fewer, c.args.putters.ok.0) in
-    let fits : ruled_capacity c.index-queue.result.now ≡ cap = at_place (λ q. ruled_capacity q ≡ cap) queues m _ c.requires.capacity (omega (arith, low, first)) c.index-queue.ensures in
-    let more : vec_len c.loop-putter.putters * cap ≡ m * cap + cap = ap (λ n. n * cap) (sym one) ∙ ap (λ n. (n + 1) * cap) (sym here) ∙ add-mul m 1 cap ∙ ap (λ n. m * cap + n) (one-mul cap) in
-    let less : vec_len c.pop.new.self * cap ≡ m * cap = ap (λ n. n * cap) (sym here) in
-    let left = c.drain.ensures.left in
-    let into = c.loop-putter.into.items in
-    let row : List (ℕ × g.row.T.Denot) = map (λ (z : g.row.T.Denot). (m, z)) left.0 in
-    let now : (k : ℕ) → of_worker k c.drain.new.into.items ≡ of_worker k into ++ of_worker k row = λ k. ap (of_worker k) left.1 ∙ of_worker-append k into row in
-    let other : (k : ℕ) → k ≢ m → of_worker k c.drain.new.into.items ≡ of_worker k into =
-    λ k apart. now k ∙ ap (λ l. of_worker k into ++ l) (of_worker-other k m left.0 (λ e. apart (sym e))) ∙ append-nil (of_worker k into) in
-    let mine : of_worker m c.drain.new.into.items ≡ left.0 =
-    now m ∙ ap (λ l. l ++ of_worker m row) (inv.none m (omega (arith, here, one))) ∙ of_worker-same m left.0 in
-    let put : get_or (all_put c.args.putters.items) m [] ≡ x.put = get_or-map (λ (p : Putting _). p.put) c.args.putters.items m x [] low ∙ ap (λ (p : Putting _). p.put) at in
-    let taken : get_or (all_taken c.args.passes.items) m [] ≡ taken_by y = get_or-map taken_by c.args.passes.items m y [] (omega (arith, low, first, second)) ∙ ap taken_by by in
+    let passes = c.loop-putter.passes.items in
+    let inv = c.loop-putter.invariant in
+    let cap = c.args.capacity in
+    let m = vec_len c.pop.new.self in
+    let w = c.putter.inside.worker in
+    let x : Putting _ = record { worker = w; queue = c.putter.inside.pass.table_id; put = (view c.putter.inside.pass).put } in
+    let left = c.pop.new.self.items in
+    let split = inv.drained.1 ∙ ap (λ l. l ++ inv.drained.0) (c.in-Some.ensures.items ∙ ap (λ (p : Putting _). left ++ p ∷ []) (sym c.putter.view_is)) in
+    let mine = one_of_all (queue_names queues) c.args.putters.items left inv.drained.0 x c.requires.putters split in
+    let named : length (queue_names queues) ≡ length queues = length-map queues queue_name in
+    let second : length passes ≡ length queues = as_many pass_name queue_name passes queues (inv.names ∙ c.requires.passes) in
+    let below : w < length queues = omega (arith, mine.0.0, named) in
+    let low : w < length passes = omega (arith, below, second) in
+    let at = c.index_mut-pass.ensures.value in
+    let may = at_place MayTake passes w _ inv.may low at in
+    let fits : ruled_capacity c.index-queue.result.now ≡ cap = at_place (λ q. ruled_capacity q ≡ cap) queues w _ c.requires.capacity below c.index-queue.ensures in
+    let more : vec_len c.loop-putter.putters * cap ≡ m * cap + cap = ap (λ n. n * cap) (sym c.in-Some.ensures.cases) ∙ add-mul m 1 cap ∙ ap (λ n. m * cap + n) (one-mul cap) in
+    let rest = c.drain.ensures.left in
+    let taken : taken_by c.index_mut-pass.result.now ≡ get_or (all_taken passes) w [] = ap taken_by at ∙ sym (get_or-map taken_by passes w c.index_mut-pass.result.now [] low) in
     record {
-      as_many = omega (arith, one, two, inv.as_many);
-      fewer = omega (arith, one, inv.fewer);
-      putters_are = λ k a low. kept _ c.pop.new.self.items x a k c.in-Some.ensures.items (omega (arith, low, c.pop.new.self.ok.0)) ∙ inv.putters_are k a (omega (arith, low, one));
-      passes_are = λ k b low. kept _ c.pop-in-Some.new.self.items y b k c.in-Some-pop.ensures.items (omega (arith, low, one, two, inv.as_many, c.pop-in-Some.new.self.ok.0)) ∙ inv.passes_are k b (omega (arith, low, one));
-      room = omega (arith, inv.room, more, less, fits, c.drain.ensures.room);
-      none = λ k low. other k (λ e. absurd (omega (arith, here, e, low))) ∙ inv.none k (omega (arith, low, one));
-      rest = λ k from.
-          ⊎_elim
-          (λ (e : k ≡ m). rw (e, put, taken, mine) (sym (ap (λ (p : Putting _). p.put) c.putter.view_is) ∙ left.2))
-          (λ (n : k ≢ m). rw (other k n) (inv.rest k (omega (arith, here, n, from, one))))
-          (same_or_not k m);
+      names = pass_names-set passes w c.drain.new.pass _ at c.drain.ensures.pass.0.0 ∙ inv.names;
+      may = All-set MayTake passes w c.drain.new.pass (c.drain.ensures.pass.0.2 ∙ may.0, c.drain.ensures.pass.1) inv.may;
+      room = omega (arith, inv.room, more, fits, c.drain.ensures.room);
+      drained = (
+        x ∷ inv.drained.0,
+        split ∙ append_assoc left (x ∷ []) inv.drained.0,
+        rw rest.1
+            (one_more (all_taken c.args.passes.items) (all_taken passes) _ inv.drained.0 c.loop-putter.into.items x rest.0 inv.drained.2 mine.1
+            (rest.2 ∙ ap (λ l. l ++ rest.0) taken) (λ k apart. all_taken-other passes w k c.drain.new.pass apart)),
+      );
     }
+
+pub returns : goal.returns
+returns g c =
+    let queues = c.args.queues.now.items in
+    let inv = c.loop-putter.invariant in
+    let none = nothing c.loop-putter.putters.items (omega (arith, c.in_default.ensures.cases, c.loop-putter.putters.ok.0)) in
+    let all = inv.drained.1 ∙ ap (λ l. l ++ inv.drained.0) none in
+    let before = all_taken c.args.passes.items in
+    let now = all_taken c.loop-putter.passes.items in
+    let into = c.loop-putter.into.items in
+    let named : length (queue_names queues) ≡ length queues = length-map queues queue_name in
+    let taken : length before ≡ length c.args.passes.items = length-map c.args.passes.items taken_by in
+    let second : length c.args.passes.items ≡ length queues = as_many pass_name queue_name c.args.passes.items queues c.requires.passes in
+    delivered (queue_names queues) before now c.args.putters.items into c.requires.putters (taken ∙ second ∙ sym named)
+    (subst (λ l. AreDrained before now l into) (sym all) inv.drained.2)

@@ -1,5 +1,5 @@
 use Rattle.commands.proofs.Untouched.{whole_is_part}
-use Rattle.program_fault.proofs.Statuses.{ok_at_zero}
+use Rattle.words.proofs.Statuses.{ok_at_zero}
 use Rattle.commands.proofs.Doing.{part_of, played, played_in_part, replayed, replayed_in_part}
 use Rattle.commands.proofs.program.command.Goals as goal
 

@@ -3,4 +3,4 @@ use Rattle.job_queues.proofs.Places.{first_place_found}
 use Rattle.job_queues.proofs.lane.first_of_fiber.Goals as goal
 
 pub returns : goal.returns
-returns c = rw c.position_of_fiber.ensures (first_place_found (λ other. c.args.fiber == other) c.args.fibers.now.items)
+returns c = rw c.position_of_fiber.ensures (first_place_found (λ other. c.args.fiber == other) c.args.fibers.now)

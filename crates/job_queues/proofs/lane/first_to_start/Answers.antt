@@ -3,4 +3,4 @@ use Rattle.job_queues.proofs.Places.{first_place_found}
 use Rattle.job_queues.proofs.lane.first_to_start.Goals as goal
 
 pub returns : goal.returns
-returns c = rw c.position_to_start.ensures (first_place_found (may_start c.args.free) c.args.jobs.now.items)
+returns c = rw c.position_to_start.ensures (first_place_found (may_start c.args.free) c.args.jobs.now)

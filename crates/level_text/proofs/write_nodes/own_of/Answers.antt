@@ -1,5 +1,5 @@
 use Rattle.std.proofs.Common.{ap, sym, ◌∙◌, ◌+◌, Some}
-use Rattle.level_text.specs.Begun.{mark}
+use Rattle.level_text.specs.Written.{mark}
 use Rattle.level_text.proofs.NodesOwn.{own_count, own_place, own_signal, own_agent}
 use Rattle.level_text.proofs.write_nodes.own_of.Goals as goal
 

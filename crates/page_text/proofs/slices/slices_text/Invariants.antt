@@ -1,5 +1,5 @@
 use Rattle.std.proofs.Common.{◌≡◌, ◌++◌, drop}
-use Rattle.event_slices.specs.Slices.{slices_from}
+use Rattle.trace_text.specs.Slices.{slices_from}
 use Rattle.page_text.specs.Slices.{lines_from, slices_text}
 use Rattle.page_text.proofs.slices.slices_text.Given as goal
 

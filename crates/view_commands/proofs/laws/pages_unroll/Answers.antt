@@ -1,7 +1,7 @@
 use Rattle.std.proofs.Common.{◌∙◌, ap, length}
-use Rattle.frame_changes.specs.Films.{film_of, frames_in}
-use Rattle.log_film.specs.Frames.{frames_to, size_of, texts_from}
-use Rattle.log_film.proofs.Films.{unmarked_film, unrolls}
+use Rattle.page_text.specs.Films.{film_of, frames_in}
+use Rattle.page_text.specs.Frames.{frames_to, size_of, texts_from}
+use Rattle.page_text.proofs.Films.{unmarked_film, unrolls}
 use Rattle.page_text.proofs.Marks.{escaped_same}
 use Rattle.view_commands.proofs.Playable.{playable}
 use Rattle.view_commands.proofs.laws.pages_unroll.Goals as goal

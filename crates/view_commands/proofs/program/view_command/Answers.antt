@@ -1,4 +1,4 @@
-use Rattle.program_fault.proofs.Statuses.{ok_at_zero}
+use Rattle.words.proofs.Statuses.{ok_at_zero}
 use Rattle.view_commands.proofs.Done.{paged, paged_in_part, part_of, traced, traced_in_part}
 use Rattle.view_commands.proofs.program.view_command.Goals as goal
 

@@ -1,6 +1,6 @@
 use Rattle.std.proofs.Common.{◌∙◌, sym, subst}
 use Rattle.log_text.specs.Readings.{IsLog}
-use Rattle.program_fault.proofs.Statuses.{on_err_map}
+use Rattle.words.proofs.Statuses.{on_err_map}
 use Rattle.view_commands.proofs.Traced.{on_ok_map, whole_text, first_text}
 use Rattle.view_commands.proofs.tracing.trace_bytes.Goals as goal
 

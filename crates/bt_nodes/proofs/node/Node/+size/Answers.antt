@@ -6,38 +6,38 @@ use Rattle.bt_nodes.proofs.Alike.{listed_smaller, decorated_smaller, item_smalle
 use Rattle.bt_nodes.proofs.Below.{size-listed, size-decorated}
 use Rattle.bt_nodes.proofs.node.Node.+size.Goals as goal
 
-pub size-returns-in-Some : goal.size-returns-in-Some
-size-returns-in-Some g t c = omega (arith, size-decorated (plain c.args.self.now) (plain c.in-Some.child.now) c.in-Some.ensures)
+pub size_to-returns-in-Some : goal.size_to-returns-in-Some
+size_to-returns-in-Some g t c = omega (arith, size-decorated (plain c.args.self.now) (plain c.in-Some.child.now) c.in-Some.ensures)
 
-pub size-returns-in-None : goal.size-returns-in-None
-size-returns-in-None g t c =
+pub size_to-returns-in-None : goal.size_to-returns-in-None
+size_to-returns-in-None g t c =
     omega (arith, size-listed (plain c.args.self.now) c.in-None.ensures, ap sizes c.listed.ensures)
 
-pub size-size-requires : goal.size-size-requires
-size-size-requires g t c κs within =
+pub size_to-size_to-requires : goal.size_to-size_to-requires
+size_to-size_to-requires g t c κs within =
     let small = decorated_smaller (plain c.args.self.now) (plain c.in-Some.child.now) c.in-Some.ensures in
     (omega (arith, small), within)
 
-pub size-sizes-requires : goal.size-sizes-requires
-size-sizes-requires g t c κs within =
+pub size_to-sizes_to-requires : goal.size_to-sizes_to-requires
+size_to-sizes_to-requires g t c κs within =
     let small = listed_smaller (plain c.args.self.now) in
     (omega (arith, small, ap sizes c.listed.ensures), within)
 
-pub sizes-size-requires : goal.sizes-size-requires
-sizes-size-requires g t c κs within =
+pub sizes_to-size_to-total-requires : goal.sizes_to-size_to-total-requires
+sizes_to-size_to-total-requires g t c κs within =
     let small = item_smaller c.args.nodes.now c.nodes.node-index c.node-item.result c.nodes-test.true c.node-item.is in
     (omega (arith, small), within)
 
-pub sizes-returns : goal.sizes-returns
-sizes-returns g t c =
+pub sizes_to-returns : goal.sizes_to-returns
+sizes_to-returns g t c =
     omega (
       arith,
       c.nodes.invariant.left,
       ap sizes (plains-end c.args.nodes.now c.nodes.node-index c.nodes-test.false),
     )
 
-pub sizes-nodes-preserved : goal.sizes-nodes-preserved
-sizes-nodes-preserved g t c = record {
+pub sizes_to-nodes-preserved : goal.sizes_to-nodes-preserved
+sizes_to-nodes-preserved g t c = record {
   fits = omega arith;
   left =
       omega (

@@ -7,13 +7,23 @@ use Rattle.frame_params.proofs.CutThoughts.{way_found}
 use Rattle.frame_state.proofs.KnownWays.{IsMade, unread_way}
 use Rattle.frame_params.proofs.path_task.PathTask.answered.Goals as goal
 
-pub returns-in-Some-known-clause-way : goal.returns-in-Some-known-clause-way
-returns-in-Some-known-clause-way g c =
+pub returns-in-Some-clause-way : goal.returns-in-Some-clause-way
+returns-in-Some-clause-way g c =
     let x = c.self.inside in
     let s : FrameOf = c.deref-start.result.now in
     let asks : AsksFor s.game s.frame x.agent x.question x.place =
     subst (λ (q : FrameOf). AsksFor q.game q.frame x.agent x.question x.place) (sym c.deref-start.ensures) c.self.invariant.1 in
     (way_found s.game s.frame x.agent x.question x.place c.way_by.result asks c.way_by.ensures).way_is
+    ∙ ap (λ (q : FrameOf). way_in q.game q.frame x.agent x.question) c.deref-start.ensures
+    ∙ ap (λ (q : QuestionOf). way_in q.game q.frame q.agent q.question) c.self.view_is
+
+pub returns-in-Some-known_way-clause-way : goal.returns-in-Some-known_way-clause-way
+returns-in-Some-known_way-clause-way g c =
+    let x = c.self.inside in
+    let s : FrameOf = c.deref-start.result.now in
+    let asks : AsksFor s.game s.frame x.agent x.question x.place =
+    subst (λ (q : FrameOf). AsksFor q.game q.frame x.agent x.question x.place) (sym c.deref-start.ensures) c.self.invariant.1 in
+    (way_found s.game s.frame x.agent x.question x.place c.in-Some-known_way.answer asks c.in-Some-known_way.ensures).way_is
     ∙ ap (λ (q : FrameOf). way_in q.game q.frame x.agent x.question) c.deref-start.ensures
     ∙ ap (λ (q : QuestionOf). way_in q.game q.frame q.agent q.question) c.self.view_is
 

@@ -7,10 +7,10 @@ use Rattle.frame_state.proofs.draw_task.DrawTask.of.Goals as goal
 
 pub invariant_of-result : goal.invariant_of-result
 invariant_of-result c =
-    let g = c.turn.inside.session.now in
-    let f = c.turn.inside.frame in
-    let world = c.in_ok-try_clone.ensures ∙ c.turn.invariant.1.world_is in (
+    let g = c.turned.inside.session.now in
+    let f = c.turned.inside.frame in
+    let world = c.in_ok-try_clone.ensures ∙ c.turned.invariant.1.world_is in (
       world,
       is_there g f (arc_value c.in_ok-try_clone.field-0) c.args.band world
-          (subst (λ (p : FrameOf). c.args.band < bands_in p.game) (sym c.turn.view_is) c.requires),
+          (subst (λ (p : FrameOf). c.args.band < bands_in p.game) (sym (c.turned.view_is ∙ c.turned-turned.ensures)) c.requires),
     )

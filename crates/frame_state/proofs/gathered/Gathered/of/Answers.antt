@@ -5,7 +5,6 @@ use Rattle.bt_nodes.specs.declared.node.Status.{Status}
 use Rattle.frame_state.specs.declared.kept_memory.KeptMemory.{KeptMemory}
 use Rattle.frame_state.specs.Names.{FrameOf}
 use Rattle.frame_state.specs.Contents.{thought_for, AllFit}
-use Rattle.frame_state.specs.Distances.{KnownOf}
 use Rattle.frame_state.specs.Logic.{AreGathered}
 use Rattle.frame_state.proofs.Turning.{all_intents, all_statuses, all_memories, all_fit}
 use Rattle.frame_state.proofs.gathered.Gathered.of.Goals as goal
@@ -16,9 +15,8 @@ invariant_of-result c =
     let parts = c.args.thoughts.now in
     let all = c.requires in
     let kept = c.in_ok-new-2.ensures.ok in
-    let known = ap (λ (k : KnownOf). k.game) (c.in_ok-share-2.ensures ∙ c.params.invariant) ∙ ap (λ (q : FrameOf). q.game) c.params.view_is in
     subst
-    (λ (q : FrameOf). AreGathered q c.in_ok-intents_of.field-0.items (arc_value c.in_ok-new.field-0).items (arc_value c.in_ok-new-2.field-0).items c.in_ok-share-2.field-0)
+    (λ (q : FrameOf). AreGathered q c.in_ok-intents_of.field-0.items (arc_value c.in_ok-new.field-0).items (arc_value c.in_ok-new-2.field-0).items c.in_ok-found.field-0.items)
     (sym c.in_ok-share.ensures) (record {
       intents_are = c.in_ok-intents_of.ensures ∙ all_intents p parts all;
       statuses_are = ap (λ (v : Vec Status Global). v.items) c.in_ok-new.ensures.ok ∙ c.in_ok-statuses.ensures ∙ all_statuses p parts all;
@@ -26,5 +24,5 @@ invariant_of-result c =
       fit = subst (λ (v : Vec KeptMemory Global). AllFit p.game.trees v.items) (sym kept)
           (all_fit p parts all c.in_ok-memories.memories.items
           (ap length c.in_ok-memories.ensures.value ∙ length-map parts (λ q. (thought_for q).memory)) c.in_ok-memories.ensures.fit);
-      known_is = known;
+      found_are = λ k d l. (c.in_ok-found.ensures k d l).0;
     })

@@ -1,7 +1,7 @@
 use Rattle.std.proofs.Common.{None, is_some, refl}
 use Rattle.std.proofs.lemmas.List.{map-set}
 use Rattle.job_core.specs.declared.names.Event.TheVariants.{Finish}
-use Rattle.job_results.specs.Dones.{job_done}
+use Rattle.task_board.specs.Dones.{job_done}
 use Rattle.job_board.proofs.Staying.{has_place, works_after}
 use Rattle.job_board.proofs.board.Board.finish_own.Goals as goal
 

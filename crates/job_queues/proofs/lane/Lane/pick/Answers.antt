@@ -1,21 +1,23 @@
-use Rattle.std.proofs.Common.{◌≡◌, [], Some, find, option_map, ap, sym, ◌∙◌, arith}
+use Rattle.std.proofs.Common.{◌∷◌, ℕ, Some, length, refl, sym, ap, ◌∙◌, arith}
 use Rattle.job_queues.specs.Names.{picked}
 use Rattle.job_queues.specs.Lanes.{may_start}
-use Rattle.job_queues.proofs.Picks.{none_given, new_given, no_item, first_of_name}
+use Rattle.job_queues.specs.Lines.{Line}
+use Rattle.job_queues.proofs.Picks.{ready_there, new_there}
 use Rattle.job_queues.proofs.lane.Lane.pick.Goals as goal
 
-pub returns-in_err-at-clause-value : goal.returns-in_err-at-clause-value
-returns-in_err-at-clause-value c =
-    let empty : c.args.self.now.ready.items ≡ [] = no_item _ (omega (arith, c.in_default.ensures.cases)) in
-    ap (option_map picked) c.from_residual.ensures ∙ sym (none_given (may_start c.args.free) _ _ empty c.in_err-at.ensures.value)
+pub step-requires : goal.step-requires
+step-requires c =
+    let told = ap (λ p. Some (picked p)) (sym c.in-Ready.is) ∙ c.in_ok-fiber.ensures in
+    let there = ready_there (may_start c.args.free) c.args.self.now.ready.items c.args.self.now.fresh.items c.in-Ready.fiber told in
+    let long = ap length there in
+    omega (arith, long)
 
-pub returns-clause-value : goal.returns-clause-value
-returns-clause-value c =
-    let empty : c.args.self.now.ready.items ≡ [] = no_item _ (omega (arith, c.in_default.ensures.cases)) in
-    sym (new_given (may_start c.args.free) _ _ c.in_ok-job.job empty (c.in_ok-at.ensures.value c.in_ok-job.job ∙ ap Some (sym c.in_ok-job.ensures.value)))
+pub returns-in-Ready-clause-after : goal.returns-in-Ready-clause-after
+returns-in-Ready-clause-after c =
+    let there = ready_there (may_start c.args.free) _ _ c.in-Ready.fiber (ap (λ p. Some (picked p)) (sym c.in-Ready.is) ∙ c.in_ok-fiber.ensures) in
+    (there ∙ ap (λ fibers. c.in-Ready.fiber ∷ fibers) (sym c.step.ensures.items), refl)
 
-pub returns-clause-after : goal.returns-clause-after
-returns-clause-after c =
-    let found : find (may_start c.args.free) c.args.self.now.fresh.items ≡ Some c.in_ok-job.job = c.in_ok-at.ensures.value c.in_ok-job.job ∙ ap Some (sym c.in_ok-job.ensures.value) in
-    let h = first_of_name (may_start c.args.free) c.in_ok-job.job c.args.self.now.fresh.items found in
-    (sym c.in_default.ensures.items, h.1, c.in_ok-job.ensures.items ∙ (sym c.in_ok-at.ensures.rest ∙ h.2))
+pub returns-in-New-clause-after : goal.returns-in-New-clause-after
+returns-in-New-clause-after c =
+    let there = new_there (may_start c.args.free) _ _ c.in-New.job (ap (λ p. Some (picked p)) (sym c.in-New.is) ∙ c.in_ok-fiber.ensures) in
+    (ap (λ (l : Line ℕ). l.items) c.take_out-there.ensures.ready, there, c.take_out-there.ensures.fresh)

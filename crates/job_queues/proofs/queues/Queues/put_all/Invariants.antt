@@ -1,5 +1,4 @@
 use Rattle.std.proofs.Common.{◌≡◌, ◌+◌, ◌-◌, ◌≤◌, ℕ, List, length, drop}
-use Rattle.std.specs.VecDeque.{deque_len, deque_capacity}
 use Rattle.job_core.specs.declared.names.JobName.{JobName}
 use Rattle.board_model.specs.Board.{put_all}
 use Rattle.job_queues.specs.Waiting.{BoundedQueues, with_fresh}
@@ -13,8 +12,8 @@ with_all q jobs = with_fresh q (put_all q.queues.fresh jobs)
 
 -- room for so many new jobs, and for each ready fiber
 pub record HasRoom (fibers more : ℕ) (lane : Lane) : Type 0 where
-  pub fresh : deque_len lane.fresh + more ≤ deque_capacity lane.fresh
-  pub ready : fibers ≤ deque_capacity lane.ready
+  pub fresh : lane.fresh.used + more ≤ lane.fresh.room
+  pub ready : fibers ≤ lane.ready.room
 
 abbrev pub invariant-loop-job : goal.invariant-loop-job
 invariant-loop-job l = record {

@@ -4,6 +4,7 @@ use Rattle.job_core.specs.Core.{Shown}
 use Rattle.board_model.specs.Board.{Core, fiber_of, first_row}
 use Rattle.job_scheduler.specs.contracts.scheduler.Scheduler.{the_view}
 use Rattle.job_scheduler.proofs.Entries.{run_worker, run_fiber, run_held, some_case}
+use Rattle.counters.proofs.Changes.{on_ok}
 use Rattle.job_scheduler.proofs.Writes.{waited}
 use Rattle.job_scheduler.proofs.scheduler.Scheduler.hold.Goals as goal
 
@@ -23,7 +24,7 @@ pub returns-clause-ok : goal.returns-clause-ok
 returns-clause-ok c = λ s sized.
     let table = rw (← c.self.view_is) at c.requires.table in
     let fiber : c.fiber_of-fiber.result ≡ fiber_of (the_view c.self.inside).seats c.args.worker = c.fiber_of-fiber.ensures ∙ ap (λ (m : Core). fiber_of m.seats c.args.worker) (sym c.self.view_is) in
-    let kept = (rw c.in-Ok-Kept.field-0-is at c.in-Ok-Kept.ensures.answer).1 in
+    let kept = on_ok c.wait.result c.if-is_err.ensures.negation c.wait.ensures.kept in
     let slots : length c.args.self.now.slots ≡ length c.self.inside.slots.items = ap (λ (m : Core). length m.slots) (sym c.self.view_is) in
     let many : c.len.result ≡ s.slots = omega (arith, slots, sized, c.len.ensures) in
     let held = rw (← c.self.view_is) at (run_held c.args.self.now.seats c.args.worker (Logic c.args.frame) 0 c.requires.runs) in

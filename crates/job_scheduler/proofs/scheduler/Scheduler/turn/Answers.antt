@@ -27,7 +27,7 @@ leave-requires-clause-fiber c =
 pub returns-in_default-clause-unchanged : goal.returns-in_default-clause-unchanged
 returns-in_default-clause-unchanged c =
     let key = rw (← c.self.view_is) at c.requires.key in
-    rw (c.without.ensures, c.in_default.ensures.unchanged, c.in_ok-raise.ensures.ok, raise_undone (Draws c.args.frame) c.args.bands c.self.inside.counters key, c.self.view_is) refl
+    rw (c.cancel.ensures, c.in_default.ensures.unchanged, c.in_ok-raise.ensures.ok, raise_undone (Draws c.args.frame) c.args.bands c.self.inside.counters key, c.self.view_is) refl
 
 pub returns-clause-ok : goal.returns-clause-ok
 returns-clause-ok c = λ s many named.

@@ -1,9 +1,18 @@
-use Rattle.std.proofs.Common.{◌≡◌, ◌+◌, ◌<◌, Some, length, map, sym, ap, ◌∙◌, arith}
+use Rattle.std.proofs.Common.{◌≡◌, ℕ, ◌+◌, ◌<◌, Some, length, map, subst, sym, ap, ◌∙◌, arith}
 use Rattle.grid_world.specs.Map.{count_up}
 use Rattle.game_rules.specs.Text.{frame_text}
 use Rattle.frame_state.specs.Contents.{band_in, bands_in}
+use Rattle.run_printer.specs.Tables.{AreFirstBands}
 use Rattle.run_printer.proofs.Drawn.{same_game, written_is}
 use Rattle.run_printer.proofs.printer.Printer.next_text.Goals as goal
+
+pub show-requires-clause-drawn : goal.show-requires-clause-drawn
+show-requires-clause-drawn g c = λ game own.
+    let next = c.gather.new.self.next in
+    let many : length next.items ≡ bands_in c.args.session.now = omega (arith, next.ok.0, c.in_ok-gather.ensures.all, c.bands_of.ensures) in (
+      subst (λ (k : ℕ). AreFirstBands game k next.items) c.requires.frame (c.in_ok-gather.ensures.first game own),
+      many ∙ ap bands_in (same_game c.args.session.now game (sym c.requires.run ∙ own)),
+    )
 
 pub returns-in-Ok-clause-text : goal.returns-in-Ok-clause-text
 returns-in-Ok-clause-text g c =

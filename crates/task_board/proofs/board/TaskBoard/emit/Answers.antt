@@ -2,7 +2,7 @@ use Rattle.std.proofs.Common.{Ok, Err, sym, ap, subst}
 use Rattle.job_core.specs.declared.names.Event.TheVariants.{Emit}
 use Rattle.job_scheduler.specs.Looks.{IsToShow}
 use Rattle.job_scheduler.specs.declared.board_fault.BoardFault.TheVariants.{OutOfMemory}
-use Rattle.job_results.specs.Shelf.{Shelved}
+use Rattle.task_board.specs.Shelf.{Shelved}
 use Rattle.task_board.specs.Boards.{IsEmitRefused, IsShown, state_in}
 use Rattle.task_board.proofs.Boarding.{there_for, known, next, kept_after, happens, seen_as, emit_refused}
 use Rattle.task_board.proofs.board.TaskBoard.emit.Goals as goal

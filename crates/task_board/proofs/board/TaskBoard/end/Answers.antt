@@ -1,9 +1,9 @@
 use Rattle.std.proofs.Common.{sym, ap, ◌∙◌}
 use Rattle.job_core.specs.declared.names.Event.TheVariants.{Finish}
 use Rattle.task_board.specs.Boards.{Played, setup_in, state_in}
-use Rattle.job_results.specs.Shelf.{Shelved}
-use Rattle.job_results.specs.Dones.{job_done}
-use Rattle.job_results.proofs.Handed.{before_last, wanted}
+use Rattle.task_board.specs.Shelf.{Shelved}
+use Rattle.task_board.specs.Dones.{job_done}
+use Rattle.task_board.proofs.Handed.{before_last, wanted}
 use Rattle.task_board.proofs.Boarding.{job_running, there_for, next, kept_after, happens, seen_as}
 use Rattle.task_board.proofs.board.TaskBoard.end.Goals as goal
 

@@ -7,8 +7,8 @@ use Rattle.job_core.specs.declared.names.Event.TheVariants.{Ask}
 use Rattle.task_board.specs.Boards.{Played, state_in}
 use Rattle.task_board.proofs.Boarding.{an_agent, there_for, few_questions, next_asked, kept_after, happens, seen_as}
 use Rattle.job_core.specs.Core.{step_of}
-use Rattle.job_results.specs.Shelf.{Shelved}
-use Rattle.job_results.proofs.Handed.{parked_stores}
+use Rattle.task_board.specs.Shelf.{Shelved}
+use Rattle.task_board.proofs.Handed.{parked_stores}
 use Rattle.task_board.proofs.board.TaskBoard.park.Goals as goal
 
 pub tree_of-requires : goal.tree_of-requires

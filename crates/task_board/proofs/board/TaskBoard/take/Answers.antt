@@ -2,7 +2,7 @@ use Rattle.std.proofs.Common.{◌≡◌, Ok, Err, None, refl, sym, ap, ◌∙◌
 use Rattle.board_model.specs.Board.{Held}
 use Rattle.frame_params.specs.Tasks.{IsTaskAt}
 use Rattle.job_scheduler.specs.Looks.{Always, IsGivenTo}
-use Rattle.job_results.specs.Shelf.{Shelved, sizes}
+use Rattle.task_board.specs.Shelf.{Shelved, sizes}
 use Rattle.board_model.specs.Needed.{HasParts}
 use Rattle.job_scheduler.specs.declared.board_fault.BoardFault.TheVariants.{OutOfMemory}
 use Rattle.task_board.specs.Boards.{Played, IsTaken, IsTakeRefused}

@@ -1,6 +1,6 @@
 use Rattle.std.proofs.Common.{subst}
 use Rattle.frame_params.specs.Tasks.{IsTaskAt}
-use Rattle.job_results.specs.Shelf.{Shelved}
+use Rattle.task_board.specs.Shelf.{Shelved}
 use Rattle.task_board.proofs.Boarding.{task_there}
 use Rattle.task_board.proofs.board.TaskBoard.task_of.Goals as goal
 

@@ -1,3 +1,0 @@
-pub mod Slices
-pub mod Laws
-pub mod Spans

@@ -1,5 +1,0 @@
-use Rattle.frame_changes.proofs.NoMark.{no_mark}
-use Rattle.frame_changes.proofs.laws.films_have_no_mark.Goals as goal
-
-pub returns : goal.returns
-returns c = λ feeds agents frames few are other. no_mark feeds agents frames few are other

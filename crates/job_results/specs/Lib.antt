@@ -1,4 +1,0 @@
-pub mod Parts
-pub mod Shelf
-pub mod ShelfCode
-pub mod Dones

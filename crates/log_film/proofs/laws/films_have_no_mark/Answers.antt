@@ -1,5 +1,0 @@
-use Rattle.log_film.proofs.Films.{unmarked_film}
-use Rattle.log_film.proofs.laws.films_have_no_mark.Goals as goal
-
-pub returns : goal.returns
-returns c = λ g n can. unmarked_film g n can

@@ -1,0 +1,13 @@
+use crate::ledger::RunLedger;
+use crate::run_task::RunTask;
+
+/// What a worker that looks for a task is given.
+#[derive(Drop)]
+pub enum Given<'t, L: RunLedger> {
+    /// A task, and whether another one can be taken.
+    Task(RunTask<'t, L>, bool),
+    /// Others have all that can be done.
+    Nothing,
+    /// The board is done or stopped: there is no task any more.
+    Over,
+}

@@ -1,0 +1,318 @@
+ghost use Rattle.std.specs.Prelude.{◌≡◌, ◌<◌, ◌≤◌, ◌%◌, ◌+◌, ℕ, IfOk, Some, None, true, false, length, replicate, slice_get, slice_set};
+ghost use Rattle.std.specs.Option.{IsSomeAnd};
+ghost use Rattle.job_core.specs.Core.{State};
+ghost use Rattle.job_core.specs.declared.names.Event.TheVariants.{Spread, Finish, Emit};
+ghost use Rattle.job_core.specs.declared.names.JobName.TheVariants.{Logic, Path};
+ghost use Rattle.board_model.specs.Stored.{stored_first, asked};
+ghost use Rattle.board_model.specs.Needed.{HasParts, HasTurn, IsInSlot, IsAsked};
+ghost use Rattle.frame_state.specs.Names.{frame_of};
+ghost use Rattle.frame_params.specs.Tasks.{IsTaskAt};
+ghost use Rattle.task_board.specs.Shelf.{Stores, IsWanted, IsBeforeLast, next_done, sizes};
+ghost use Rattle.task_board.specs.Dones.{game_done, job_done};
+
+use super::asking::Asking;
+use super::done::Done;
+use super::shown::Shown;
+use super::spent::Spent;
+use super::thoughts::Thoughts;
+use frame_params::{
+    DrawTask, FrameParams, LogicTask, Parked, PathTask, Slots, Task, ThinkTask, Turn, Way,
+};
+use game_session::Session;
+use job_core::names::JobName;
+use std::alloc::{AllocError, Global};
+use std::marker::Model;
+use std::mem;
+
+/// What the work of the frames under way came to, for the tasks that are made of it.
+pub struct Shelf<'t> {
+    session: &'t Session,
+    // Those of the next frame to spread.
+    next: Option<FrameParams<'t>>,
+    slots: Slots<'t>,
+    // By agent number.
+    asking: Vec<Asking<'t>>,
+    thoughts: Thoughts<'t>,
+    // Of the frames in the slots.
+    turns: Vec<Option<Turn<'t>>>,
+    // What is left over of the last events, until somebody takes it.
+    spent: Spent<'t>,
+}
+
+impl<'t> Drop for Shelf<'t> {
+    fn drop(self) {
+        let Self {
+            session: _,
+            next: _,
+            slots: _,
+            asking: _,
+            thoughts: _,
+            turns: _,
+            spent: _,
+        } = self;
+    }
+}
+
+impl<'t> Model for Shelf<'t> {
+    ghost use Rattle.task_board.specs.Shelf.{Shelved, IsShelf, stored_as};
+    ghost use Rattle.task_board.specs.ShelfCode.{shelved_code};
+
+    ghost Value = { Shelved };
+
+    ghost coded = { shelved_code };
+
+    ghost view = { λ s. record { game = s.session.now; stored = stored_as s.next s.slots s.asking.items s.thoughts s.turns.items } };
+
+    ghost invariant = { λ s. IsShelf s.session.now s.next s.slots s.asking.items s.thoughts s.turns.items };
+}
+
+fn no_questions<'t>(
+    alloc: Global,
+    session: &'t Session,
+    agents: u32,
+) -> Result<Vec<Asking<'t>>, AllocError>
+    ensures { IfOk result (λ asking. asking.items ≡ replicate agents (record { game = session.now; asked = None })) }
+{
+    let mut asking = Vec::with_capacity(alloc, agents as usize)?;
+    'agents: for _agent in 0..agents {
+        asking.push(Asking::new(session))?;
+    }
+    Ok(asking)
+}
+
+fn no_turns<'t>(alloc: Global, slots: u32) -> Result<Vec<Option<Turn<'t>>>, AllocError>
+    ensures { IfOk result (λ turns. turns.items ≡ replicate slots None) }
+{
+    let mut turns = Vec::with_capacity(alloc, slots as usize)?;
+    'slots: for _slot in 0..slots {
+        turns.push(None)?;
+    }
+    Ok(turns)
+}
+
+/// The parameters of the frame after a turn's, where a job came to a turn.
+#[inline(always)]
+pub fn next_of<'t>(alloc: Global, done: &Done<'t>) -> Result<Option<FrameParams<'t>>, AllocError>
+    requires { IsBeforeLast done.now }
+    ensures { IfOk result (λ next. next ≡ next_done done.now) }
+{
+    match done {
+        Done::Turned(turn) => Ok(Some(FrameParams::after(alloc, turn)?)),
+        Done::Thought(_) | Done::Way(_) | Done::Drawn(_) => Ok(None),
+    }
+}
+
+impl<'t> Shelf<'t> {
+    /// A shelf of nothing but the parameters of the first frame, with room for each slot and agent.
+    pub fn new(
+        alloc: Global,
+        session: &'t Session,
+        slots: u32,
+        agents: u32,
+    ) -> Result<Shelf<'t>, AllocError>
+        requires slots { 1 ≤ slots }
+        requires agents { agents ≡ length session.now.trees }
+        ensures game { IfOk result (λ shelf. shelf.game ≡ session.now) }
+        ensures slots { IfOk result (λ shelf. (sizes shelf).slots ≡ slots) }
+        ensures first { IfOk result (λ shelf. shelf.stored ≡ stored_first (sizes shelf)) }
+    {
+        Ok(Shelf {
+            session,
+            next: Some(FrameParams::first(alloc, session)?),
+            slots: Slots::new(alloc, slots)?,
+            asking: no_questions(alloc, session, agents)?,
+            thoughts: Thoughts::new(alloc, session, agents)?,
+            turns: no_turns(alloc, slots)?,
+            spent: Spent::nothing(),
+        })
+    }
+
+    // The parameters of a frame that is in its slot.
+    #[inline(always)]
+    fn params(&self, frame: u32) -> &FrameParams<'t>
+        requires { IsInSlot (sizes self.now) self.now.stored frame }
+        ensures { result.now ≡ frame_of self.now.game frame }
+    {
+        match self.slots.at(frame) {
+            Some(params) => params,
+            None => unreachable!(),
+        }
+    }
+
+    // The last question of an agent.
+    #[inline(always)]
+    fn asking_of(&self, agent: u32) -> &Asking<'t>
+        requires { agent < length self.now.stored.asking }
+        ensures { (result.now.game ≡ self.now.game) × (slice_get self.now.stored.asking agent ≡ Some result.now.asked) }
+    {
+        &self.asking[agent as usize]
+    }
+
+    // The turn of a frame that is not shown yet.
+    #[inline(always)]
+    fn turn_of(&self, frame: u32) -> &Turn<'t>
+        requires { HasTurn (sizes self.now) self.now.stored frame }
+        ensures { result.now ≡ frame_of self.now.game frame }
+    {
+        match &self.turns[frame as usize % self.turns.len()] {
+            Some(turn) => turn,
+            None => unreachable!(),
+        }
+    }
+
+    // The task of a frame's logic that stands at this step.
+    #[inline(always)]
+    fn logic_task(&self, alloc: Global, frame: u32, step: u32) -> Result<LogicTask<'t>, AllocError>
+        requires { HasParts (sizes self.now) self.now.stored (JobName.Logic frame) step }
+        ensures { IfOk result (λ task. IsTaskAt self.now.game (JobName.Logic frame) step (Task.Logic task)) }
+    {
+        if step == 0 {
+            return LogicTask::start(alloc, self.session, frame);
+        }
+        self.thoughts.logic(alloc, self.params(frame))
+    }
+
+    // The task of an agent's thought that stands at this step.
+    #[inline(always)]
+    fn think_task(
+        &self,
+        alloc: Global,
+        frame: u32,
+        agent: u32,
+        step: u32,
+    ) -> Result<ThinkTask<'t>, AllocError>
+        requires { HasParts (sizes self.now) self.now.stored (JobName.Think frame agent) step }
+        ensures { IfOk result (λ task. IsTaskAt self.now.game (JobName.Think frame agent) step (Task.Think task)) }
+    {
+        let params = self.params(frame);
+        if step == 0 {
+            return ThinkTask::start(alloc, params, agent);
+        }
+        let asking = self.asking_of(agent);
+        let task = ThinkTask::resume(alloc, params, asking.parked(), asking.way())?;
+        Ok(task)
+    }
+
+    /// The task of a job that stands at this step.
+    #[inline(always)]
+    pub fn task(&self, alloc: Global, job: JobName, step: u32) -> Result<Task<'t>, AllocError>
+        requires { HasParts (sizes self.now) self.now.stored job step }
+        ensures { IfOk result (IsTaskAt self.now.game job step) }
+    {
+        match job {
+            JobName::Logic { frame } => Ok(Task::Logic(self.logic_task(alloc, frame, step)?)),
+            JobName::Think { frame, agent } => {
+                Ok(Task::Think(self.think_task(alloc, frame, agent, step)?))
+            }
+            JobName::Path {
+                frame,
+                agent,
+                question: _,
+            } => Ok(Task::Path(PathTask::of(
+                alloc,
+                self.params(frame),
+                self.asking_of(agent).parked(),
+            )?)),
+            JobName::Draw { frame, band } => {
+                Ok(Task::Draw(DrawTask::of(alloc, self.turn_of(frame), band)?))
+            }
+        }
+    }
+
+    /// A frame has spread: its parameters go into its slot.
+    pub fn spread(&mut self)
+        requires { IsSomeAnd self.old.stored.next (λ f. slice_get self.old.stored.slots (f % length self.old.stored.slots) ≡ Some None) }
+        ensures { (st : State) (w f : ℕ) → self.old.stored.next ≡ Some f → Stores self.old self.new st (Spread w (Logic f)) }
+    {
+        match self.next.take() {
+            Some(params) => self.slots.fill(params),
+            None => unreachable!(),
+        }
+        self.thoughts.clear();
+    }
+
+    /// An agent's thought stands at a question.
+    #[inline(always)]
+    pub fn park(&mut self, agent: u32, parked: Parked<'t>)
+        requires game { parked.game ≡ self.old.game }
+        requires agent { (agent ≡ parked.agent) × (agent < length self.old.stored.asking) }
+        ensures { self.new ≡ record self.old { stored = record self.old.stored { asking = slice_set self.old.stored.asking agent (Some (asked parked.entry.frame agent parked.entry.question false)) } } }
+    {
+        self.spent.parked = self.asking[agent as usize].park(parked);
+    }
+
+    /// Takes out what the last events have left over, of which nothing is made any more: to let it go takes longer than to
+    /// move it, so whoever drives a board behind a lock does that with the lock free.
+    #[inline(always)]
+    pub fn take_spent(&mut self) -> Spent<'t>
+        ensures { self.new ≡ self.old }
+    {
+        mem::replace(&mut self.spent, Spent::nothing())
+    }
+
+    /// Keeps what a job came to, for the tasks that are made of it.
+    #[inline(always)]
+    pub fn keep(&mut self, done: Done<'t>, next: Option<FrameParams<'t>>)
+        requires game { game_done done ≡ self.old.game }
+        requires wanted { IsWanted self.old done }
+        requires next { next ≡ next_done done }
+        ensures { (st : State) (w : ℕ) → Stores self.old self.new st (Finish w (job_done done.entry)) }
+    {
+        match done {
+            Done::Turned(turn) => self.turned(turn, next),
+            Done::Thought(thought) => self.thoughts.keep(thought),
+            Done::Way(mut way) => {
+                self.learn(&mut way);
+                self.answer(way);
+            }
+            // That a frame is drawn is known from its jobs.
+            Done::Drawn(_) => {}
+        }
+    }
+
+    fn turned(&mut self, turn: Turn<'t>, next: Option<FrameParams<'t>>)
+        requires game { turn.game ≡ self.old.game }
+        requires free { slice_get self.old.stored.turns (turn.frame % length self.old.stored.slots) ≡ Some None }
+        requires next { next ≡ Some (frame_of turn.game (turn.frame + 1)) }
+        ensures { (st : State) (w : ℕ) → Stores self.old self.new st (Finish w (Logic turn.entry.frame)) }
+    {
+        let at = turn.frame() as usize % self.turns.len();
+        self.turns[at] = Some(turn);
+        self.next = next;
+    }
+
+    // Keeps the distances that a way's search found with the parameters of its frame, for the questions that come later.
+    fn learn(&mut self, way: &mut Way<'t>)
+        requires { way.old.game ≡ self.old.game }
+        ensures shelf { self.new ≡ self.old }
+        ensures way { way.new ≡ way.old }
+    {
+        self.slots.learn(way);
+    }
+
+    #[inline(always)]
+    fn answer(&mut self, way: Way<'t>)
+        requires game { way.game ≡ self.old.game }
+        requires asked { IsAsked self.old.stored way.frame way.agent way.question false }
+        ensures { (st : State) (w : ℕ) → Stores self.old self.new st (Finish w (Path way.entry.frame way.entry.agent way.entry.question)) }
+    {
+        let agent = way.agent();
+        self.asking[agent as usize].answer(way);
+    }
+
+    /// Takes out a frame that is shown; nothing stands in its place.
+    pub fn show(&mut self, frame: u32) -> Shown<'t>
+        requires slot { IsInSlot (sizes self.old) self.old.stored frame }
+        requires turn { HasTurn (sizes self.old) self.old.stored frame }
+        ensures shown { result ≡ frame_of self.old.game frame }
+        ensures stored { (st : State) → Stores self.old self.new st (Emit frame) }
+    {
+        let params = self.slots.take(frame);
+        let at = frame as usize % self.turns.len();
+        self.spent.params = params;
+        match self.turns[at].take() {
+            Some(turn) => Shown { turn },
+            None => unreachable!(),
+        }
+    }
+}

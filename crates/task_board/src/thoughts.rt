@@ -1,0 +1,102 @@
+ghost use Rattle.std.specs.Prelude.{◌≡◌, ◌<◌, length, nat_lt, [], true, IfOk};
+ghost use Rattle.std.specs.List.{position_or_len};
+ghost use Rattle.board_model.specs.Stored.{parts, put_in};
+ghost use Rattle.task_board.specs.Parts.{AreInOrder};
+ghost use Rattle.task_board.specs.Shelf.{part_name};
+
+use frame_params::{FrameParams, LogicTask, Thought};
+use game_session::Session;
+use std::alloc::{AllocError, Global};
+use std::marker::Model;
+
+/// What the agents thought in the frame under way, by agent number. There is room for the thoughts of all agents.
+pub(crate) struct Thoughts<'t> {
+    session: &'t Session,
+    all: Vec<Thought<'t>>,
+}
+
+impl<'t> Drop for Thoughts<'t> {
+    fn drop(self) {
+        let Self { session: _, all: _ } = self;
+    }
+}
+
+impl<'t> Model for Thoughts<'t> {
+    ghost use Rattle.std.specs.Prelude.{◌≤◌, length, map, vec_capacity};
+    ghost use Rattle.task_board.specs.Parts.{AreInOrder, AreOfGame};
+    ghost use Rattle.task_board.specs.Shelf.{PartsOf, part_name};
+    ghost use Rattle.task_board.specs.ShelfCode.{parts_of_code};
+
+    ghost Value = { PartsOf };
+
+    ghost coded = { parts_of_code };
+
+    ghost view = { λ t. record { game = t.session.now; parts = map part_name t.all.items } };
+
+    ghost invariant = { λ t. AreOfGame t.session.now t.all.items × AreInOrder t.all.items × (length t.session.now.trees ≤ vec_capacity t.all) };
+}
+
+// The place of an agent's thought: before those of later agents. Mostly agents end in their order, so it is looked for from
+// the back.
+fn place_for(thoughts: &[Thought], agent: u32) -> usize
+    requires { AreInOrder thoughts.now }
+    ensures { result ≡ position_or_len (λ x. nat_lt agent x.number) thoughts.now }
+{
+    'thoughts: for at in (0..thoughts.len()).rev() {
+        let other = thoughts[at].agent();
+        if other <= agent {
+            return at + 1;
+        }
+    }
+    0
+}
+
+impl<'t> Thoughts<'t> {
+    ghost use Rattle.frame_state.specs.Names.{logic_of};
+
+    /// None yet, with room for all.
+    pub(crate) fn new(
+        alloc: Global,
+        session: &'t Session,
+        agents: u32,
+    ) -> Result<Thoughts<'t>, AllocError>
+        requires { agents ≡ length session.now.trees }
+        ensures { IfOk result (λ t. t ≡ record { game = session.now; parts = [] }) }
+    {
+        Ok(Thoughts {
+            session,
+            all: Vec::with_capacity(alloc, agents as usize)?,
+        })
+    }
+
+    pub(crate) fn clear(&mut self)
+        ensures { self.new ≡ record self.old { parts = [] } }
+    {
+        self.all.clear();
+    }
+
+    /// Keeps a thought at its agent's place.
+    pub(crate) fn keep(&mut self, thought: Thought<'t>)
+        requires game { thought.game ≡ self.old.game }
+        requires room { length self.old.parts < length self.old.game.trees }
+        ensures { self.new ≡ record self.old { parts = put_in (part_name thought.entry) self.old.parts } }
+    {
+        let at = place_for(&self.all, thought.agent());
+        let Ok(()) = self.all.insert(at, thought) else {
+            unreachable!()
+        };
+    }
+
+    /// The logic of a frame, with the thoughts of all its agents.
+    pub(crate) fn logic(
+        &self,
+        alloc: Global,
+        params: &FrameParams<'t>,
+    ) -> Result<LogicTask<'t>, AllocError>
+        requires game { params.now.game ≡ self.now.game }
+        requires all { self.now.parts ≡ parts params.now.frame (length self.now.game.trees) }
+        ensures { IfOk result (λ task. task ≡ logic_of self.now.game params.now.frame true) }
+    {
+        LogicTask::turn(alloc, params, &self.all)
+    }
+}
