@@ -1,6 +1,7 @@
 // Logs that are completed.
+use crate::case::Completion;
+use crate::streams::Taker;
 use anyhow::{Context, Result};
-use case_files::{Completion, Taker};
 use game_session::Session;
 use level_text::{read_level, read_script};
 use replay_log::{complete, read_log, write_log};

@@ -1,71 +1,105 @@
-// Runs of the program, and what comes of them.
+// Runs of the programs, and what comes of them.
+use crate::case::{Act, Case};
 use crate::completing::complete_files;
+use crate::folder::{take_files, take_made, write_files};
+use crate::judging::judge;
+use crate::outcome::Outcome;
+use crate::run::{Run, runs_of};
+use crate::streams::{Pieces, Taker};
+use crate::tally::Tally;
 use anyhow::Result;
-use case_files::{
-    Act, Case, Outcome, Pieces, Run, Taker, Tally, judge, runs_of, take_files, take_made,
-    write_files,
-};
 use commands::command;
 use std::alloc::Global;
 use std::rt::Files;
 use std::sync::Wait;
 use std::thread::Threads;
+use view_commands::view_command;
 
-/// Whether the words that come after a run write the frames that the case has to write.
-fn repeats<H: Files + Threads + Wait + Sync>(rt: &H, alloc: Global, case: &Case) -> bool {
-    let Some(words) = &case.then else {
-        return true;
-    };
-    let mut input = b"".as_slice();
-    let mut out = Taker::new(alloc);
-    let mut err = Taker::new(alloc);
-    let status = command(rt, alloc, words, &mut input, &mut out, &mut err);
-    status == 0 && out.bytes.as_slice() == case.out.bytes.as_slice()
+/// Which program is given a case's words.
+#[derive(Clone, Copy, Drop)]
+pub enum Program {
+    Btworld,
+    Btview,
 }
 
-fn play_run<H: Files + Alloc<A = Global> + Threads + Wait + Sync>(
-    rt: &H,
-    alloc: Global,
-    case: &Case,
-    run: &Run<'_>,
-) -> Result<Outcome> {
-    write_files(rt, case, run)?;
-    let mut input = Pieces {
-        left: run.input_of(case),
-        size: case.pieces,
-        fails: case.input_fails,
-    };
-    let mut out = Taker::new(alloc);
-    out.room = run.room;
-    out.flush_fails = case.flush_fails;
-    let mut err = Taker::new(alloc);
-    let status = match run.act {
-        Act::Words(words) => command(rt, alloc, words, &mut input, &mut out, &mut err),
-        Act::Complete(files) => complete_files(rt, alloc, files, &mut out, &mut err)?,
-    };
-    let repeats = repeats(rt, alloc, case);
-    take_files(rt, case)?;
-    let has_made = take_made(rt, case)?;
-    Ok(Outcome {
-        status,
-        out: out.bytes,
-        err: err.bytes,
-        flushes: out.flushes,
-        repeats,
-        has_made,
-    })
-}
-
-/// Plays each run of a case.
-pub fn play_case<H: Files + Alloc<A = Global> + Print + Threads + Wait + Sync>(
-    rt: &H,
-    alloc: Global,
-    case: &Case,
-) -> Result<Tally> {
-    let mut tally = Tally::new();
-    for run in &runs_of(alloc, case)? {
-        let outcome = play_run(rt, alloc, case, run)?;
-        tally.count(judge(rt, case, run, &outcome)?);
+impl Program {
+    fn play<H: Files + Threads + Wait + Sync>(
+        self,
+        rt: &H,
+        alloc: Global,
+        words: &[String],
+        input: &mut Pieces<'_>,
+        out: &mut Taker,
+        err: &mut Taker,
+    ) -> u8 {
+        match self {
+            Program::Btworld => command(rt, alloc, words, input, out, err),
+            Program::Btview => view_command(rt, alloc, words, out, err),
+        }
     }
-    Ok(tally)
+
+    /// Whether the words that come after a run write the frames that the case has to write.
+    fn repeats<H: Files + Threads + Wait + Sync>(self, rt: &H, alloc: Global, case: &Case) -> bool {
+        let Some(words) = &case.then else {
+            return true;
+        };
+        let mut input = Pieces {
+            left: b"",
+            size: 1,
+            fails: false,
+        };
+        let mut out = Taker::new(alloc);
+        let mut err = Taker::new(alloc);
+        let status = self.play(rt, alloc, words, &mut input, &mut out, &mut err);
+        status == 0 && out.bytes.as_slice() == case.out.bytes.as_slice()
+    }
+
+    fn play_run<H: Files + Alloc<A = Global> + Threads + Wait + Sync>(
+        self,
+        rt: &H,
+        alloc: Global,
+        case: &Case,
+        run: &Run<'_>,
+    ) -> Result<Outcome> {
+        write_files(rt, case, run)?;
+        let mut input = Pieces {
+            left: run.input_of(case),
+            size: case.pieces,
+            fails: case.input_fails,
+        };
+        let mut out = Taker::new(alloc);
+        out.room = run.room;
+        out.flush_fails = case.flush_fails;
+        let mut err = Taker::new(alloc);
+        let status = match run.act {
+            Act::Words(words) => self.play(rt, alloc, words, &mut input, &mut out, &mut err),
+            Act::Complete(files) => complete_files(rt, alloc, files, &mut out, &mut err)?,
+        };
+        let repeats = self.repeats(rt, alloc, case);
+        take_files(rt, case)?;
+        let has_made = take_made(rt, case)?;
+        Ok(Outcome {
+            status,
+            out: out.bytes,
+            err: err.bytes,
+            flushes: out.flushes,
+            repeats,
+            has_made,
+        })
+    }
+
+    /// Plays each run of a case.
+    pub fn play_case<H: Files + Alloc<A = Global> + Print + Threads + Wait + Sync>(
+        self,
+        rt: &H,
+        alloc: Global,
+        case: &Case,
+    ) -> Result<Tally> {
+        let mut tally = Tally::new();
+        for run in &runs_of(alloc, case)? {
+            let outcome = self.play_run(rt, alloc, case, run)?;
+            tally.count(judge(rt, case, run, &outcome)?);
+        }
+        Ok(tally)
+    }
 }

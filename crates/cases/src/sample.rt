@@ -8,6 +8,41 @@ use std::rt::Files;
 
 const FRAMES: u32 = 60;
 
+/// The sample levels.
+pub const SAMPLES: [Sample; 7] = [
+    Sample {
+        level: "levels/first.json",
+        script: None,
+    },
+    Sample {
+        level: "levels/passing_place.json",
+        script: None,
+    },
+    Sample {
+        level: "levels/bucket_chain.json",
+        script: None,
+    },
+    Sample {
+        level: "levels/parade.json",
+        script: None,
+    },
+    DOOR,
+    Sample {
+        level: "levels/fire_drill.json",
+        script: Some("levels/fire_drill.script"),
+    },
+    Sample {
+        level: "levels/warehouse.json",
+        script: Some("levels/warehouse.script"),
+    },
+];
+
+/// The level with a door and its script.
+pub const DOOR: Sample = Sample {
+    level: "levels/door.json",
+    script: Some("levels/door.script"),
+};
+
 /// The files of a sample level, and of a script where it has one.
 #[derive(Clone, Copy, Drop)]
 pub struct Sample {

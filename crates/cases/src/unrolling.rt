@@ -1,7 +1,7 @@
 // The frames in pages of samples, read as they stand there.
 use crate::sample::Played;
+use crate::streams::Taker;
 use anyhow::{Context, Result};
-use case_files::Taker;
 use std::alloc::Global;
 use std::io::Write;
 use std::str::Lines;
