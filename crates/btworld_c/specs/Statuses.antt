@@ -41,6 +41,10 @@ beyond_agents = 6
 abbrev pub last_frame : ℕ
 last_frame = 7
 
+-- there is no such cell
+abbrev pub off_map : ℕ
+off_map = 8
+
 -- ---- what a call on a handle may answer
 
 abbrev pub IsStepStatus : ℕ → Type 0
@@ -51,6 +55,9 @@ IsTextStatus status = (status ≡ done) ⊎ ((status ≡ closed) ⊎ ((status �
 
 abbrev pub IsAgentStatus : ℕ → Type 0
 IsAgentStatus status = (status ≡ done) ⊎ ((status ≡ closed) ⊎ ((status ≡ no_frame) ⊎ (status ≡ beyond_agents)))
+
+abbrev pub IsCellStatus : ℕ → Type 0
+IsCellStatus status = (status ≡ done) ⊎ ((status ≡ closed) ⊎ (status ≡ off_map))
 
 -- ---- levels
 

@@ -74,3 +74,6 @@ impl Handle {
         }
     }
 }
+
+// A game goes with its handle: what forks share of it never changes, and is counted atomically.
+unsafe impl Send for Handle {}

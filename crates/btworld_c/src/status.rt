@@ -22,6 +22,8 @@ pub(crate) const NO_AGENT: u32 = 6;
 
 pub(crate) const LAST_FRAME: u32 = 7;
 
+pub(crate) const NO_CELL: u32 = 8;
+
 pub(crate) const ILLEGAL_EVENT: u32 = 50;
 
 pub(crate) const INCOMPLETE: u32 = 51;

@@ -1,0 +1,113 @@
+// What a caller reads of a game's map. No reading changes the game.
+ghost use Rattle.std.specs.Prelude.{◌≡◌, ◌≢◌, ◌⊎◌, ◌<◌, Some, None, IfSome, length, position};
+ghost use Rattle.grid_world.specs.Grid.{point_of, same_point};
+ghost use Rattle.grid_world.specs.World.{point};
+ghost use Rattle.btworld_c.specs.Statuses.{done, closed, off_map, IsCellStatus};
+ghost use Rattle.btworld_c.specs.Maps.{IsMap, IsCell, IsOffMap, mark_told, agent_number};
+
+use crate::game::{CellState, Game, put, take};
+use crate::status::{CLOSED, NO_CELL, OK};
+use grid_world::{Agent, Cell, World};
+use std::alloc::Global;
+use stepping::Stepping;
+
+/// The size of the map in cells, and how many agents stand on it. The status is 0, or 2 for a closed handle, and then nothing
+/// is written. It takes constant time.
+#[unsafe(no_mangle)]
+pub extern "C" fn btworld_map(
+    alloc: Global,
+    game: &mut Game,
+    width: &mut u32,
+    height: &mut u32,
+    agents: &mut u32,
+) -> u32
+    ensures ok { result ≡ done → IsMap game.old.handle.value width.new height.new agents.new }
+    ensures untouched { result ≢ done → (width.new ≡ width.old) × (height.new ≡ height.old) × (agents.new ≡ agents.old) }
+    ensures closed { game.old.handle.value ≡ None → result ≡ closed }
+    ensures held { result ≡ closed → game.old.handle.value ≡ None }
+    ensures answered { (result ≡ done) ⊎ (result ≡ closed) }
+    ensures kept { game.new.handle.value ≡ game.old.handle.value }
+{
+    let Some(held) = take(alloc, game) else {
+        return CLOSED;
+    };
+    *width = held.world().width();
+    *height = held.world().height();
+    *agents = held.world().agents().len() as u32;
+    put(game, held);
+    OK
+}
+
+// What a map has for a cell where nothing is on it: a door has its letter, open or shut.
+fn mark_of(cell: Cell) -> u8
+    ensures { result ≡ mark_told cell }
+{
+    match cell {
+        Cell::Wall => b'#',
+        Cell::Floor => b'.',
+        Cell::Door(signal) => b'a' + signal.number() as u8,
+        Cell::Spot(place) => b'0' + place.number() as u8,
+    }
+}
+
+fn agent_on(agents: &[Agent], x: u32, y: u32) -> Option<usize>
+    ensures value { result ≡ position (λ a. same_point (point_of a) (point x y)) agents.now }
+    ensures within { IfSome result (λ a. a < length agents.now) }
+{
+    agents.iter().position(|agent| agent.x == x && agent.y == y)
+}
+
+// The number of the agent that stands on a cell, 255 where none does.
+fn agent_number(world: &World, x: u32, y: u32) -> u8
+    ensures { result ≡ agent_number world.now (point x y) }
+{
+    match agent_on(world.agents(), x, y) {
+        Some(number) => number as u8,
+        None => 255,
+    }
+}
+
+fn write_cell(held: &Stepping, x: u32, y: u32, out: &mut CellState) -> u32
+    ensures ok { result ≡ done → IsCell (Some held.now) x y out.new }
+    ensures off { result ≡ off_map → IsOffMap (Some held.now) x y }
+    ensures untouched { result ≢ done → out.new ≡ out.old }
+    ensures held { result ≢ closed }
+    ensures status { IsCellStatus result }
+{
+    let world = held.world();
+    let Some(cell) = world.cell(x, y) else {
+        return NO_CELL;
+    };
+    *out = CellState {
+        mark: mark_of(cell),
+        item: world.has_item(x, y),
+        agent: agent_number(world, x, y),
+    };
+    OK
+}
+
+/// What lies and stands on a cell after the frame, at a column from the left and a row from the top, both from 0. The status is
+/// 2 for a closed handle, and 8 where there is no such cell. Where it is not 0 nothing is written. It takes constant time.
+#[unsafe(no_mangle)]
+pub extern "C" fn btworld_cell(
+    alloc: Global,
+    game: &mut Game,
+    x: u32,
+    y: u32,
+    out: &mut CellState,
+) -> u32
+    ensures ok { result ≡ done → IsCell game.old.handle.value x y out.new }
+    ensures off { result ≡ off_map → IsOffMap game.old.handle.value x y }
+    ensures untouched { result ≢ done → out.new ≡ out.old }
+    ensures closed { game.old.handle.value ≡ None → result ≡ closed }
+    ensures held { result ≡ closed → game.old.handle.value ≡ None }
+    ensures status { IsCellStatus result }
+    ensures kept { game.new.handle.value ≡ game.old.handle.value }
+{
+    let Some(held) = take(alloc, game) else {
+        return CLOSED;
+    };
+    let status = write_cell(&held, x, y, out);
+    put(game, held);
+    status
+}
