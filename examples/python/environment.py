@@ -15,7 +15,7 @@ The agents' trees are the level's; who learns turns the signals. An action is a 
 ...     print(seen.map[0], seen.agents[0].answer.name, reward, terminated, truncated)
 A.a0 FAILURE -0.1 False False
 .A/0 RUNNING -0.1 False False
-../0 RUNNING -0.1 False False
+..A0 RUNNING -0.1 False False
 ../A RUNNING -0.1 False False
 ../A SUCCESS 1.0 True True
 >>> env.reset()[0] == seen, env.reset()[0].map
