@@ -1,3 +1,4 @@
+#!/usr/bin/env python3
 """Finds the fewest frames until a frame's text has a line, and the signals that lead there: a breadth-first search that forks.
 
     search.py LEVEL LETTERS LINE [FRAMES]
@@ -9,12 +10,12 @@ were forked. Status 1: there is no such frame within FRAMES (100 where the words
 >>> level = {"map": ["Aa.b0"], "agents": ["t"], "trees": {"t": ["move", "0"]}}
 >>> found = search(Game.open(level), "ab", "A S .*", 20)
 >>> found.frames, found.signals
-(5, ['ab', 'ab', 'ab', 'ab', ''])
+(5, ['ab', 'b', 'b', '', ''])
 >>> print(script_of(found.signals), end="")
 1 on a
 1 on b
-5 off a
-5 off b
+2 off a
+4 off b
 >>> search(Game.open(level), "a", "A S .*", 20) is None
 True
 """
