@@ -14,9 +14,9 @@
  * `const` at a game means that the call leaves the game as it was. Inside it writes to the handle, so the handle is no object that
  * is itself defined `const`, and two threads can't read one game at once.
  *
- * Each call but btworld_close answers a status, and says below what it *fails with*, in the order in which it looks. After any
- * failure each handle and each buffer is as it was, and the same call may come again, but for what is said at btworld_step and
- * btworld_replay, and that SHORT writes *size: how many bytes are wanted.
+ * Each call but btworld_close answers a status, and says below what it *fails with*, in the order in which it looks; NO_MEMORY may
+ * come in between. After any failure each handle and each buffer is as it was, and the same call may come again, but for what is
+ * said at btworld_step and btworld_replay, and that SHORT writes *size: how many bytes are wanted.
  *
  * In all versions 2.x these stay, so that a program goes on with a newer shared library (libbtworld.so.2) as it was built:
  *  - the name, the arguments and the meaning of each call, and the number of each status: a new status comes of new calls alone;
@@ -93,7 +93,7 @@ enum btworld_status {
     BTWORLD_LOG_STOPPED = 52
 };
 
-/* The version of the library: BTWORLD_VERSION of the header that it was built with. */
+/* The version of this header, with which the caller was built. A shared library that it runs with may be a later 2.x. */
 BTWORLD_INLINE uint32_t btworld_version(void) { return BTWORLD_VERSION; }
 
 /* A status in words, for a log or a message: it names no line, cell or tree, as btworld_fault_text does. Never null. */
@@ -145,7 +145,8 @@ uint32_t btworld_open(btworld_game *game, const uint8_t *level, size_t length);
 
 /* As btworld_open, with a script beside the game for btworld_step_script. The level and the script may be freed then.
  * Fails with OPEN, NO_MEMORY, LEVEL, SCRIPT. */
-uint32_t btworld_open_script(btworld_game *game, const uint8_t *level, size_t level_length, const uint8_t *script, size_t script_length);
+uint32_t btworld_open_script(btworld_game *game, const uint8_t *level, size_t level_length, const uint8_t *script,
+                             size_t script_length);
 
 /* The next frame, in which exactly the signals are on whose bits are: bit 0 is a, bit 25 is z, and higher bits count nothing.
  * Fails with CLOSED, LAST_FRAME, NO_MEMORY. Then no frame is stepped, and the text and the agents are those of the frame before.
