@@ -74,9 +74,9 @@ def _load() -> ctypes.CDLL:
     return ctypes.CDLL(path)
 
 
-def _call(name: str, *kinds: Any) -> Callable[..., int]:
-    call = getattr(_library, f"btworld_{name}")
-    call.argtypes, call.restype = kinds, ctypes.c_uint32
+def _call(name: str, *kinds: Any, answers: Any = ctypes.c_uint32) -> Callable[..., int]:
+    call: Any = getattr(_library, f"btworld_{name}")
+    call.argtypes, call.restype = kinds, answers
     return call
 
 
@@ -92,8 +92,7 @@ _frame = _call("frame", _GAME, ctypes.POINTER(ctypes.c_uint32))
 _fork = _call("fork", _GAME, _GAME)
 _same = _call("same", _GAME, _GAME, ctypes.POINTER(ctypes.c_bool))
 _digest = _call("digest", _GAME, ctypes.POINTER(ctypes.c_uint64))
-_close = _call("close", _GAME)
-_close.restype = None
+_close = _call("close", _GAME, answers=None)
 
 
 def _need(status: int) -> None:
@@ -176,7 +175,8 @@ class Game:
     @property
     def agents(self) -> list[Agent]:
         """The agents after the frame, A first."""
-        found, state = [], _AgentState()
+        found: list[Agent] = []
+        state = _AgentState()
         while (status := _agent(self._handle, len(found), state)) == Status.OK:
             found.append(Agent(chr(ord("A") + len(found)), state.x, state.y, state.carrying, Answer(state.status)))
         if status != Status.NO_AGENT:

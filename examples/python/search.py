@@ -52,11 +52,11 @@ def subsets(letters: str) -> list[str]:
 def search(start: Game, letters: str, line: str, frames: int) -> Found | None:
     """The first frame that has the line, of all ways to turn these signals."""
     choices, pattern, forks = subsets(letters), re.compile(line), 0
-    level = [(start, [])]
+    level: list[tuple[Game, list[str]]] = [(start, [])]
     for _ in range(frames):
         # Games of one frame and state go on alike: one of them is enough. Equal digests of other states are told apart.
         known: dict[int, list[Game]] = {}
-        below = []
+        below: list[tuple[Game, list[str]]] = []
         for game, signals in level:
             for choice in choices:
                 child = game.fork()
@@ -74,7 +74,8 @@ def search(start: Game, letters: str, line: str, frames: int) -> Found | None:
 
 def script_of(signals: list[str]) -> str:
     """A script that has these signals on, frame by frame, and leaves them as they are then."""
-    lines, before = [], set()
+    lines: list[str] = []
+    before: set[str] = set()
     for frame, letters in enumerate(signals, 1):
         now = set(letters)
         lines += [f"{frame} {'on' if letter in now else 'off'} {letter}\n" for letter in sorted(now ^ before)]
