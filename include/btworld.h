@@ -1,19 +1,28 @@
 /* btworld.h: a grid world of agents with behaviour trees, stepped frame by frame by its caller.
  *
- * examples/README.md says how it is built and linked, which threads may do what, and what is proved.
+ * examples/README.md says how it is built, installed and linked, and what is proved.
  *
  * A caller owes, and nothing checks:
  *  - a handle is BTWORLD_CLOSED_GAME at first, and is changed by these calls alone; it may be moved, and its old place is not
  *    used any more: a copy of a handle is no second game (btworld_fork makes one);
- *  - the handles, the buffers and the other pointers of one call don't overlap, and none is null, not even beside a length of 0;
+ *  - the handles, the buffers and the other pointers of one call don't overlap, and none is null, but for bytes of length 0;
  *  - a buffer has as many bytes as its length says, and a length is at most PTRDIFF_MAX;
- *  - a game and all its forks are used by one thread at a time, and by the one that opened it;
+ *  - a game and all its forks are used by one thread at a time: where another thread goes on, a lock, or the start or the join of
+ *    a thread, lies between. Games that were opened apart share nothing;
  *  - malloc, realloc and free come from one allocator, and align to 16 bytes; no call comes from a signal handler.
  *
- * Each call but btworld_close answers a status. Where it is not BTWORLD_OK nothing is written and each handle is as it was, but
- * for what is said at btworld_step and btworld_replay, and that a call which answers BTWORLD_SHORT writes *size: how many bytes
- * are wanted. Each may answer BTWORLD_NO_MEMORY, but for btworld_agent, btworld_frame, btworld_digest and btworld_same, which
- * take no memory.
+ * `const` at a game means that the call leaves the game as it was. Inside it writes to the handle, so the handle is no object that
+ * is itself defined `const`, and two threads can't read one game at once.
+ *
+ * Each call but btworld_close answers a status, and says below what it *fails with*, in the order in which it looks; NO_MEMORY may
+ * come in between. After any failure each handle and each buffer is as it was, and the same call may come again, but for what is
+ * said at btworld_step and btworld_replay, and that SHORT writes *size: how many bytes are wanted.
+ *
+ * In all versions 2.x these stay, so that a program goes on with a newer shared library (libbtworld.so.2) as it was built:
+ *  - the name, the arguments and the meaning of each call, and the number of each status: a new status comes of new calls alone;
+ *  - size, alignment and order of btworld_game and btworld_agent_state, and what BTWORLD_CLOSED_GAME holds;
+ *  - the bytes of the frames of each level and script, and the digest of each state;
+ *  - that levels, scripts and logs that are read today are read, and mean the same.
  */
 #ifndef BTWORLD_H
 #define BTWORLD_H
@@ -22,15 +31,36 @@
 #include <stddef.h>
 #include <stdint.h>
 
+/* 10000 * major + 100 * minor + patch */
+#define BTWORLD_VERSION 20000
+
+#if defined(__cplusplus) || (defined(__STDC_VERSION__) && __STDC_VERSION__ >= 199901L)
+#define BTWORLD_INLINE static inline
+#define BTWORLD_SINCE_C99
+#elif defined(__GNUC__)
+#define BTWORLD_INLINE static __inline__
+#define BTWORLD_SINCE_C99 __extension__
+#else
+#define BTWORLD_INLINE static
+#define BTWORLD_SINCE_C99
+#endif
+
 #ifdef __cplusplus
 extern "C" {
 #endif
 
-typedef struct btworld_game { void *at; bool is_open; } btworld_game;
+BTWORLD_SINCE_C99 typedef struct btworld_game { void *at; bool is_open; } btworld_game;
 #define BTWORLD_CLOSED_GAME {NULL, false}
 
-/* status: 0 success, 1 failure, 2 running; x counts columns from the left, y rows from the top */
-typedef struct btworld_agent_state { uint32_t x, y; bool carrying; uint8_t status; } btworld_agent_state;
+/* What an agent's tree answered in the frame. */
+enum btworld_answer {
+    BTWORLD_SUCCESS = 0,
+    BTWORLD_FAILURE = 1,
+    BTWORLD_RUNNING = 2
+};
+
+/* x counts columns from the left and y rows from the top, from 0; status is one of btworld_answer. */
+BTWORLD_SINCE_C99 typedef struct btworld_agent_state { uint32_t x, y; bool carrying; uint8_t status; } btworld_agent_state;
 
 enum btworld_status {
     BTWORLD_OK = 0,
@@ -41,7 +71,7 @@ enum btworld_status {
     BTWORLD_SHORT = 5,      /* the buffer is too short */
     BTWORLD_NO_AGENT = 6,   /* there is no such agent */
     BTWORLD_LAST_FRAME = 7, /* 2^32 - 1 frames were stepped */
-    /* the first fault of a level, in this order */
+    /* LEVEL: the first fault of a level, in this order */
     BTWORLD_LEVEL_JSON = 16,
     BTWORLD_LEVEL_SHAPE = 17,
     BTWORLD_LEVEL_MAP_SIZE = 18,
@@ -52,80 +82,163 @@ enum btworld_status {
     BTWORLD_LEVEL_NO_TREE = 23,
     BTWORLD_LEVEL_NO_PLACE = 24,
     BTWORLD_LEVEL_NO_AGENT = 25,
-    /* of a script: a line of another form; a frame that is lower than the one before */
+    /* SCRIPT: the first faulty line is of another form, or of a lower frame than the one before */
     BTWORLD_SCRIPT_LINE = 32,
     BTWORLD_SCRIPT_ORDER = 33,
-    /* of a log: a faulty first line; a faulty line; an event that isn't legal; fewer frames than it is of; a stop at its end */
+    /* LOG: a faulty first line; a faulty line; an event that isn't legal; fewer frames than it is of; a stop at its end */
     BTWORLD_LOG_HEAD = 48,
     BTWORLD_LOG_LINE = 49,
     BTWORLD_LOG_ILLEGAL = 50,
     BTWORLD_LOG_INCOMPLETE = 51,
-    BTWORLD_LOG_STOPPED = 52,
+    BTWORLD_LOG_STOPPED = 52
 };
 
-/* Whether the bytes spell a level: 0, or the number of their first fault. */
+/* The version of this header, with which the caller was built. A shared library that it runs with may be a later 2.x. */
+BTWORLD_INLINE uint32_t btworld_version(void) { return BTWORLD_VERSION; }
+
+/* A status in words, for a log or a message: it names no line, cell or tree, as btworld_fault_text does. Never null. */
+BTWORLD_INLINE const char *btworld_status_text(uint32_t status) {
+    switch (status) {
+    case BTWORLD_OK: return "ok";
+    case BTWORLD_NO_MEMORY: return "want of memory";
+    case BTWORLD_CLOSED: return "the handle holds no game";
+    case BTWORLD_OPEN: return "the handle holds a game already";
+    case BTWORLD_NO_FRAME: return "no frame was stepped yet";
+    case BTWORLD_SHORT: return "the buffer is too short";
+    case BTWORLD_NO_AGENT: return "there is no such agent";
+    case BTWORLD_LAST_FRAME: return "the last frame was stepped";
+    case BTWORLD_LEVEL_JSON: return "level: json";
+    case BTWORLD_LEVEL_SHAPE: return "level: shape";
+    case BTWORLD_LEVEL_MAP_SIZE: return "level: map size";
+    case BTWORLD_LEVEL_MAP_CHAR: return "level: map character";
+    case BTWORLD_LEVEL_LETTERS: return "level: letters";
+    case BTWORLD_LEVEL_AGENT_COUNT: return "level: agent count";
+    case BTWORLD_LEVEL_BAD_TREE: return "level: a tree breaks a limit";
+    case BTWORLD_LEVEL_NO_TREE: return "level: an agent has no tree";
+    case BTWORLD_LEVEL_NO_PLACE: return "level: a tree names a place that is not on the map";
+    case BTWORLD_LEVEL_NO_AGENT: return "level: a tree names an agent that is not on the map";
+    case BTWORLD_SCRIPT_LINE: return "script: a faulty line";
+    case BTWORLD_SCRIPT_ORDER: return "script: order";
+    case BTWORLD_LOG_HEAD: return "log: head";
+    case BTWORLD_LOG_LINE: return "log: a faulty line";
+    case BTWORLD_LOG_ILLEGAL: return "log: illegal event";
+    case BTWORLD_LOG_INCOMPLETE: return "log: incomplete";
+    case BTWORLD_LOG_STOPPED: return "log: stopped";
+    default: return "another status";
+    }
+}
+
+/* Whether the bytes spell a level.
+ * Fails with NO_MEMORY, LEVEL. */
 uint32_t btworld_check(const uint8_t *level, size_t length);
 
 /* The line that `btworld` writes of the first fault of a level or, where that has none, of a script, at the start of a buffer, and
- * how many bytes it has, with no line feed or zero behind them: 0 bytes where there is no fault. A script of 0 bytes has none.
- * SHORT. Want of memory answers NO_MEMORY and has no line. */
+ * how many bytes it has, with no line feed or zero behind them. 0 bytes mean that neither has a fault. A script of 0 bytes has
+ * none. A line may be as long as a tree's name, and has that name's line feeds.
+ * Fails with NO_MEMORY, SHORT. */
 uint32_t btworld_fault_text(const uint8_t *level, size_t level_length, const uint8_t *script, size_t script_length,
                             uint8_t *text, size_t capacity, size_t *size);
 
-/* The handle, closed before, holds the level's game before its first frame, with all signals off. OPEN, or a level's fault. */
+/* The handle, closed before, holds the level's game before its first frame, with all signals off.
+ * Fails with OPEN, NO_MEMORY, LEVEL. */
 uint32_t btworld_open(btworld_game *game, const uint8_t *level, size_t length);
 
-/* As btworld_open, with a script beside the game for btworld_step_script. OPEN, a level's fault, or else a script's. */
-uint32_t btworld_open_script(btworld_game *game, const uint8_t *level, size_t level_length, const uint8_t *script, size_t script_length);
+/* As btworld_open, with a script beside the game for btworld_step_script. The level and the script may be freed then.
+ * Fails with OPEN, NO_MEMORY, LEVEL, SCRIPT. */
+uint32_t btworld_open_script(btworld_game *game, const uint8_t *level, size_t level_length, const uint8_t *script,
+                             size_t script_length);
 
 /* The next frame, in which exactly the signals are on whose bits are: bit 0 is a, bit 25 is z, and higher bits count nothing.
- * CLOSED, LAST_FRAME. Where memory is refused no frame is stepped; the next step turns the signals as it wants. */
+ * Fails with CLOSED, LAST_FRAME, NO_MEMORY. Then no frame is stepped, and the text and the agents are those of the frame before.
+ * After NO_MEMORY some signals may be turned for the next frame, which btworld_same and btworld_digest notice; the next step turns
+ * them all as it wants, so the step that failed may come again. */
 uint32_t btworld_step(btworld_game *game, uint32_t signals);
 
 /* The next frame, in which the signals are those that the game's script has in that frame; all are off where it was opened without
- * one. A game that is stepped so from its first frame on shows what `btworld play LEVEL --script SCRIPT` shows. Else as
- * btworld_step, and the two may be mixed: each sets all signals of its frame. */
+ * one. A game that is stepped so from its first frame on shows what `btworld play LEVEL --script SCRIPT` shows. The two steps may be
+ * mixed: each sets all signals of its frame.
+ * Fails with CLOSED, LAST_FRAME, NO_MEMORY, as btworld_step does. */
 uint32_t btworld_step_script(btworld_game *game);
 
-/* The text of the frame at the start of a buffer, and how many bytes it has, with no zero behind them. SHORT, CLOSED, NO_FRAME.
- * Any frame of a level has at most (width + 1) * height + 381 bytes. */
-uint32_t btworld_text(btworld_game *game, uint8_t *text, size_t capacity, size_t *size);
+/* The text of the frame at the start of a buffer, and how many bytes it has, with no zero behind them. Any frame of a level has at
+ * most (width + 1) * height + 381 bytes.
+ * Fails with CLOSED, NO_FRAME, NO_MEMORY, SHORT. */
+uint32_t btworld_text(const btworld_game *game, uint8_t *text, size_t capacity, size_t *size);
 
-/* An agent after the frame, 0 for A. CLOSED, NO_FRAME, NO_AGENT. */
-uint32_t btworld_agent(btworld_game *game, uint32_t agent, btworld_agent_state *out);
+/* An agent after the frame, 0 for A.
+ * Fails with CLOSED, NO_FRAME, NO_AGENT. */
+uint32_t btworld_agent(const btworld_game *game, uint32_t agent, btworld_agent_state *out);
 
-/* How many frames were stepped. CLOSED. */
-uint32_t btworld_frame(btworld_game *game, uint32_t *frame);
+/* How many frames were stepped.
+ * Fails with CLOSED. */
+uint32_t btworld_frame(const btworld_game *game, uint32_t *frame);
 
-/* The same game at the same frame in a handle that was closed; both go on by themselves. CLOSED, OPEN. To save is to keep a
- * fork; to load is to close the game and fork the kept one. */
-uint32_t btworld_fork(btworld_game *game, btworld_game *copy);
+/* The same game at the same frame in a handle that was closed; both go on by themselves. To save is to keep a fork; to load is to
+ * close the game and fork the kept one.
+ * Fails with OPEN, CLOSED, NO_MEMORY. */
+uint32_t btworld_fork(const btworld_game *game, btworld_game *copy);
 
 /* Whether two games are in the same state: the same frame, world, trees and memories, and the same signals in the next frame.
- * Games in the same state that are stepped with the same signals stay so, and show the same text. CLOSED. */
-uint32_t btworld_same(btworld_game *game, btworld_game *other, bool *same);
+ * Games in the same state that are stepped with the same signals stay so, and show the same text.
+ * Fails with CLOSED. */
+BTWORLD_SINCE_C99 uint32_t btworld_same(const btworld_game *game, const btworld_game *other, bool *same);
 
 /* FNV-1a of 64 bits over the bytes of the state, each number with its lowest byte first: the frame in 4 bytes; a byte for each
  * of the 26 signals in the next frame, 1 where it is on; of each agent x and y in 4 bytes each, and a byte that is 1 where it
  * carries an item; of each agent's memory the number of each node of its tree in 2 bytes, in preorder; the number of each cell
  * with an item in 4 bytes, cells being counted row after row. Trees and walls are not in it. Games in the same state have the
- * same digest, in each version of this library; the other way round is not promised. CLOSED. */
-uint32_t btworld_digest(btworld_game *game, uint64_t *digest);
+ * same digest; the other way round is not promised.
+ * Fails with CLOSED. */
+uint32_t btworld_digest(const btworld_game *game, uint64_t *digest);
 
 /* The handle is closed, and its memory given back; a closed one stays so. */
 void btworld_close(btworld_game *game);
 
 /* The text of the frames that a log shows, at the start of a buffer, and how many they are; the script has 0 bytes where the run had
- * none. LOG_INCOMPLETE where the log shows fewer frames than it is of: these are written, with *size and *frames. SHORT: *frames is
- * not written. The first fault of the level, the script or the log. It takes as long as to play these frames. */
+ * none. It takes as long as to play these frames.
+ * Fails with NO_MEMORY, LEVEL, SCRIPT, LOG_HEAD, LOG_LINE, LOG_ILLEGAL, SHORT, LOG_INCOMPLETE. LOG_INCOMPLETE, where the log shows
+ * fewer frames than it is of, comes with these frames, *size and *frames all written; after SHORT *frames is as it was. */
 uint32_t btworld_replay(const uint8_t *level, size_t level_length, const uint8_t *script, size_t script_length, const uint8_t *log,
                         size_t log_length, uint8_t *text, size_t capacity, size_t *size, uint32_t *frames);
 
 /* The log of a complete run that begins with the events of a log that was broken off, at the start of a buffer. A first line alone
- * is such a log too. SHORT, LOG_STOPPED, the first fault of the level, the script or the log. It takes as long as to play all
- * frames that the log is of. */
+ * is such a log too. It takes as long as to play all frames that the log is of.
+ * Fails with NO_MEMORY, LEVEL, SCRIPT, LOG_HEAD, LOG_LINE, LOG_ILLEGAL, LOG_STOPPED, SHORT. */
 uint32_t btworld_complete(const uint8_t *level, size_t level_length, const uint8_t *script, size_t script_length, const uint8_t *log,
                           size_t log_length, uint8_t *whole, size_t capacity, size_t *size);
+
+/* Bytes of length 0 may be null: the calls below, by macros of their names, hand on the address of a byte for it. Where a call's
+ * address is taken, or its name stands in parentheses, it is the call itself, and no pointer may be null. An argument with a comma
+ * that no parentheses are around, as in a compound literal, wants parentheses of its own. */
+BTWORLD_INLINE const uint8_t *btworld_some(const uint8_t *bytes) {
+    static const uint8_t none = 0;
+    return bytes ? bytes : &none;
+}
+BTWORLD_INLINE uint8_t *btworld_some_room(uint8_t *room) {
+    static uint8_t none;
+    return room ? room : &none;
+}
+#define btworld_check(level, length) btworld_check(btworld_some(level), length)
+#define btworld_fault_text(level, level_length, script, script_length, text, capacity, size) \
+    btworld_fault_text(btworld_some(level), level_length, btworld_some(script), script_length, btworld_some_room(text), capacity, size)
+#define btworld_open(game, level, length) btworld_open(game, btworld_some(level), length)
+#define btworld_open_script(game, level, level_length, script, script_length) \
+    btworld_open_script(game, btworld_some(level), level_length, btworld_some(script), script_length)
+#define btworld_text(game, text, capacity, size) btworld_text(game, btworld_some_room(text), capacity, size)
+#define btworld_replay(level, level_length, script, script_length, log, log_length, text, capacity, size, frames) \
+    btworld_replay(btworld_some(level), level_length, btworld_some(script), script_length, btworld_some(log), log_length, \
+                   btworld_some_room(text), capacity, size, frames)
+#define btworld_complete(level, level_length, script, script_length, log, log_length, whole, capacity, size) \
+    btworld_complete(btworld_some(level), level_length, btworld_some(script), script_length, btworld_some(log), log_length, \
+                     btworld_some_room(whole), capacity, size)
+
+#ifdef BTWORLD_HOOKED
+/* What a library that was built by `make HOOKED=1` takes all its memory from. The program defines them; they do what the C library's
+ * do, align to 16 bytes, and may answer null: that is NO_MEMORY. */
+void *btworld_malloc(size_t size);
+void *btworld_realloc(void *block, size_t size);
+void btworld_free(void *block);
+#endif
 
 #ifdef __cplusplus
 }

@@ -98,7 +98,11 @@ int main(int argc, char **argv) {
     LOOK(status == BTWORLD_OK);
     REFUSING(status, btworld_open(&game, level, size)) LOOK(!game.is_open && btworld_frame(&game, &frame) == BTWORLD_CLOSED);
     LOOK(status == BTWORLD_OK && btworld_open(&game, level, size) == BTWORLD_OPEN);
-    LOOK(btworld_open(&twin, level, size) == BTWORLD_OK);
+    LOOK(btworld_open_script(&twin, level, size, NULL, 0) == BTWORLD_OK);
+    LOOK(btworld_check(NULL, 0) == BTWORLD_LEVEL_JSON && !strcmp(btworld_status_text(BTWORLD_LEVEL_JSON), "level: json"));
+    LOOK(btworld_fault_text(NULL, 0, NULL, 0, NULL, 0, &length) == BTWORLD_SHORT && length == 11);
+    LOOK(btworld_fault_text(level, size, NULL, 0, NULL, 0, &length) == BTWORLD_OK && length == 0);
+    LOOK(btworld_version() == BTWORLD_VERSION);
     LOOK(btworld_text(&game, text, ROOM, &length) == BTWORLD_NO_FRAME && btworld_agent(&game, 0, &agent) == BTWORLD_NO_FRAME);
     for (uint32_t f = 1; f <= (uint32_t)atoi(argv[2]); f++) {
         uint32_t on = f * 2654435761u >> 6;
@@ -114,6 +118,7 @@ int main(int argc, char **argv) {
         memset(other, 1, ROOM);
         REFUSING(status, btworld_text(&game, text, ROOM, &filled)) LOOK(!memcmp(text, other, ROOM));
         LOOK(status == BTWORLD_OK && filled == length && !memcmp(text, kept, length) && text[length] == 1);
+        LOOK(btworld_text(&game, NULL, 0, &filled) == BTWORLD_SHORT && filled == length);
         memset(text, 1, ROOM);
         LOOK(btworld_text(&game, text, length - 1, &filled) == BTWORLD_SHORT && filled == length && !memcmp(text, other, ROOM));
         REFUSING(status, btworld_fork(&game, &copy)) LOOK(!copy.is_open && btworld_same(&game, &twin, &same) == BTWORLD_OK && same);

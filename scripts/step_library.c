@@ -2,26 +2,28 @@
  * line each: `digest FRAME HEX`. scripts/compare_with_plain builds and runs it, and scripts/try_library does by a compiler of C and
  * one of C++: it is both.
  *
- *   step_library LEVEL SCRIPT FRAMES
+ *   step_library LEVEL SCRIPT|- FRAMES
  *
  * Status: 0; 1 for a file that can't be read; 2 where the level or the script is refused, with the line that btworld writes. */
 #include "btworld.h"
 #include <inttypes.h>
 #include <stdio.h>
 #include <stdlib.h>
+#include <string.h>
 
 enum { MOST = 1 << 22 };
 
 static void need(uint32_t status) {
     if (status == BTWORLD_OK) return;
-    fprintf(stderr, "status %" PRIu32 "\n", status);
+    fprintf(stderr, "%s\n", btworld_status_text(status));
     exit(4);
 }
 
 static size_t read_file(const char *path, uint8_t *bytes) {
-    FILE *file = fopen(path, "rb");
+    FILE *file;
     size_t length;
-    if (!file) {
+    if (!strcmp(path, "-")) return 0;
+    if (!(file = fopen(path, "rb"))) {
         fprintf(stderr, "file: %s\n", path);
         exit(1);
     }

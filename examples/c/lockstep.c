@@ -30,11 +30,11 @@ static void read_script(const char *path, uint32_t frames) {
     fclose(file);
 }
 
-static void write_text(btworld_game *game) {
+static void write_text(const btworld_game *game) {
     static uint8_t *text;
     static size_t room;
     size_t length;
-    uint32_t status = btworld_text(game, text ? text : (uint8_t *)"", room, &length);
+    uint32_t status = btworld_text(game, text, room, &length);
     if (status == BTWORLD_SHORT) {
         if (!(text = realloc(text, room = length))) exit(3);
         status = btworld_text(game, text, room, &length);

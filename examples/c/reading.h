@@ -7,7 +7,7 @@
 
 static void need(const char *what, uint32_t status) {
     if (status == BTWORLD_OK) return;
-    fprintf(stderr, "%s: status %" PRIu32 "\n", what, status);
+    fprintf(stderr, "%s: %s\n", what, btworld_status_text(status));
     exit(status == BTWORLD_NO_MEMORY ? 3 : 4);
 }
 #define NEED(call) need(#call, call)
@@ -29,9 +29,9 @@ static uint8_t *read_file(const char *path, size_t *length) {
 /* Asks for bytes of which the number isn't known: first with no room, and again with what is wanted. */
 #define WITH_ROOM(status, buffer, size, call) do { \
         size_t capacity = 0; \
-        buffer = (uint8_t *)malloc(1); \
-        while (buffer && ((status) = (call)) == BTWORLD_SHORT) buffer = (uint8_t *)realloc(buffer, capacity = (size)); \
-        if (!buffer) exit(3); \
+        buffer = NULL; \
+        while (((status) = (call)) == BTWORLD_SHORT) \
+            if (!((buffer) = (uint8_t *)realloc(buffer, capacity = (size)))) exit(3); \
     } while (0)
 
 /* Writes the line of the first fault of a level or a script as btworld does, and ends with its status. */

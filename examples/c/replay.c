@@ -24,7 +24,7 @@ int main(int argc, char **argv) {
     if (status >= BTWORLD_LEVEL_JSON && status < BTWORLD_LOG_HEAD) refuse(level, level_length, script, script_length);
     if (status == BTWORLD_OK || status == BTWORLD_LOG_INCOMPLETE) fwrite(text, 1, size, stdout);
     if (status == BTWORLD_LOG_INCOMPLETE) fprintf(stderr, "log: incomplete, %" PRIu32 " frames\n", frames);
-    else if (status != BTWORLD_OK) fprintf(stderr, "log: status %" PRIu32 "\n", status);
+    else if (status != BTWORLD_OK) fprintf(stderr, "%s\n", btworld_status_text(status));
     free(text);
     free(log);
     free(script);

@@ -1,7 +1,11 @@
 //! A safe wrapper of include/btworld.h. A game owns its handle and closes it; what the calls ask of a caller in C is kept by the
-//! types here. It is neither `Send` nor `Sync`: a game and its clones stay on one thread.
+//! types here.
+//!
+//! `Game` is neither `Send` nor `Sync`. A game and its clones share parts, so `Send` would let two threads use them at once, and
+//! that they may is not proved. A program that keeps a game and all its clones on one thread needs neither.
 use std::cell::UnsafeCell;
 use std::fmt;
+use std::ptr;
 
 #[repr(C)]
 struct Handle {
@@ -9,64 +13,170 @@ struct Handle {
     is_open: bool,
 }
 
+#[repr(C)]
+#[derive(Clone, Copy, Default)]
+struct AgentState {
+    x: u32,
+    y: u32,
+    carrying: bool,
+    status: u8,
+}
+
 unsafe extern "C" {
-    fn btworld_open(game: *mut Handle, level: *const u8, length: usize) -> u32;
+    fn btworld_fault_text(
+        level: *const u8,
+        level_length: usize,
+        script: *const u8,
+        script_length: usize,
+        text: *mut u8,
+        capacity: usize,
+        size: *mut usize,
+    ) -> u32;
+    fn btworld_open_script(
+        game: *mut Handle,
+        level: *const u8,
+        level_length: usize,
+        script: *const u8,
+        script_length: usize,
+    ) -> u32;
     fn btworld_step(game: *mut Handle, signals: u32) -> u32;
-    fn btworld_text(game: *mut Handle, text: *mut u8, capacity: usize, length: *mut usize) -> u32;
-    fn btworld_fork(game: *mut Handle, copy: *mut Handle) -> u32;
-    fn btworld_digest(game: *mut Handle, digest: *mut u64) -> u32;
+    fn btworld_step_script(game: *mut Handle) -> u32;
+    fn btworld_text(game: *const Handle, text: *mut u8, capacity: usize, size: *mut usize) -> u32;
+    fn btworld_agent(game: *const Handle, agent: u32, out: *mut AgentState) -> u32;
+    fn btworld_frame(game: *const Handle, frame: *mut u32) -> u32;
+    fn btworld_fork(game: *const Handle, copy: *mut Handle) -> u32;
+    fn btworld_same(game: *const Handle, other: *const Handle, same: *mut bool) -> u32;
+    fn btworld_digest(game: *const Handle, digest: *mut u64) -> u32;
     fn btworld_close(game: *mut Handle);
 }
 
-/// A status of btworld.h other than 0.
-#[derive(Clone, Copy, Debug, PartialEq, Eq)]
-pub struct Fault(pub u32);
+/// What a call of a game can fail with.
+#[derive(Clone, Debug, PartialEq, Eq)]
+pub enum Fault {
+    /// Memory was refused.
+    NoMemory,
+    /// The level or the script is refused, with the line that btworld writes.
+    Refused(String),
+    /// No frame was stepped yet, so there is no text and no agent's answer.
+    NoFrame,
+    /// There is no such agent.
+    NoAgent,
+    /// 2^32 - 1 frames were stepped.
+    LastFrame,
+}
 
 impl fmt::Display for Fault {
     fn fmt(&self, f: &mut fmt::Formatter<'_>) -> fmt::Result {
-        write!(f, "status {}", self.0)
+        f.write_str(match self {
+            Fault::NoMemory => "want of memory",
+            Fault::Refused(line) => line,
+            Fault::NoFrame => "no frame was stepped yet",
+            Fault::NoAgent => "there is no such agent",
+            Fault::LastFrame => "the last frame was stepped",
+        })
     }
 }
 
 impl std::error::Error for Fault {}
 
+/// A status of a game that is open, or of a call that needs none.
 fn done(status: u32) -> Result<(), Fault> {
-    if status == 0 { Ok(()) } else { Err(Fault(status)) }
+    match status {
+        0 => Ok(()),
+        1 => Err(Fault::NoMemory),
+        4 => Err(Fault::NoFrame),
+        6 => Err(Fault::NoAgent),
+        7 => Err(Fault::LastFrame),
+        _ => unreachable!("the types here rule status {status} out"),
+    }
 }
 
-/// A game after a frame. The calls that only read take the game out of its handle and put it back, so it lies in a cell.
+/// What a call writes, that takes a buffer, its capacity, and where its size goes: asked with no room first.
+fn written(mut call: impl FnMut(*mut u8, usize, &mut usize) -> u32) -> Result<String, Fault> {
+    let (mut text, mut size) = (Vec::new(), 0);
+    loop {
+        match call(text.as_mut_ptr(), text.len(), &mut size) {
+            5 => text = vec![0; size],
+            status => {
+                done(status)?;
+                text.truncate(size);
+                return Ok(String::from_utf8(text).expect("what btworld writes is UTF-8"));
+            }
+        }
+    }
+}
+
+/// What an agent's tree answered in a frame.
+#[derive(Clone, Copy, Debug, PartialEq, Eq)]
+pub enum Answer {
+    Success,
+    Failure,
+    Running,
+}
+
+/// An agent after a frame: `x` counts columns from the left and `y` rows from the top, from 0.
+#[derive(Clone, Copy, Debug, PartialEq, Eq)]
+pub struct Agent {
+    pub x: u32,
+    pub y: u32,
+    pub carrying: bool,
+    pub answer: Answer,
+}
+
+/// A game after a frame. The calls that only read write to the handle while they do, so it lies in a cell.
 pub struct Game(UnsafeCell<Handle>);
 
 impl Game {
     fn closed() -> Game {
-        Game(UnsafeCell::new(Handle { at: std::ptr::null_mut(), is_open: false }))
+        Game(UnsafeCell::new(Handle { at: ptr::null_mut(), is_open: false }))
     }
 
-    /// The game of a level, before its first frame.
-    pub fn open(level: &[u8]) -> Result<Game, Fault> {
+    /// The game of a level before its first frame, with a script for `step_script`; an empty one turns nothing.
+    pub fn open(level: &[u8], script: &[u8]) -> Result<Game, Fault> {
         let game = Game::closed();
-        // SAFETY: the handle is closed and lives through the call; a slice has as many bytes as it says.
-        done(unsafe { btworld_open(game.0.get(), level.as_ptr(), level.len()) })?;
-        Ok(game)
+        // SAFETY: the handle is closed and lives through the call; a slice has as many bytes as it says, and is never null.
+        match unsafe { btworld_open_script(game.0.get(), level.as_ptr(), level.len(), script.as_ptr(), script.len()) } {
+            16.. => Err(Fault::Refused(written(|text, capacity, size| {
+                // SAFETY: the slices as above; `written` hands in a buffer that is as long as it says.
+                unsafe { btworld_fault_text(level.as_ptr(), level.len(), script.as_ptr(), script.len(), text, capacity, size) }
+            })?)),
+            status => done(status).map(|()| game),
+        }
     }
 
-    /// The next frame, with these signals on: bit 0 is `a`.
+    /// The next frame, with these signals on: bit 0 is `a`. After a fault no frame is stepped.
     pub fn step(&mut self, signals: u32) -> Result<(), Fault> {
         // SAFETY: no other call has this handle: none comes from another thread, since the type is not `Sync`, or from within one.
         done(unsafe { btworld_step(self.0.get(), signals) })
     }
 
+    /// The next frame, with the signals of the script. After a fault no frame is stepped.
+    pub fn step_script(&mut self) -> Result<(), Fault> {
+        // SAFETY: as in `step`.
+        done(unsafe { btworld_step_script(self.0.get()) })
+    }
+
     /// The text of the frame.
     pub fn text(&self) -> Result<String, Fault> {
-        let (mut text, mut length) = (Vec::new(), 0);
-        loop {
-            // SAFETY: as in `step`; the buffer is as long as it says, and overlaps neither the handle nor the length.
-            match unsafe { btworld_text(self.0.get(), text.as_mut_ptr(), text.len(), &mut length) } {
-                0 => return Ok(String::from_utf8(text).expect("a frame is ASCII")),
-                5 => text = vec![0; length],
-                status => return Err(Fault(status)),
-            }
-        }
+        // SAFETY: as in `step`; the buffer is as long as it says, and overlaps neither the handle nor the size.
+        written(|text, capacity, size| unsafe { btworld_text(self.0.get(), text, capacity, size) })
+    }
+
+    /// An agent after the frame, 0 for `A`.
+    pub fn agent(&self, number: u32) -> Result<Agent, Fault> {
+        let mut state = AgentState::default();
+        // SAFETY: as in `step`.
+        done(unsafe { btworld_agent(self.0.get(), number, &mut state) })?;
+        let answer = [Answer::Success, Answer::Failure, Answer::Running][usize::from(state.status)];
+        Ok(Agent { x: state.x, y: state.y, carrying: state.carrying, answer })
+    }
+
+    /// How many frames were stepped.
+    pub fn frame(&self) -> u32 {
+        let mut frame = 0;
+        // SAFETY: as in `step`. The handle is open, so there is no fault.
+        done(unsafe { btworld_frame(self.0.get(), &mut frame) }).expect("an open game has a frame");
+        frame
     }
 
     /// The digest of the state: equal on all machines that are in the same state.
@@ -91,6 +201,21 @@ impl Clone for Game {
         self.try_clone().expect("memory for a copy")
     }
 }
+
+/// Whether both are in the same state.
+impl PartialEq for Game {
+    fn eq(&self, other: &Game) -> bool {
+        let mut same = true;
+        // Two handles of one call don't overlap, and a game is in its own state.
+        if !ptr::eq(self, other) {
+            // SAFETY: as in `step`. It takes no memory, and both handles are open, so there is no fault.
+            done(unsafe { btworld_same(self.0.get(), other.0.get(), &mut same) }).expect("open games can be compared");
+        }
+        same
+    }
+}
+
+impl Eq for Game {}
 
 impl Drop for Game {
     fn drop(&mut self) {

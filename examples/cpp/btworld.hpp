@@ -1,0 +1,117 @@
+// The calls of btworld.h as a class. A game can be moved and forked, but not copied, and closes itself; what fails throws. As in
+// btworld.h a game and all its forks are used by one thread at a time.
+#ifndef BTWORLD_HPP
+#define BTWORLD_HPP
+
+#include "btworld.h"
+#include <new>
+#include <stdexcept>
+#include <string>
+#include <utility>
+#include <vector>
+
+namespace btworld {
+
+using Bytes = std::vector<std::uint8_t>;
+
+// What failed, by its status; want of memory is std::bad_alloc.
+class Failure : public std::runtime_error {
+public:
+    Failure(std::uint32_t number, const std::string &text) : std::runtime_error(text), status(number) {}
+    std::uint32_t status;
+};
+
+inline void need(std::uint32_t status) {
+    if (status == BTWORLD_NO_MEMORY) throw std::bad_alloc();
+    if (status != BTWORLD_OK) throw Failure(status, btworld_status_text(status));
+}
+
+// What a call writes, that takes a buffer, its capacity, and where its size goes: asked with no room first.
+template <typename Call> std::string written(Call call) {
+    std::string text;
+    std::size_t size = 0;
+    std::uint32_t status;
+    while ((status = call(reinterpret_cast<std::uint8_t *>(&text[0]), text.size(), &size)) == BTWORLD_SHORT) text.resize(size);
+    need(status);
+    text.resize(size);
+    return text;
+}
+
+// The line that btworld writes of the first fault of a level or a script; empty where there is none.
+inline std::string fault_text(const Bytes &level, const Bytes &script = {}) {
+    return written([&](std::uint8_t *text, std::size_t capacity, std::size_t *size) {
+        return btworld_fault_text(level.data(), level.size(), script.data(), script.size(), text, capacity, size);
+    });
+}
+
+class Game {
+public:
+    // The game of a level before its first frame, with a script for step_script: an empty one turns nothing.
+    explicit Game(const Bytes &level, const Bytes &script = {}) {
+        const std::uint32_t status = btworld_open_script(&handle, level.data(), level.size(), script.data(), script.size());
+        if (status >= BTWORLD_LEVEL_JSON) throw Failure(status, fault_text(level, script));
+        need(status);
+    }
+
+    Game(Game &&other) noexcept { std::swap(handle, other.handle); }
+
+    Game &operator=(Game &&other) noexcept {
+        Game moved(std::move(other));
+        std::swap(handle, moved.handle);
+        return *this;
+    }
+
+    ~Game() { btworld_close(&handle); }
+
+    // The next frame, with the signals whose bits are on: bit 0 is a.
+    void step(std::uint32_t signals) { need(btworld_step(&handle, signals)); }
+
+    void step_script() { need(btworld_step_script(&handle)); }
+
+    std::string text() const {
+        return written([this](std::uint8_t *text, std::size_t capacity, std::size_t *size) {
+            return btworld_text(&handle, text, capacity, size);
+        });
+    }
+
+    btworld_agent_state agent(std::uint32_t number) const {
+        btworld_agent_state state;
+        need(btworld_agent(&handle, number, &state));
+        return state;
+    }
+
+    std::uint32_t frame() const {
+        std::uint32_t frame;
+        need(btworld_frame(&handle, &frame));
+        return frame;
+    }
+
+    std::uint64_t digest() const {
+        std::uint64_t digest;
+        need(btworld_digest(&handle, &digest));
+        return digest;
+    }
+
+    // The same game at the same frame, to be gone on with apart from this one.
+    Game fork() const {
+        Game copy;
+        need(btworld_fork(&handle, &copy.handle));
+        return copy;
+    }
+
+    // Whether both are in the same state.
+    bool operator==(const Game &other) const {
+        bool same;
+        need(btworld_same(&handle, &other.handle, &same));
+        return same;
+    }
+    bool operator!=(const Game &other) const { return !(*this == other); }
+
+private:
+    Game() = default;
+
+    btworld_game handle = BTWORLD_CLOSED_GAME;
+};
+
+} // namespace btworld
+#endif
