@@ -1,23 +1,24 @@
 -- Thoughts that are cut at their questions.
-use Rattle.std.proofs.Common.{◌≡◌, ◌<◌, ℕ, [], ◌∷◌, ◌+◌, ◌-◌, Bool, List, length, sym, ap, ◌∙◌, subst, arith}
+use Rattle.std.proofs.Common.{◌≡◌, ◌<◌, ℕ, ◌+◌, ◌-◌, Bool, List, length, sym, ap, ◌∙◌, subst, arith}
 use Rattle.std.specs.declared.alloc.Global.{Global}
 use Rattle.grid_world.specs.Grid.{Grid}
 use Rattle.grid_world.specs.Way.{way}
 use Rattle.grid_world.specs.declared.cell.Answer.{Answer}
 use Rattle.grid_world.specs.declared.cell.Intent.{Intent}
 use Rattle.bt_nodes.specs.declared.node.Status.{Status}
+use Rattle.bt_nodes.specs.Plain.{Plain}
 use Rattle.bt_nodes.specs.Sizes.{size}
 use Rattle.game_rules.specs.Game.{Game}
 use Rattle.game_rules.specs.View.{View, cell_of}
 use Rattle.game_rules.specs.Thought.{way_to_last}
 use Rattle.game_rules.proofs.Ways.{few}
 use Rattle.game_jobs.specs.Instance.{tree_of, view}
-use Rattle.bt_tick.specs.Outcome.{place_of, means, ComesTo, IsOfTree, tree_of as tree_in}
+use Rattle.bt_tick.specs.Outcome.{place_of, means, tree_of as tree_in}
 use Rattle.bt_tick.specs.Thinking.{Thinking}
 use Rattle.bt_tick.specs.declared.tick.Pending.{Pending}
 use Rattle.bt_tick.specs.declared.tick.Outcome.{Outcome}
 use Rattle.bt_tick.specs.declared.tick.Outcome.TheVariants.{Ended, Asks}
-use Rattle.bt_tick.proofs.CutTicks.{asks_now, still_asks, ended_asks, thinking_copied, thinking_ended, thinking_resumed}
+use Rattle.bt_tick.proofs.CutTicks.{asks_now, still_asks, ended_asks, thinking_copied, thinking_ended}
 use Rattle.frame_state.specs.Names.{FrameOf}
 use Rattle.frame_state.specs.Contents.{world_after, signals_in, seen, memory_before, thought_in, questions_in, ways_in, place_in, way_in, way_to_in}
 use Rattle.frame_state.specs.Thoughts.{IsWayOf, EndsAt}
@@ -102,9 +103,10 @@ module _ (g : Game) (f a : ℕ) (world : Grid) (on : List Bool) (sees : Sees g f
       (subst (λ m. Thinking (view on world a) (tree_of g a) m 0 o) e t)
 
   pub goes_on : {A : Type 0} (i : ℕ) (p : Pending Global A) (x : Answer) (o : Outcome Global A) → StandsAt g f a i p → IsWayOf g f a i x
-      → ComesTo (view on world a) (place_of p ∷ []) o (λ more. means (view on world a) p (x ∷ more)) → IsOfTree (tree_in p) o → ThinksTo g f a (i + 1) o
-  goes_on i p x o stands is comes tree =
+      → ((q : Plain) (m : List ℕ) (j : ℕ) → Thinking (view on world a) q m j (Asks (place_of p) p)
+      → x ≡ way world on (cell_of (view on world a)) (place_of p) → Thinking (view on world a) q m (j + 1) o) → ThinksTo g f a (i + 1) o
+  goes_on i p x o stands is goes =
       subst (λ v. Thinking v (tree_of g a) (memory_before g f a) (i + 1) o) (sees_is g f a world on sees)
-      (thinking_resumed (view on world a) (tree_of g a) (memory_before g f a) i (place_of p) p x o
+      (goes (tree_of g a) (memory_before g f a) i
       (subst (λ v. Thinking v (tree_of g a) (memory_before g f a) i (Asks (place_of p) p)) (sym (sees_is g f a world on sees)) stands.thinks)
-      (way_seen i p x stands is) comes tree)
+      (way_seen i p x stands is))

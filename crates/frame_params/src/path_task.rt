@@ -1,6 +1,6 @@
 ghost use Rattle.std.specs.Prelude.{◌≡◌, IfOk};
 ghost use Rattle.frame_state.specs.Contents.{signals_in, way_in};
-ghost use Rattle.frame_state.specs.Distances.{IsUnderIf};
+ghost use Rattle.frame_parts.specs.Distances.{IsUnderIf};
 
 use crate::parked::{Parked, ParkedTick};
 use frame_state::{FrameParams, FrameStart, KeptDistances, Way};
@@ -17,7 +17,7 @@ pub struct PathTask<'t> {
     question: u32,
     place: Place,
     // The distances to the place, where a search of the frame found them.
-    found: Option<KeptDistances<'t>>,
+    found: Option<KeptDistances>,
 }
 
 impl<'t> Drop for PathTask<'t> {
@@ -43,7 +43,7 @@ impl<'t> Model for PathTask<'t> {
 
     ghost use Rattle.frame_state.specs.Contents.{signals_in};
     ghost use Rattle.frame_params.specs.Thinks.{AsksFor};
-    ghost use Rattle.frame_state.specs.Distances.{IsGivenIf};
+    ghost use Rattle.frame_parts.specs.Distances.{IsGivenIf};
 
     ghost view = { λ t. record {
       game = (arc_value t.start).game;
@@ -54,7 +54,7 @@ impl<'t> Model for PathTask<'t> {
 
     ghost invariant = { λ t. (t.agent < length (arc_value t.start).game.trees)
         × AsksFor (arc_value t.start).game (arc_value t.start).frame t.agent t.question t.place
-        × IsGivenIf (arc_value t.start).game (signals_in (arc_value t.start).game (arc_value t.start).frame) t.place t.found };
+        × IsGivenIf (arc_value t.start).game.world (signals_in (arc_value t.start).game (arc_value t.start).frame) t.place t.found };
 }
 
 impl<'t> PathTask<'t> {
@@ -97,20 +97,14 @@ impl<'t> PathTask<'t> {
         &self,
         alloc: Global,
         scratch: A,
-    ) -> Result<(Answer, Option<KeptDistances<'t>>), AllocError>
+    ) -> Result<(Answer, Option<KeptDistances>), AllocError>
         ensures way { IfOk result (λ parts. parts.0 ≡ way_in self.now.game self.now.frame self.now.agent self.now.question) }
-        ensures found { IfOk result (λ parts. IsUnderIf self.now.game (signals_in self.now.game self.now.frame) parts.1) }
+        ensures found { IfOk result (λ parts. IsUnderIf self.now.game.world (signals_in self.now.game self.now.frame) parts.1) }
     {
         let start: &FrameStart<'t> = &self.start;
-        if let Some(found) = &self.found {
-            return Ok((start.way_by(found, self.place, self.agent), None));
-        }
-        if let Some(answer) = start.known_way(self.place, self.agent) {
-            return Ok((answer, None));
-        }
-        match KeptDistances::to(alloc, scratch, start.session(), start.signals(), self.place)? {
-            None => Ok((Answer::NoWay, None)),
-            Some(found) => Ok((start.way_by(&found, self.place, self.agent), Some(found))),
+        match &self.found {
+            Some(found) => Ok((start.way_by(found, self.place, self.agent), None)),
+            None => Ok(start.way_to(alloc, scratch, self.place, self.agent)?),
         }
     }
 

@@ -3,7 +3,7 @@ ghost use Rattle.std.specs.Prelude.{◌+◌, ◌<◌, ℕ, IfOk, length};
 ghost use Rattle.frame_state.specs.Thoughts.{IsWayOf};
 ghost use Rattle.frame_params.specs.Thinks.{ThinksTo, StandsAt};
 
-use bt_tick::{Outcome, Pending, View, begin, resume};
+use bt_tick::{Outcome, Pending, View};
 use frame_state::FrameStart;
 use grid_world::Answer;
 use std::alloc::{AllocError, Allocator, Global};
@@ -24,10 +24,7 @@ pub(crate) fn begun<'t, A: Allocator + Clone>(
         agent,
     };
     let tree = start.session().tree_of(agent);
-    match begin(scratch, tree, &view, start.memory_of(agent).copy(alloc)?) {
-        Ok(outcome) => Ok(outcome),
-        Err(_) => Err(AllocError),
-    }
+    Ok(frame_parts::begun(alloc, scratch, tree, &view, start.memory_of(agent))?)
 }
 
 // Goes on with an agent's tick that stands, by the way to the place for which it asks.
@@ -49,10 +46,7 @@ fn gone_on<'t, A: Allocator + Clone>(
         signals: start.signals(),
         agent,
     };
-    match resume(scratch, pending, &view, answer) {
-        Ok(outcome) => Ok(outcome),
-        Err(_) => Err(AllocError),
-    }
+    Ok(frame_parts::gone_on(scratch, &view, pending, answer)?)
 }
 
 // Goes on with a copy in `scratch` of such a tick.

@@ -11,10 +11,9 @@ use Rattle.grid_world.proofs.signal.Signals.TheSendSync.{the_send as signals_sen
 use Rattle.game_session.proofs.script.Script.TheSendSync.{the_send as script_send, the_sync as script_sync}
 use Rattle.bt_tick.proofs.memory.Memory.TheSendSync.{the_send as memory_send, the_sync as memory_sync}
 use Rattle.frame_state.proofs.kept_memory.KeptMemory.TheSendSync.{the_send as kept_send, the_sync as kept_sync}
-use Rattle.grid_path.proofs.distances.Distances.TheSendSync.{the_send as distances_send, the_sync as distances_sync}
+use Rattle.frame_parts.proofs.kept_distances.KeptDistances.TheSendSync.{the_send as kept_distances_send, the_sync as kept_distances_sync}
+use Rattle.frame_parts.proofs.known.Known.TheSendSync.{the_send as known_send, the_sync as known_sync}
 use Rattle.game_session.specs.contracts.session.Session as Session
-use Rattle.frame_state.specs.contracts.kept_distances.KeptDistances as KeptDistances
-use Rattle.frame_state.specs.contracts.known.Known as Known
 use Rattle.frame_state.specs.contracts.frame_start.FrameStart as FrameStart
 use Rattle.frame_state.specs.contracts.gathered.Gathered as Gathered
 use Rattle.frame_state.specs.contracts.way.Way as Way
@@ -27,7 +26,7 @@ use Rattle.frame_state.specs.contracts.logic_task.LogicTask as LogicTask
 use Rattle.frame_state.specs.contracts.params.FrameParams as FrameParams
 use Rattle.frame_state.specs.contracts.slots.Slots as Slots
 
-ruleset of_parts = (world_send, world_sync, answer_send, answer_sync, intent_send, intent_sync, place_send, place_sync, signals_send, signals_sync, script_send, script_sync, memory_send, memory_sync, kept_send, kept_sync, distances_send, distances_sync)
+ruleset of_parts = (world_send, world_sync, answer_send, answer_sync, intent_send, intent_sync, place_send, place_sync, signals_send, signals_sync, script_send, script_sync, memory_send, memory_sync, kept_send, kept_sync, kept_distances_send, kept_distances_sync, known_send, known_sync)
 
 ruleset of_knots = (both_send-Node, both_sync-Node, send-Node, sync-Node)
 
@@ -36,34 +35,25 @@ session = search (of_parts, of_knots, sendable, crosses) depth 40
 
 -- ---- what tasks and results share
 
-pub kept_distances_send : (κ : NamedLft) → IsSend (KeptDistances.the_row κ)
-kept_distances_send κ = search (session, of_parts, sendable, crosses) depth 40
-
-pub kept_distances_sync : (κ : NamedLft) → IsSync (KeptDistances.the_row κ)
-kept_distances_sync κ = search (session, of_parts, sendable, crosses) depth 40
-
-pub known : (κ : NamedLft) → IsSend (Known.the_row κ)
-known κ = search (session, of_parts, kept_distances_send, kept_distances_sync, sendable, crosses) depth 40
-
 pub frame_start_send : (κ : NamedLft) → IsSend (FrameStart.the_row κ)
-frame_start_send κ = search (session, of_parts, kept_distances_send, kept_distances_sync, sendable, crosses) depth 40
+frame_start_send κ = search (session, of_parts, sendable, crosses) depth 40
 
 pub frame_start_sync : (κ : NamedLft) → IsSync (FrameStart.the_row κ)
-frame_start_sync κ = search (session, of_parts, kept_distances_send, kept_distances_sync, sendable, crosses) depth 40
+frame_start_sync κ = search (session, of_parts, sendable, crosses) depth 40
 
 pub gathered : (κ : NamedLft) → IsSend (Gathered.the_row κ)
-gathered κ = search (of_parts, kept_distances_send, frame_start_send, frame_start_sync, sendable, crosses) depth 40
+gathered κ = search (of_parts, frame_start_send, frame_start_sync, sendable, crosses) depth 40
 
 -- ---- results
 
 pub way : (κ : NamedLft) → IsSend (Way.the_row κ)
-way κ = search (session, of_parts, kept_distances_send, sendable, crosses) depth 40
+way κ = search (session, of_parts, sendable, crosses) depth 40
 
 pub thought : (κ : NamedLft) → IsSend (Thought.the_row κ)
 thought κ = search (session, of_parts, sendable, crosses) depth 40
 
 pub turn : (κ : NamedLft) → IsSend (Turn.the_row κ)
-turn κ = search (session, of_parts, known, sendable, crosses) depth 40
+turn κ = search (session, of_parts, sendable, crosses) depth 40
 
 pub band_out : (κ : NamedLft) → IsSend (BandOut.the_row κ)
 band_out κ = search (session, of_parts, sendable, crosses) depth 40
@@ -82,7 +72,7 @@ logic_task κ = search (session, gathered, sendable, crosses) depth 40
 -- ---- what tasks are made of
 
 pub params : (κ : NamedLft) → IsSend (FrameParams.the_row κ)
-params κ = search (frame_start_send, frame_start_sync, kept_distances_send, sendable, crosses) depth 40
+params κ = search (frame_start_send, frame_start_sync, of_parts, sendable, crosses) depth 40
 
 pub slots : (κ : NamedLft) → IsSend (Slots.the_row κ)
 slots κ = search (params, sendable, crosses) depth 40

@@ -1,38 +1,23 @@
 -- Ways that are read off distances.
-use Rattle.std.proofs.Common.{◌≡◌, ℕ, ◌-◌, ◌∙◌, Bool, List, Option, None, refl, sym, ap, subst}
-use Rattle.std.specs.Prelude.{MatchOption}
-use Rattle.grid_world.specs.Grid.{Grid, Point, agent_of, place_of, point_of}
+use Rattle.std.proofs.Common.{◌≡◌, ℕ, ◌-◌, ◌∙◌, refl, sym, ap, subst}
+use Rattle.grid_world.specs.Grid.{Grid, Point, agent_of, point_of}
 use Rattle.grid_world.specs.Ground.{emptied}
 use Rattle.grid_world.specs.Way.{way}
-use Rattle.grid_world.specs.declared.cell.Answer.TheVariants.{NoWay}
 use Rattle.game_rules.specs.Game.{Game}
 use Rattle.game_rules.specs.View.{cell_of}
-use Rattle.game_rules.proofs.Ground.{SameGround, ground_is, play_ground, way_stays, no_way}
+use Rattle.game_rules.proofs.Ground.{SameGround, ground_is, play_ground, way_stays}
 use Rattle.frame_state.specs.Contents.{signals_in, seen, way_to_in, world_after}
-use Rattle.frame_state.specs.Distances.{DistancesOf, distances_of}
-
--- what a search comes to
-abbrev pub IsMade : Game → List Bool → ℕ → Option DistancesOf → Type 0
-IsMade g on place made = MatchOption made (place_of g.world place ≡ None) (λ (d : DistancesOf). d ≡ distances_of g on place)
 
 -- all worlds of a game stand on its ground
 pub one_ground : (g : Game) (f : ℕ) (world : Grid) → world ≡ world_after g f → emptied g.world ≡ emptied world
 unfolding world_after
 one_ground g f world is = ground_is g.world world (subst (λ (w : Grid). SameGround g.world w) (sym is) (play_ground g f))
 
-module _ (g : Game) (f a place : ℕ) where
-  stays : emptied g.world ≡ emptied (world_after g (f - 1))
-  stays = one_ground g (f - 1) (world_after g (f - 1)) refl
-
-  pub read_way : (p : Point) → p ≡ cell_of (seen g f a) → way g.world (signals_in g f) p place ≡ way_to_in g f a place
-  unfolding seen
-  read_way p here =
-      way_stays g.world (world_after g (f - 1)) stays (signals_in g f) p place
-      ∙ ap (λ (q : Point). way (world_after g (f - 1)) (signals_in g f) q place) here
-
-  pub unread_way : place_of g.world place ≡ None → NoWay ≡ way_to_in g f a place
-  unfolding seen
-  unread_way none = no_way g.world (world_after g (f - 1)) stays (signals_in g f) (cell_of (seen g f a)) place none
+pub read_way : (g : Game) (f a place : ℕ) (p : Point) → p ≡ cell_of (seen g f a) → way g.world (signals_in g f) p place ≡ way_to_in g f a place
+unfolding seen
+read_way g f a place p here =
+    way_stays g.world (world_after g (f - 1)) (one_ground g (f - 1) (world_after g (f - 1)) refl) (signals_in g f) p place
+    ∙ ap (λ (q : Point). way (world_after g (f - 1)) (signals_in g f) q place) here
 
 -- an agent's cell in what it sees
 pub cell_seen : (g : Game) (f a : ℕ) (world : Grid) → world ≡ world_after g (f - 1) → point_of (agent_of world a) ≡ cell_of (seen g f a)

@@ -15,8 +15,9 @@ use Rattle.game_rules.specs.Thought.{Thought, thought}
 use Rattle.game_rules.specs.Play.{play, thoughts, thoughts_from}
 use Rattle.game_jobs.specs.Instance.{tree_of, view}
 use Rattle.frame_state.specs.Names.{FrameOf, PartOf, part_of, AreOfAllAgents}
-use Rattle.frame_state.specs.Contents.{world_after, memories_after, signals_in, statuses_in, intents_in, seen, memory_before, thought_in, thought_for, bands_in, AllFit, IsAfter}
-use Rattle.frame_state.specs.Distances.{DistancesOf}
+use Rattle.frame_state.specs.Contents.{world_after, memories_after, signals_in, statuses_in, intents_in, seen, memory_before, thought_in, thought_for, bands_in, IsAfter}
+use Rattle.frame_parts.specs.Memories.{AllFit}
+use Rattle.frame_parts.specs.Distances.{DistancesOf}
 use Rattle.frame_state.specs.Logic.{AreGathered, AllFitOwn}
 use Rattle.game_rules.proofs.Ground.{play_ground}
 use Rattle.draw_list.specs.Bands.{band_count}

@@ -6,7 +6,6 @@ use Rattle.grid_world.specs.declared.cell.Answer.{Answer}
 use Rattle.grid_world.specs.declared.cell.Intent.{Intent}
 use Rattle.bt_nodes.specs.declared.node.Status.{Status}
 use Rattle.bt_nodes.specs.Plain.{Plain}
-use Rattle.bt_nodes.specs.Bounds.{Fits}
 use Rattle.game_rules.specs.Game.{Game, signals}
 use Rattle.game_rules.specs.View.{View, cell_of}
 use Rattle.game_rules.specs.Thought.{Thought, ticked, thought, questions, ways, next_answer, last_of}
@@ -14,6 +13,7 @@ use Rattle.game_rules.specs.Play.{play, thoughts}
 use Rattle.game_jobs.specs.Instance.{tree_of, view}
 use Rattle.draw_list.specs.declared.band.Band.{Band}
 use Rattle.draw_list.specs.Bands.{band_count, band_of}
+use Rattle.frame_parts.specs.Memories.{AllFit}
 use Rattle.frame_state.specs.Names.{PartOf}
 
 -- ---- frames
@@ -80,11 +80,6 @@ abbrev pub way_to_in : Game → (f a place : ℕ) → Answer
 way_to_in g f a place = way (seen g f a).world (seen g f a).signals (cell_of (seen g f a)) place
 
 -- ---- what is kept
-
--- each agent's memory fits its tree
-pub record AllFit (trees : List Plain) (memories : List (List ℕ)) : Type 0 where
-  pub one_each : length memories ≡ length trees
-  pub fits : (a : ℕ) (p : Plain) → a < length trees → Fits (slice_index_or trees a p) (slice_index_or memories a [])
 
 -- the world and the memories after frame f
 pub record IsAfter (g : Game) (f : ℕ) (world : Grid) (memories : List (List ℕ)) : Type 0 where

@@ -3,4 +3,3 @@ pub mod Contents
 pub mod Logic
 pub mod Slots
 pub mod Thoughts
-pub mod Distances

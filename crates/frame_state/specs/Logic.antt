@@ -5,9 +5,10 @@ use Rattle.grid_world.specs.declared.cell.Intent.{Intent}
 use Rattle.bt_nodes.specs.declared.node.Status.{Status}
 use Rattle.bt_nodes.specs.Bounds.{Fits}
 use Rattle.game_jobs.specs.Instance.{tree_of}
+use Rattle.frame_parts.specs.Distances.{DistancesOf, AllOn}
+use Rattle.frame_parts.specs.Memories.{AllFit}
 use Rattle.frame_state.specs.Names.{FrameOf, PartOf, LogicOf, frame_of}
-use Rattle.frame_state.specs.Contents.{memories_after, intents_in, statuses_in, AllFit}
-use Rattle.frame_state.specs.Distances.{DistancesOf, AllOf}
+use Rattle.frame_state.specs.Contents.{memories_after, intents_in, statuses_in}
 use Rattle.frame_state.specs.declared.logic_step.LogicStep.{LogicStep}
 use Rattle.frame_state.specs.declared.logic_step.LogicStep.TheVariants.{Begins, Turned}
 
@@ -17,7 +18,7 @@ pub record AreGathered (p : FrameOf) (intents : List Intent) (statuses : List St
   pub statuses_are : statuses ≡ statuses_in p.game p.frame
   pub memories_are : 0 < p.frame → memories ≡ memories_after p.game p.frame
   pub fit : AllFit p.game.trees memories
-  pub found_are : AllOf p.game found
+  pub found_are : AllOn p.game.world found
 
 abbrev pub AreGatheredIf : FrameOf → Option (Box FrameOf Global) → Type 0
 AreGatheredIf p None = Unit {0}

@@ -1,19 +1,16 @@
-ghost use Rattle.std.specs.Prelude.{◌≡◌, ◌+◌, ◌-◌, ◌^◌, ◌<◌, true, IfOk, IfSome, Some, map, length};
-ghost use Rattle.bt_nodes.specs.Bounds.{zero_memory, Fits};
+ghost use Rattle.std.specs.Prelude.{◌≡◌, ◌+◌, ◌-◌, ◌^◌, ◌<◌, IfOk, Some, length};
+ghost use Rattle.bt_nodes.specs.Bounds.{Fits};
 ghost use Rattle.game_jobs.specs.Instance.{tree_of};
-ghost use Rattle.grid_world.specs.Grid.{agent_of, is_on_map, point_of};
-ghost use Rattle.grid_world.specs.World.{point};
-ghost use Rattle.frame_state.specs.Contents.{signals_in, world_after, memory_before, way_to_in, AllFit};
-ghost use Rattle.frame_state.specs.Distances.{known_of, IsGivenIf};
+ghost use Rattle.frame_parts.specs.Distances.{known_of, IsGivenIf, IsUnderIf};
+ghost use Rattle.frame_state.specs.Contents.{signals_in, world_after, memory_before, way_to_in};
 
-use crate::kept_distances::KeptDistances;
 use crate::kept_memory::KeptMemory;
-use crate::known::Known;
 use crate::turn::Turn;
 use bt_tick::Memory;
+use frame_parts::{KeptDistances, Known, cell_on, zero_memories};
 use game_session::Session;
 use grid_world::{Answer, Place, Signals, World};
-use std::alloc::{AllocError, Global};
+use std::alloc::{AllocError, Allocator, Global};
 use std::marker::Model;
 use std::sync::Arc;
 
@@ -26,7 +23,7 @@ pub struct FrameStart<'t> {
     world: Arc<World>,
     memories: Arc<Vec<KeptMemory>>,
     // What was found under these signals before the frame.
-    known: Known<'t>,
+    known: Known,
 }
 
 impl<'t> Drop for FrameStart<'t> {
@@ -47,7 +44,7 @@ impl<'t> Model for FrameStart<'t> {
     ghost use Rattle.std.specs.Arc.{arc_value};
     ghost use Rattle.frame_state.specs.Names.{FrameOf, frame_code};
     ghost use Rattle.frame_state.specs.Contents.{signals_in, IsAfter};
-    ghost use Rattle.frame_state.specs.Distances.{known_of};
+    ghost use Rattle.frame_parts.specs.Distances.{known_of};
 
     ghost Value = { FrameOf };
 
@@ -57,31 +54,18 @@ impl<'t> Model for FrameStart<'t> {
 
     ghost invariant = { λ s. (0 < s.frame) × (s.signals ≡ signals_in s.session.now s.frame)
         × IsAfter s.session.now (s.frame - 1) (arc_value s.world) (arc_value s.memories).items
-        × (s.known ≡ known_of s.session.now s.signals) };
+        × (s.known ≡ known_of s.session.now.world s.signals) };
 }
 
-// A memory of zeros for each agent.
-fn zero_memories(alloc: Global, session: &Session) -> Result<Vec<KeptMemory>, AllocError>
-    ensures zeros { IfOk result (λ memories. memories.items ≡ map zero_memory session.now.trees) }
-    ensures fit { IfOk result (λ memories. AllFit session.now.trees memories.items) }
+// These memories, each of which can be shared from now on.
+fn kept(alloc: Global, memories: Vec<Memory>) -> Result<Vec<KeptMemory>, AllocError>
+    ensures { IfOk result (λ them. them.items ≡ memories.items) }
 {
-    let count = session.world().agents().len();
-    let mut memories = Vec::with_capacity(alloc, count)?;
-    'agents: for agent in 0..count as u32 {
-        let zero = Memory::zero(alloc, session.tree_of(agent))?;
-        memories.push(KeptMemory::new(alloc, zero)?)?;
+    let mut them = Vec::with_capacity(alloc, memories.len())?;
+    'memories: for memory in memories {
+        them.push(KeptMemory::new(alloc, memory)?)?;
     }
-    Ok(memories)
-}
-
-// The cell of an agent.
-fn cell_on(world: &World, agent: u32) -> (u32, u32)
-    requires { agent < length world.now.agents }
-    ensures cell { point result.0 result.1 ≡ point_of (agent_of world.now agent) }
-    ensures there { is_on_map world.now (point result.0 result.1) ≡ true }
-{
-    let here = world.agents()[agent as usize];
-    (here.x, here.y)
+    Ok(them)
 }
 
 impl<'t> FrameStart<'t> {
@@ -90,16 +74,16 @@ impl<'t> FrameStart<'t> {
     pub(crate) fn first(alloc: Global, session: &'t Session) -> Result<FrameStart<'t>, AllocError>
         ensures { IfOk result (λ s. s ≡ record { game = session.now; frame = 1 }) }
     {
-        let world = session.world().copy(alloc)?;
-        let memories = zero_memories(alloc, session)?;
+        let world = Arc::new(alloc, session.world().copy(alloc)?)?;
+        let memories = kept(alloc, zero_memories(alloc, session.level())?)?;
         let signals = session.script().signals(1);
         Ok(FrameStart {
             session,
             frame: 1,
             signals,
-            world: Arc::new(alloc, world)?,
+            known: Known::none(alloc, Arc::try_clone(&world)?, signals)?,
+            world,
             memories: Arc::new(alloc, memories)?,
-            known: Known::none(alloc, session, signals)?,
         })
     }
 
@@ -162,29 +146,36 @@ impl<'t> FrameStart<'t> {
     }
 
     // The distances that were found under these signals before the frame.
-    pub(crate) fn known(&self) -> &Known<'t>
-        ensures { result.now ≡ known_of self.now.game (signals_in self.now.game self.now.frame) }
+    pub(crate) fn known(&self) -> &Known
+        ensures { result.now ≡ known_of self.now.game.world (signals_in self.now.game self.now.frame) }
     {
         &self.known
     }
 
     /// An agent's way to the place of these distances.
-    pub fn way_by(&self, distances: &KeptDistances<'t>, place: Place, agent: u32) -> Answer
+    pub fn way_by(&self, distances: &KeptDistances, place: Place, agent: u32) -> Answer
         requires there { agent < length self.now.game.trees }
-        requires place { IsGivenIf self.now.game (signals_in self.now.game self.now.frame) place (Some distances.now) }
+        requires place { IsGivenIf self.now.game.world (signals_in self.now.game self.now.frame) place (Some distances.now) }
         ensures { result ≡ way_to_in self.now.game self.now.frame agent place }
     {
         let _ = place;
         distances.way(cell_on(self.world(), agent))
     }
 
-    /// An agent's way to a place, where the distances to it were known before the frame. That it is found then is not
-    /// promised: who gets none has it searched for.
-    pub fn known_way(&self, place: Place, agent: u32) -> Option<Answer>
+    /// An agent's way to a place, and the distances that were found for it: none where they were known before the frame, and
+    /// else those of one search, whose own table and queue lie in `scratch`.
+    pub fn way_to<A: Allocator + Clone>(
+        &self,
+        alloc: Global,
+        scratch: A,
+        place: Place,
+        agent: u32,
+    ) -> Result<(Answer, Option<KeptDistances>), AllocError>
         requires { agent < length self.now.game.trees }
-        ensures { IfSome result (λ x. x ≡ way_to_in self.now.game self.now.frame agent place) }
+        ensures way { IfOk result (λ parts. parts.0 ≡ way_to_in self.now.game self.now.frame agent place) }
+        ensures found { IfOk result (λ parts. IsUnderIf self.now.game.world (signals_in self.now.game self.now.frame) parts.1) }
     {
-        let known = self.known().to(place)?;
-        Some(self.way_by(known, place, agent))
+        let from = cell_on(self.world(), agent);
+        Ok(self.known().way(alloc, scratch, place, from)?)
     }
 }

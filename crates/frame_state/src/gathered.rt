@@ -1,17 +1,16 @@
-ghost use Rattle.std.specs.Prelude.{◌≡◌, IfOk, length, map};
-ghost use Rattle.grid_world.specs.Intents.{apply_all};
+ghost use Rattle.std.specs.Prelude.{◌≡◌, IfOk, map};
 ghost use Rattle.frame_state.specs.Names.{AreOfAllAgents};
 ghost use Rattle.frame_state.specs.Contents.{thought_for};
 ghost use Rattle.frame_state.specs.Logic.{AllFitOwn};
 
 use crate::frame_start::FrameStart;
-use crate::kept_distances::KeptDistances;
 use crate::kept_memory::KeptMemory;
 use crate::params::FrameParams;
 use crate::thought::Thought;
 use crate::turn::{Turn, Turned};
 use bt_nodes::Status;
-use grid_world::{Intent, ResolveFault, Signals, World, resolve};
+use frame_parts::{KeptDistances, resolved};
+use grid_world::Intent;
 use std::alloc::{AllocError, Global};
 use std::marker::Model;
 use std::sync::Arc;
@@ -23,7 +22,7 @@ pub(crate) struct Gathered<'t> {
     statuses: Arc<Vec<Status>>,
     memories: Arc<Vec<KeptMemory>>,
     // The distances that were found in the frame.
-    found: Vec<KeptDistances<'t>>,
+    found: Vec<KeptDistances>,
 }
 
 impl<'t> Drop for Gathered<'t> {
@@ -84,23 +83,6 @@ fn memories_of(alloc: Global, thoughts: &[Thought]) -> Result<Vec<KeptMemory>, A
         memories.push(thought.memory().share()?)?;
     }
     Ok(memories)
-}
-
-// The world after an intent of each agent.
-fn resolved(
-    alloc: Global,
-    world: &World,
-    signals: Signals,
-    intents: &[Intent],
-) -> Result<World, AllocError>
-    requires { length intents.now ≡ length world.now.agents }
-    ensures { IfOk result (λ after. after ≡ apply_all world.now signals 0 intents.now) }
-{
-    match resolve(alloc, world, signals, intents) {
-        Ok(after) => Ok(after),
-        Err(ResolveFault::OutOfMemory) => Err(AllocError),
-        Err(ResolveFault::Count) => unreachable!(),
-    }
 }
 
 impl<'t> Gathered<'t> {

@@ -1,12 +1,12 @@
-ghost use Rattle.std.specs.Prelude.{◌≡◌, ◌+◌, ◌^◌, ◌<◌, IfOk, IfSome, Contains};
+ghost use Rattle.std.specs.Prelude.{◌≡◌, ◌+◌, ◌^◌, ◌<◌, IfOk, IfSome};
 ghost use Rattle.std.specs.Arc.{arc_value};
 ghost use Rattle.frame_state.specs.Contents.{signals_in};
-ghost use Rattle.frame_state.specs.Distances.{IsGivenIf, IsUnder, AllUnder};
+ghost use Rattle.frame_parts.specs.Distances.{IsGivenIf, IsUnder, AllUnder};
 
 use crate::frame_start::FrameStart;
-use crate::kept_distances::KeptDistances;
 use crate::turn::Turn;
 use crate::way::Way;
+use frame_parts::{KeptDistances, shared, to_place};
 use game_session::Session;
 use grid_world::Place;
 use std::alloc::{AllocError, Global};
@@ -20,7 +20,7 @@ const PLACES: usize = 10;
 struct Params<'t> {
     start: Arc<FrameStart<'t>>,
     // To a place once at most; there is room for those to all places.
-    found: Vec<KeptDistances<'t>>,
+    found: Vec<KeptDistances>,
 }
 
 impl<'t> Drop for Params<'t> {
@@ -34,7 +34,7 @@ impl<'t> Model for Params<'t> {
     ghost use Rattle.std.specs.Arc.{arc_value};
     ghost use Rattle.frame_state.specs.Names.{FrameOf, frame_code};
     ghost use Rattle.frame_state.specs.Contents.{signals_in};
-    ghost use Rattle.frame_state.specs.Distances.{AllUnder};
+    ghost use Rattle.frame_parts.specs.Distances.{AllUnder};
 
     ghost Value = { FrameOf };
 
@@ -43,10 +43,12 @@ impl<'t> Model for Params<'t> {
     ghost view = { λ p. arc_value p.start };
 
     ghost invariant = { λ p. (10 ≤ vec_capacity p.found)
-        × AllUnder (arc_value p.start).game (signals_in (arc_value p.start).game (arc_value p.start).frame) p.found.items };
+        × AllUnder (arc_value p.start).game.world (signals_in (arc_value p.start).game (arc_value p.start).frame) p.found.items };
 }
 
 impl<'t> Params<'t> {
+    ghost use Rattle.frame_parts.specs.Distances.{distances_of};
+
     // Those of a frame that starts so.
     fn of(alloc: Global, start: FrameStart<'t>) -> Result<Params<'t>, AllocError>
         ensures { IfOk result (λ p. p ≡ start.entry) }
@@ -77,43 +79,28 @@ impl<'t> Params<'t> {
     }
 
     // The distances that were found in the frame, by the one that was found first.
-    fn found(&self) -> &[KeptDistances<'t>]
-        ensures { AllUnder self.now.game (signals_in self.now.game self.now.frame) result.now }
+    fn found(&self) -> &[KeptDistances]
+        ensures { AllUnder self.now.game.world (signals_in self.now.game self.now.frame) result.now }
     {
         &self.found
     }
 
+    // Those to a place, where they were found.
+    fn to(&self, place: Place) -> Option<&KeptDistances>
+        ensures { IfSome result (λ d. d.now ≡ distances_of self.now.game.world (signals_in self.now.game self.now.frame) place) }
+    {
+        to_place(&self.found, self.start.signals(), place)
+    }
+
     // Keeps these, where none to their place are kept.
-    fn learn(&mut self, found: KeptDistances<'t>)
-        requires { IsUnder self.old.game (signals_in self.old.game self.old.frame) found }
+    fn learn(&mut self, found: KeptDistances)
+        requires { IsUnder self.old.game.world (signals_in self.old.game self.old.frame) found }
         ensures { self.new ≡ self.old }
     {
-        if to_place(&self.found, found.place()).is_none() && self.found.len() < PLACES {
+        if self.to(found.place()).is_none() && self.found.len() < PLACES {
             self.found.push_reserved(found);
         }
     }
-}
-
-// Those to a place.
-fn to_place<'a, 't>(found: &'a [KeptDistances<'t>], place: Place) -> Option<&'a KeptDistances<'t>>
-    ensures place { IfSome result (λ d. d.now.place ≡ place) }
-    ensures one { IfSome result (λ d. Contains found.now d.now) }
-{
-    found.iter().find(|d| d.place() == place)
-}
-
-// These once more; nothing is copied.
-fn shared<'t>(
-    alloc: Global,
-    found: &[KeptDistances<'t>],
-) -> Result<Vec<KeptDistances<'t>>, AllocError>
-    ensures { IfOk result (λ them. them.items ≡ found.now) }
-{
-    let mut them = Vec::with_capacity(alloc, found.len())?;
-    'found: for one in found {
-        them.push(one.share()?)?;
-    }
-    Ok(them)
 }
 
 /// What the jobs of a frame read: the frame's signals, the world and the memories of the frame before, and the distances
@@ -185,18 +172,18 @@ impl<'t> FrameParams<'t> {
     }
 
     // The distances that were found in the frame, once more; nothing is copied.
-    pub(crate) fn found(&self, alloc: Global) -> Result<Vec<KeptDistances<'t>>, AllocError>
-        ensures { IfOk result (λ found. AllUnder self.now.game (signals_in self.now.game self.now.frame) found.items) }
+    pub(crate) fn found(&self, alloc: Global) -> Result<Vec<KeptDistances>, AllocError>
+        ensures { IfOk result (λ found. AllUnder self.now.game.world (signals_in self.now.game self.now.frame) found.items) }
     {
         Ok(shared(alloc, self.params.found())?)
     }
 
     /// The distances to a place that a search of the frame found once more, where one did by now; nothing is copied. They
     /// save a search and change no way, so the contract lets None come always.
-    pub fn known_to(&self, place: Place) -> Result<Option<KeptDistances<'t>>, AllocError>
-        ensures { IfOk result (IsGivenIf self.now.game (signals_in self.now.game self.now.frame) place) }
+    pub fn known_to(&self, place: Place) -> Result<Option<KeptDistances>, AllocError>
+        ensures { IfOk result (IsGivenIf self.now.game.world (signals_in self.now.game self.now.frame) place) }
     {
-        match to_place(self.params.found(), place) {
+        match self.params.to(place) {
             None => Ok(None),
             Some(found) => Ok(Some(found.share()?)),
         }

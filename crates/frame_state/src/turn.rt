@@ -2,9 +2,9 @@ ghost use Rattle.std.specs.Prelude.{◌≡◌, IfOk, length};
 ghost use Rattle.frame_state.specs.Contents.{world_after, statuses_in, bands_in};
 
 use crate::kept_memory::KeptMemory;
-use crate::known::Known;
 use bt_nodes::Status;
 use draw_list::band_count;
+use frame_parts::Known;
 use game_session::Session;
 use grid_world::World;
 use job_core::names::JobName;
@@ -21,7 +21,7 @@ pub(crate) struct Turned<'t> {
     pub(crate) memories: Arc<Vec<KeptMemory>>,
     pub(crate) statuses: Arc<Vec<Status>>,
     // What was found under the signals of the frame.
-    pub(crate) known: Known<'t>,
+    pub(crate) known: Known,
 }
 
 impl<'t> Drop for Turned<'t> {
@@ -52,7 +52,7 @@ impl<'t> Model for Turned<'t> {
     ghost invariant = { λ t. (0 < t.frame)
         × IsAfter t.session.now t.frame (arc_value t.world) (arc_value t.memories).items
         × ((arc_value t.statuses).items ≡ statuses_in t.session.now t.frame)
-        × (t.known.game ≡ t.session.now) };
+        × (t.known.ground ≡ t.session.now.world) };
 }
 
 impl<'t> Turned<'t> {

@@ -1,9 +1,9 @@
 ghost use Rattle.std.specs.Prelude.{◌≡◌};
 ghost use Rattle.frame_state.specs.Contents.{signals_in, way_in};
-ghost use Rattle.frame_state.specs.Distances.{IsUnderIf};
+ghost use Rattle.frame_parts.specs.Distances.{IsUnderIf};
 ghost use Rattle.frame_state.specs.Thoughts.{IsWayOf};
 
-use crate::kept_distances::KeptDistances;
+use frame_parts::KeptDistances;
 use game_session::Session;
 use grid_world::Answer;
 use job_core::names::JobName;
@@ -17,7 +17,7 @@ pub struct Way<'t> {
     question: u32,
     answer: Answer,
     // The distances that its search found; they are under the signals of the frame.
-    found: Option<KeptDistances<'t>>,
+    found: Option<KeptDistances>,
 }
 
 impl<'t> Drop for Way<'t> {
@@ -42,12 +42,12 @@ impl<'t> Model for Way<'t> {
 
     ghost use Rattle.frame_state.specs.Thoughts.{IsWayOf};
     ghost use Rattle.frame_state.specs.Contents.{signals_in};
-    ghost use Rattle.frame_state.specs.Distances.{IsUnderIf};
+    ghost use Rattle.frame_parts.specs.Distances.{IsUnderIf};
 
     ghost view = { λ w. record { game = w.session.now; frame = w.frame; agent = w.agent; question = w.question } };
 
     ghost invariant = { λ w. IsWayOf w.session.now w.frame w.agent w.question w.answer
-        × IsUnderIf w.session.now (signals_in w.session.now w.frame) w.found };
+        × IsUnderIf w.session.now.world (signals_in w.session.now w.frame) w.found };
 }
 
 impl<'t> Way<'t> {
@@ -58,10 +58,10 @@ impl<'t> Way<'t> {
         agent: u32,
         question: u32,
         answer: Answer,
-        found: Option<KeptDistances<'t>>,
+        found: Option<KeptDistances>,
     ) -> Way<'t>
         requires way { IsWayOf session.now frame agent question answer }
-        requires found { IsUnderIf session.now (signals_in session.now frame) found }
+        requires found { IsUnderIf session.now.world (signals_in session.now frame) found }
         ensures { result ≡ record { game = session.now; frame = frame; agent = agent; question = question } }
     {
         Way {
@@ -107,8 +107,8 @@ impl<'t> Way<'t> {
     }
 
     // The distances that its search found, if they weren't taken out yet.
-    pub(crate) fn take_found(&mut self) -> Option<KeptDistances<'t>>
-        ensures found { IsUnderIf self.old.game (signals_in self.old.game self.old.frame) result }
+    pub(crate) fn take_found(&mut self) -> Option<KeptDistances>
+        ensures found { IsUnderIf self.old.game.world (signals_in self.old.game self.old.frame) result }
         ensures way { self.new ≡ self.old }
     {
         self.found.take()

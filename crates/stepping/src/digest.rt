@@ -3,7 +3,7 @@ ghost use Rattle.std.specs.Prelude.{◌≡◌, ◌<◌, ◌+◌, ◌*◌, [], if
 ghost use Rattle.std.specs.List.{flat_map};
 ghost use Rattle.game_session.specs.Levels.{value_of, agent_trees};
 ghost use Rattle.stepping.specs.Digest.{fnv, fnv_all, bytes, bit, agent_bytes, memory_bytes, item_bytes, digest_of};
-ghost use Rattle.stepping.specs.Played.{AllFit};
+ghost use Rattle.frame_parts.specs.Memories.{AllFit};
 
 use bt_tick::Memory;
 use game_session::Level;

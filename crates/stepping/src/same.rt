@@ -2,7 +2,7 @@
 ghost use Rattle.std.specs.Prelude.{◌≡◌, ◌≢◌, true, false, length};
 ghost use Rattle.bt_nodes.specs.Bounds.{Fits};
 ghost use Rattle.game_session.specs.Levels.{value_of, agent_trees};
-ghost use Rattle.stepping.specs.Played.{AllFit};
+ghost use Rattle.frame_parts.specs.Memories.{AllFit};
 
 use bt_tick::Memory;
 use game_session::Level;

@@ -4,7 +4,7 @@ use Rattle.std.proofs.lemmas.List.{get_or_default}
 use Rattle.bt_nodes.specs.Bounds.{Fits}
 use Rattle.game_jobs.specs.Instance.{tree_of}
 use Rattle.frame_state.specs.Names.{PartOf}
-use Rattle.frame_state.proofs.Fitting.{FitSoFar, fit_more}
+use Rattle.frame_parts.proofs.Fitting.{FitSoFar, fit_more}
 use Rattle.frame_state.proofs.gathered.memories_of.Goals as goal
 
 pub thoughts-preserved : goal.thoughts-preserved

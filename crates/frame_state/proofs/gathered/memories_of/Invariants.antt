@@ -1,7 +1,7 @@
 use Rattle.std.proofs.Common.{◌≡◌, ◌++◌, map, drop, length}
 use Rattle.game_jobs.specs.Instance.{tree_of}
 use Rattle.frame_state.specs.Contents.{thought_for}
-use Rattle.frame_state.proofs.Fitting.{FitSoFar}
+use Rattle.frame_parts.proofs.Fitting.{FitSoFar}
 use Rattle.frame_state.proofs.gathered.memories_of.Given as goal
 
 abbrev pub invariant-thoughts : goal.invariant-thoughts

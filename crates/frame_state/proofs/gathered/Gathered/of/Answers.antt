@@ -4,7 +4,8 @@ use Rattle.std.specs.Arc.{arc_value}
 use Rattle.bt_nodes.specs.declared.node.Status.{Status}
 use Rattle.frame_state.specs.declared.kept_memory.KeptMemory.{KeptMemory}
 use Rattle.frame_state.specs.Names.{FrameOf}
-use Rattle.frame_state.specs.Contents.{thought_for, AllFit}
+use Rattle.frame_state.specs.Contents.{thought_for}
+use Rattle.frame_parts.specs.Memories.{AllFit}
 use Rattle.frame_state.specs.Logic.{AreGathered}
 use Rattle.frame_state.proofs.Turning.{all_intents, all_statuses, all_memories, all_fit}
 use Rattle.frame_state.proofs.gathered.Gathered.of.Goals as goal

@@ -7,7 +7,7 @@ use Rattle.game_rules.specs.Game.{Game}
 use Rattle.frame_state.specs.declared.kept_memory.KeptMemory.{KeptMemory}
 use Rattle.frame_state.specs.Names.{FrameOf}
 use Rattle.frame_state.specs.Contents.{statuses_in, IsAfter}
-use Rattle.frame_state.specs.Distances.{KnownOf}
+use Rattle.frame_parts.specs.Distances.{KnownOf}
 use Rattle.frame_state.specs.Logic.{AreGathered}
 use Rattle.frame_state.proofs.Turning.{an_intent_each, is_after}
 use Rattle.frame_state.proofs.gathered.Gathered.turned.Goals as goal
@@ -20,8 +20,8 @@ resolved-requires c =
     ∙ ap (λ (p : FrameOf). length p.game.trees) (sym c.deref-start.ensures) ∙ sym c.world.ensures.agents
 
 -- what a turn keeps
-abbrev Keeps : Game → ℕ → Grid → List (List ℕ) → List Status → Game → Type 0
-Keeps g f world memories statuses known = (0 < f) × IsAfter g f world memories × (statuses ≡ statuses_in g f) × (known ≡ g)
+abbrev Keeps : Game → ℕ → Grid → List (List ℕ) → List Status → Grid → Type 0
+Keeps g f world memories statuses known = (0 < f) × IsAfter g f world memories × (statuses ≡ statuses_in g f) × (known ≡ g.world)
 
 pub invariant_of-result : goal.invariant_of-result
 invariant_of-result c =
@@ -36,15 +36,15 @@ invariant_of-result c =
     let after =
     is_after p x.intents.items statuses memories x.found.items are c.world.result.now (arc_value c.in_ok-new.field-0) c.signals.result later c.world.ensures.value
     c.world.ensures.agents c.signals.ensures world in
-    let kept : Keeps p.game p.frame (arc_value c.in_ok-new.field-0) (arc_value c.in_ok-try_clone.field-0).items (arc_value c.in_ok-try_clone-2.field-0).items c.in_ok-known.known.game = (
+    let kept : Keeps p.game p.frame (arc_value c.in_ok-new.field-0) (arc_value c.in_ok-try_clone.field-0).items (arc_value c.in_ok-try_clone-2.field-0).items c.in_ok-known.known.ground = (
       later,
       subst (λ (v : Vec KeptMemory Global). IsAfter p.game p.frame (arc_value c.in_ok-new.field-0) v.items) (sym c.in_ok-try_clone.ensures) after,
       ap (λ (v : Vec Status Global). v.items) c.in_ok-try_clone-2.ensures ∙ are.statuses_are,
-      ap (λ (k : KnownOf). k.game) (c.in_ok-known.ensures ∙ c.known.ensures),
+      ap (λ (k : KnownOf). k.ground) (c.in_ok-known.ensures ∙ c.known.ensures),
     ) in
     subst
-    (λ (g : Game). Keeps g c.frame.result (arc_value c.in_ok-new.field-0) (arc_value c.in_ok-try_clone.field-0).items (arc_value c.in_ok-try_clone-2.field-0).items c.in_ok-known.known.game)
+    (λ (g : Game). Keeps g c.frame.result (arc_value c.in_ok-new.field-0) (arc_value c.in_ok-try_clone.field-0).items (arc_value c.in_ok-try_clone-2.field-0).items c.in_ok-known.known.ground)
     (sym c.session.ensures)
     (subst
-    (λ (f : ℕ). Keeps p.game f (arc_value c.in_ok-new.field-0) (arc_value c.in_ok-try_clone.field-0).items (arc_value c.in_ok-try_clone-2.field-0).items c.in_ok-known.known.game)
+    (λ (f : ℕ). Keeps p.game f (arc_value c.in_ok-new.field-0) (arc_value c.in_ok-try_clone.field-0).items (arc_value c.in_ok-try_clone-2.field-0).items c.in_ok-known.known.ground)
     (sym c.frame.ensures.value) kept)

@@ -1,0 +1,22 @@
+ghost use Rattle.std.specs.Prelude.{◌≡◌, IfOk, length};
+ghost use Rattle.grid_world.specs.Intents.{apply_all};
+
+use grid_world::{Intent, ResolveFault, Signals, World, resolve};
+use std::alloc::{AllocError, Global};
+
+/// The world after an intent of each agent.
+pub fn resolved(
+    alloc: Global,
+    world: &World,
+    signals: Signals,
+    intents: &[Intent],
+) -> Result<World, AllocError>
+    requires { length intents.now ≡ length world.now.agents }
+    ensures { IfOk result (λ after. after ≡ apply_all world.now signals 0 intents.now) }
+{
+    match resolve(alloc, world, signals, intents) {
+        Ok(after) => Ok(after),
+        Err(ResolveFault::OutOfMemory) => Err(AllocError),
+        Err(ResolveFault::Count) => unreachable!(),
+    }
+}
