@@ -1,4 +1,5 @@
-ghost use Rattle.std.specs.Prelude.{◌≡◌, ◌<◌, ◌++◌, ◌∷◌, [], None, IsSomeAnd, MatchOption, OnOk, OnErr};
+ghost use Rattle.std.specs.Prelude.{◌≡◌, ◌<◌, ◌++◌, ◌∷◌, [], None, IsSomeAnd, MatchOption, OnOk, OnErr, vec_len, slice_index_or};
+ghost use Rattle.std.specs.List.{remove};
 ghost use Rattle.board_model.specs.Lists.{drop_first};
 ghost use Rattle.board_model.specs.Board.{has_key, first_row, lower, woken, wait, with_waiter};
 ghost use Rattle.job_queues.specs.Places.{IsFirstPlace};
@@ -50,6 +51,22 @@ fn place(all: &[BoardCounter], key: CounterKey) -> Option<usize>
     None
 }
 
+// Takes out the counter at a place, which mostly is the last.
+#[inline(always)]
+fn take_at(all: &mut Vec<BoardCounter>, at: usize) -> BoardCounter
+    requires { at < vec_len all.old }
+    ensures value { result ≡ slice_index_or all.old.items at result }
+    ensures items { all.new.items ≡ remove all.old.items at }
+{
+    if at + 1 < all.len() {
+        return all.remove(at);
+    }
+    match all.pop() {
+        Some(last) => last,
+        None => unreachable!(),
+    }
+}
+
 impl BoardCounters {
     /// No counter is in use. It takes no memory before the first starts; all is taken from `alloc`.
     pub fn new(alloc: Global) -> BoardCounters
@@ -67,7 +84,10 @@ impl BoardCounters {
         ensures started { OnOk result (self.new ≡ self.old ++ started (counter_of key) number ∷ []) }
         ensures unchanged { OnErr result (self.new ≡ self.old) }
     {
-        self.all.push(BoardCounter::new(self.alloc, key, number))?;
+        // Room comes first, since a refused push would hand the counter back.
+        self.all.reserve(1)?;
+        self.all
+            .push_reserved(BoardCounter::new(self.alloc, key, number));
         Ok(())
     }
 
@@ -83,8 +103,9 @@ impl BoardCounters {
         ensures started { OnOk result (self.new ≡ self.old ++ with_waiter fiber (started (counter_of key) number) ∷ []) }
         ensures unchanged { OnErr result (self.new ≡ self.old) }
     {
+        self.all.reserve(1)?;
         self.all
-            .push(BoardCounter::awaited(self.alloc, key, number, fiber))?;
+            .push_reserved(BoardCounter::awaited(self.alloc, key, number, fiber));
         Ok(())
     }
 
@@ -116,7 +137,7 @@ impl BoardCounters {
             counter.lower();
             return None;
         }
-        Some(self.all.remove(at).into_waiters())
+        Some(take_at(&mut self.all, at).into_waiters())
     }
 
     /// The counter's number, where it is there. It takes no memory.

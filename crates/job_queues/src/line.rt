@@ -110,16 +110,27 @@ impl<T: Copy + Drop> Line<T> {
         }
     }
 
+    // Makes room for one more. Memory is taken only where there is no place left.
+    #[inline(always)]
+    fn reserve_one(&mut self) -> Result<(), AllocError>
+        ensures items { self.new.items ≡ self.old.items }
+        ensures ok { OnOk result (self.new.used < self.new.room) }
+    {
+        if self.all.len() < self.all.capacity() {
+            return Ok(());
+        }
+        self.reserve(1)
+    }
+
     /// Puts one at the end. Memory is taken only where there is no place left.
     #[inline(always)]
     pub(crate) fn put(&mut self, item: T) -> Result<(), AllocError>
         ensures items { OnOk result (self.new.items ≡ self.old.items ++ item ∷ []) }
         ensures unchanged { OnErr result (self.new.items ≡ self.old.items) }
     {
-        if self.all.len() == self.all.capacity() {
-            self.tidy();
-        }
-        self.all.push(item)?;
+        // Room comes first, since a refused push would hand the item back.
+        self.reserve_one()?;
+        self.put_reserved(item);
         Ok(())
     }
 

@@ -20,11 +20,12 @@ pub struct NotTaken;
 /// memory.
 #[derive(Drop)]
 pub struct FiberPool {
-    taken: [bool; 128],
     count: usize,
     small: usize,
     small_free: u32,
     large_free: u32,
+    // The front of it alone is used, so it lies behind the numbers.
+    taken: [bool; 128],
 }
 
 impl Model for FiberPool {

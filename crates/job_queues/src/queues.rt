@@ -27,10 +27,10 @@ pub enum QueueFault {
 
 /// For each priority the jobs that may start and the fibers that may go on, in the order in which they came.
 pub struct Queues {
-    high: Lane,
-    normal: Lane,
-    low: Lane,
     fibers: u32,
+    low: Lane,
+    normal: Lane,
+    high: Lane,
 }
 
 impl Drop for Queues {

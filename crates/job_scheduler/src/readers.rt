@@ -94,11 +94,11 @@ impl Scheduler {
         requires { length self.now.seats.jobs < 2 ^ 32 }
         ensures { IsTrue result ↔ IsDrawn self.now frame }
     {
-        if self.counters.left(CounterKey::Shown { frame }).is_none() {
+        // Mostly some draws are left. The counters are few: the fibers are looked at last.
+        if self.counters.left(CounterKey::Draws { frame }).is_some() {
             return false;
         }
-        // The counters are few, and mostly say no: the fibers are looked at last.
-        if self.counters.left(CounterKey::Draws { frame }).is_some() {
+        if self.counters.left(CounterKey::Shown { frame }).is_none() {
             return false;
         }
         self.holder(JobName::Logic { frame }).is_none()

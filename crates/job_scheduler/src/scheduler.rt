@@ -21,16 +21,17 @@ use std::marker::Model;
 
 /// What the board keeps: which jobs are queued, which fibers are ready and taken, what each fiber holds and each
 /// worker runs, the counters, and which frame lies in each slot. It has one method for each event, which tests
-/// nothing again: that the event may happen is the caller's to show.
+/// nothing again: that the event may happen is the caller's to show. What most events touch lies together, in two runs: up to
+/// the front of the pool, and from the queues of normal priority on.
 pub struct Scheduler {
-    pub(crate) queues: Queues,
-    pub(crate) pool: FiberPool,
-    pub(crate) jobs: Vec<Option<Held>>,
-    pub(crate) workers: Vec<Option<Fiber>>,
-    pub(crate) counters: BoardCounters,
-    pub(crate) slots: Vec<Option<u32>>,
     pub(crate) emitted: u32,
     pub(crate) stopped: bool,
+    pub(crate) workers: Vec<Option<Fiber>>,
+    pub(crate) jobs: Vec<Option<Held>>,
+    pub(crate) pool: FiberPool,
+    pub(crate) slots: Vec<Option<u32>>,
+    pub(crate) queues: Queues,
+    pub(crate) counters: BoardCounters,
 }
 
 impl Drop for Scheduler {

@@ -18,4 +18,4 @@ returns-then-left-gt1-clause-lowered c =
 
 pub invariant_of-self-2 : goal.invariant_of-self-2
 invariant_of-self-2 c =
-    unique_without_seen (counter_of c.args.key) c.deref.result.now c.self.inside.all.items c.deref.ensures.value c.in-Some.at c.index_mut-counter.result.now c.remove.new.self.items c.in-Some.ensures c.index_mut-counter.ensures.value c.remove.ensures.items c.self.invariant
+    unique_without_seen (counter_of c.args.key) c.deref.result.now c.self.inside.all.items c.deref.ensures.value c.in-Some.at c.index_mut-counter.result.now c.take_at.new.all.items c.in-Some.ensures c.index_mut-counter.ensures.value c.take_at.ensures.items c.self.invariant
