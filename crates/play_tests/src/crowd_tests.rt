@@ -115,10 +115,10 @@ fn a_fault_tells_how_many_frames_are_written(rt: HostRuntime) -> Result<(), Fail
             assert!(rt; is_of_memory(fault.cause));
             assert_eq!(rt; fault.frames, whole_frames(&out));
         }
-        Err(PlayFault::Level(_)) => {
+        Err(PlayFault::Level(_fault)) => {
             assert_eq!(rt; out.left.len(), BOTH);
         }
-        Err(_) => return Err(Fail::from("another fault")),
+        Err(_other) => return Err(Fail::from("another fault")),
     }
     assert!(rt; !out.has_strayed);
     Ok(())
