@@ -1,2 +1,4 @@
 mod Consumed
 pub mod Parts
+mod Digits
+pub mod Joined

@@ -5,6 +5,6 @@ mod numbers;
 mod reading;
 mod writing;
 
-pub use numbers::push_number;
+pub use numbers::{push_hex, push_number};
 pub use reading::{ReadFault, read_whole};
 pub use writing::{WriteFault, write_whole};

@@ -67,6 +67,13 @@ impl Script {
         self.changes == other.changes
     }
 
+    /// The changes, line by line.
+    pub fn changes(&self) -> &[Change]
+        ensures { result.now ≡ self.now }
+    {
+        &self.changes
+    }
+
     /// The frame of the last change, or 0.
     pub fn last_frame(&self) -> u32
         ensures { result ≡ last_frame self.now }

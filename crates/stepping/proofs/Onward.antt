@@ -7,11 +7,12 @@ use Rattle.grid_world.specs.Grid.{Grid}
 use Rattle.grid_world.specs.Intents.{apply_all}
 use Rattle.bt_nodes.specs.Plain.{Plain}
 use Rattle.bt_nodes.specs.Bounds.{zero_memory}
+use Rattle.bt_nodes.specs.declared.node.Status.{Status}
 use Rattle.game_rules.specs.declared.change.Change.{Change}
 use Rattle.game_rules.specs.Game.{Game, signals, changed_by}
 use Rattle.game_rules.specs.Play.{Position, play, thoughts_from}
 use Rattle.game_rules.specs.Text.{text, texts, frame_text}
-use Rattle.stepping.specs.Played.{Played, played_of, changed_game, next_signals, IsOnBy, IsStepped, State, state_of, IsByScript, scripted_game, scripted_signals}
+use Rattle.stepping.specs.Played.{Played, played_of, statuses_at, changed_game, next_signals, IsOnBy, IsStepped, State, state_of, IsByScript, scripted_game, scripted_signals}
 
 -- ---- changes that come later
 
@@ -42,6 +43,13 @@ text_by f trees on before = text f (turn_by trees on before).world on (map (λ t
 text_suc : (g : Game) (f : ℕ) → frame_text g (suc f) ≡ text_by (suc f) g.trees (signals g.changes (suc f)) (play g f)
 unfolding text_by turn_by
 text_suc g f = refl
+
+statuses_by : List Plain → List Bool → Position → List Status
+statuses_by trees on before = map (λ t. t.status) (thoughts_from before.world on 0 trees before.memories)
+
+statuses_suc : (g : Game) (f : ℕ) → statuses_at g (suc f) ≡ statuses_by g.trees (signals g.changes (suc f)) (play g f)
+unfolding statuses_by
+statuses_suc g f = refl
 
 begun : Grid → List Plain → Position
 begun w trees = record { world = w; memories = map zero_memory trees }
@@ -74,6 +82,15 @@ module _ (g h : Game) (f : ℕ) (same : IsSameBy g h f) where
       ∙ ap (λ on. text_by (suc n) g.trees on (play h n)) (same.signals_are n l)
       ∙ ap (text_by (suc n) g.trees (signals g.changes (suc n))) (play_by n (omega (arith, l)))
       ∙ sym (text_suc g n)
+
+  statuses_as : (n : ℕ) → n ≤ f → statuses_at h n ≡ statuses_at g n
+  statuses_as zero l = refl
+  statuses_as (suc n) l =
+      statuses_suc h n
+      ∙ ap (λ ts. statuses_by ts (signals h.changes (suc n)) (play h n)) same.trees
+      ∙ ap (λ on. statuses_by g.trees on (play h n)) (same.signals_are n l)
+      ∙ ap (statuses_by g.trees (signals g.changes (suc n))) (play_by n (omega (arith, l)))
+      ∙ sym (statuses_suc g n)
 
   texts_as : (n : ℕ) → n ≤ f → texts h n ≡ texts g n
   texts_as zero l = refl
@@ -237,6 +254,9 @@ module _ (p : Played) (by : IsByScript p) where
 
   pub scripted_position : play p.game p.frame ≡ play (scripted_game p) p.frame
   scripted_position = play_by (scripted_game p) p.game p.frame as_scripted p.frame (omega arith)
+
+  pub scripted_statuses : statuses_at p.game p.frame ≡ statuses_at (scripted_game p) p.frame
+  scripted_statuses = statuses_as (scripted_game p) p.game p.frame as_scripted p.frame (omega arith)
 
   pub scripted_texts : texts p.game p.frame ≡ texts (scripted_game p) p.frame
   scripted_texts = texts_as (scripted_game p) p.game p.frame as_scripted p.frame (omega arith)

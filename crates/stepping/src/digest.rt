@@ -9,25 +9,25 @@ use bt_tick::Memory;
 use game_session::Level;
 use grid_world::{Agent, Signal, Signals, World};
 
-const OFFSET: u64 = 14_695_981_039_346_656_037;
+pub(crate) const OFFSET: u64 = 14_695_981_039_346_656_037;
 
 const PRIME: u64 = 1_099_511_628_211;
 
-fn with_byte(hash: u64, byte: u8) -> u64
+pub(crate) fn with_byte(hash: u64, byte: u8) -> u64
     ensures { result ≡ fnv hash byte }
 {
     (hash ^ u64::from(byte)).wrapping_mul(PRIME)
 }
 
 // With the lowest two bytes of a number.
-fn with_two(hash: u64, number: u64) -> u64
+pub(crate) fn with_two(hash: u64, number: u64) -> u64
     ensures { result ≡ fnv_all hash (bytes 2 number) }
 {
     let low = with_byte(hash, (number % 256) as u8);
     with_byte(low, (number / 256 % 256) as u8)
 }
 
-fn with_four(hash: u64, number: u32) -> u64
+pub(crate) fn with_four(hash: u64, number: u32) -> u64
     ensures { result ≡ fnv_all hash (bytes 4 number) }
 {
     let first = with_byte(hash, (number % 256) as u8);
@@ -57,7 +57,7 @@ fn with_agent(hash: u64, agent: &Agent) -> u64
     with_byte(row, u8::from(agent.carrying))
 }
 
-fn with_agents(hash: u64, agents: &[Agent]) -> u64
+pub(crate) fn with_agents(hash: u64, agents: &[Agent]) -> u64
     ensures { result ≡ fnv_all hash (flat_map agent_bytes agents.now) }
 {
     let mut so_far = hash;
@@ -116,7 +116,7 @@ fn with_row(hash: u64, world: &World, y: u32) -> u64
     so_far
 }
 
-fn with_items(hash: u64, world: &World) -> u64
+pub(crate) fn with_items(hash: u64, world: &World) -> u64
     ensures { result ≡ fnv_all hash (item_bytes 0 world.now.items) }
 {
     let mut so_far = hash;
