@@ -56,6 +56,9 @@ IsTextStatus status = (status ≡ done) ⊎ ((status ≡ closed) ⊎ ((status �
 abbrev pub IsAgentStatus : ℕ → Type 0
 IsAgentStatus status = (status ≡ done) ⊎ ((status ≡ closed) ⊎ ((status ≡ no_frame) ⊎ (status ≡ beyond_agents)))
 
+abbrev pub IsStateStatus : ℕ → Type 0
+IsStateStatus status = (status ≡ done) ⊎ ((status ≡ closed) ⊎ ((status ≡ no_memory) ⊎ (status ≡ short)))
+
 abbrev pub IsCellStatus : ℕ → Type 0
 IsCellStatus status = (status ≡ done) ⊎ ((status ≡ closed) ⊎ (status ≡ off_map))
 
