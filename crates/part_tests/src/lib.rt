@@ -1,4 +1,4 @@
-//! Worlds, trees, ways, stacks, drawings, levels and ticks by example, also in arenas and in heaps that refuse growths:
+//! Worlds, trees, ways, stacks, drawings, levels, ticks and states by example, also in arenas and in heaps that refuse growths:
 //! tests alone.
 #![tactic(auto)]
 
@@ -16,6 +16,8 @@ mod refused_growths;
 mod scripts;
 #[cfg(test)]
 mod sessions;
+#[cfg(test)]
+mod states;
 #[cfg(test)]
 mod stacks;
 #[cfg(test)]
