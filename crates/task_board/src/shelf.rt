@@ -25,18 +25,19 @@ use std::marker::Model;
 use std::mem;
 
 /// What the work of the frames under way came to, for the tasks that are made of it.
+/// What most events touch lies first, behind the queues and counters of the jobs.
 pub struct Shelf<'t> {
-    session: &'t Session,
-    // Those of the next frame to spread.
-    next: Option<FrameParams<'t>>,
-    slots: Slots<'t>,
     // By agent number.
     asking: Vec<Asking<'t>>,
+    slots: Slots<'t>,
+    // What is left over of the last events, until somebody takes it.
+    spent: Spent<'t>,
     thoughts: Thoughts<'t>,
     // Of the frames in the slots.
     turns: Vec<Option<Turn<'t>>>,
-    // What is left over of the last events, until somebody takes it.
-    spent: Spent<'t>,
+    // Those of the next frame to spread.
+    next: Option<FrameParams<'t>>,
+    session: &'t Session,
 }
 
 impl<'t> Drop for Shelf<'t> {

@@ -1,5 +1,5 @@
-ghost use Rattle.std.specs.Prelude.{◌≡◌, ◌<◌, length, nat_lt, [], true, IfOk};
-ghost use Rattle.std.specs.List.{position_or_len};
+ghost use Rattle.std.specs.Prelude.{◌≡◌, ◌<◌, ◌≤◌, length, nat_lt, vec_len, vec_capacity, [], true, IfOk};
+ghost use Rattle.std.specs.List.{insert, position_or_len};
 ghost use Rattle.board_model.specs.Stored.{parts, put_in};
 ghost use Rattle.task_board.specs.Parts.{AreInOrder};
 ghost use Rattle.task_board.specs.Shelf.{part_name};
@@ -51,6 +51,23 @@ fn place_for(thoughts: &[Thought], agent: u32) -> usize
     0
 }
 
+// Puts a thought at a place. Mostly that is the end, where nothing has to move.
+#[inline(always)]
+fn put_at<'t>(thoughts: &mut Vec<Thought<'t>>, at: usize, thought: Thought<'t>)
+    requires place { at ≤ vec_len thoughts.old }
+    requires room { vec_len thoughts.old < vec_capacity thoughts.old }
+    ensures items { thoughts.new.items ≡ insert thoughts.old.items at thought.entry }
+    ensures capacity { vec_capacity thoughts.old ≤ vec_capacity thoughts.new }
+{
+    if at == thoughts.len() {
+        thoughts.push_reserved(thought);
+        return;
+    }
+    let Ok(()) = thoughts.insert(at, thought) else {
+        unreachable!()
+    };
+}
+
 impl<'t> Thoughts<'t> {
     ghost use Rattle.frame_state.specs.Names.{logic_of};
 
@@ -82,9 +99,7 @@ impl<'t> Thoughts<'t> {
         ensures { self.new ≡ record self.old { parts = put_in (part_name thought.entry) self.old.parts } }
     {
         let at = place_for(&self.all, thought.agent());
-        let Ok(()) = self.all.insert(at, thought) else {
-            unreachable!()
-        };
+        put_at(&mut self.all, at, thought);
     }
 
     /// The logic of a frame, with the thoughts of all its agents.
