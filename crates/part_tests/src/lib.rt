@@ -17,9 +17,9 @@ mod scripts;
 #[cfg(test)]
 mod sessions;
 #[cfg(test)]
-mod states;
-#[cfg(test)]
 mod stacks;
+#[cfg(test)]
+mod states;
 #[cfg(test)]
 mod ticks;
 #[cfg(test)]

@@ -5,13 +5,16 @@ use level_text::{read_level, read_script};
 use std::alloc::Global;
 use stepping::{Stepping, script_digest, step_by_script};
 
-const LEVEL: &str = "{\"map\":[\"A*0\",\"a.B\"],\"agents\":[\"t\",\"u\"],\"trees\":{\"t\":[\"seq*\",[\"take\"],[\"move\",\"0\"]],\"u\":[\"ticks\",3,[\"move\",\"0\"]]}}";
+const LEVEL: &str =
+    "{\"map\":[\"A*0\",\"a.B\"],\"agents\":[\"t\",\"u\"],\"trees\":{\"t\":[\"seq*\",[\"take\"],[\"move\",\"0\"]],\"u\":[\"ticks\",3,[\"move\",\"0\"]]}}";
 
 const SCRIPT: &[u8] = b"1 on a\n2 on c\n";
 
-const START: &str = "btworld state 1 level f49225635d57f35c frame 0\nshown\nnext\nA - 0,0 - 0 0 0\nB - 2,1 - 0 0\nitem 1,0\n";
+const START: &str =
+    "btworld state 1 level f49225635d57f35c frame 0\nshown\nnext\nA - 0,0 - 0 0 0\nB - 2,1 - 0 0\nitem 1,0\n";
 
-const SECOND: &str = "btworld state 1 level f49225635d57f35c frame 2\nshown a c\nnext a c\nA F 0,0 - 0 0 0\nB S 2,0 - 0 0\nitem 1,0\n";
+const SECOND: &str =
+    "btworld state 1 level f49225635d57f35c frame 2\nshown a c\nnext a c\nA F 0,0 - 0 0 0\nB S 2,0 - 0 0\nitem 1,0\n";
 
 fn script(alloc: Global) -> Option<Script> {
     read_script(alloc, SCRIPT).ok()

@@ -16,7 +16,7 @@ returns c =
     let trees : List Plain = agent_trees (value_of c.args.level.now) in
     let all : Grid → ℕ =
     λ g. fnv_all 14695981039346656037 (bytes 2 g.width ++ bytes 2 g.height ++ flat_map cell_bytes g.cells ++ bytes 2 (length g.agents) ++ flat_map agent_bytes g.agents
-        ++ item_bytes 0 g.items ++ flat_map tree_bytes trees) in
+    ++ item_bytes 0 g.items ++ flat_map tree_bytes trees) in
     let width = c.with_two-width.ensures ∙ ap (λ n. fnv_all 14695981039346656037 (bytes 2 n)) (c.from.ensures ∙ c.width.ensures.value) in
     let height = c.with_two-height.ensures ∙ ap (λ n. fnv_all c.with_two-width.result (bytes 2 n)) (c.from-2.ensures ∙ c.height.ensures.value) in
     let cells = c.with_grounds-cells.ensures ∙ ap (λ (l : List Cell). fnv_all c.with_two-height.result (flat_map cell_bytes l)) c.cells.ensures in
