@@ -86,11 +86,12 @@ function resized() { drawJobs(); buildAgents(level.agents, $('side').clientHeigh
 // ---- the head
 
 $('name').textContent = about.level; document.title = about.level + ' - btview';
-$('counts').textContent = grouped(about.frames) + ' frames, ' + A + ' agents, ' + W + ' by ' + H + ' cells, ' + WORKERS + ' workers, ' + about.small + ' small and ' + about.large + ' large fibers, ' + about.slots + ' slots, ' + grouped(about.events) + ' events';
+const numbered = (number, word) => grouped(number) + ' ' + word + (number === 1 ? '' : 's');
+$('counts').textContent = [numbered(about.frames, 'frame'), numbered(A, 'agent'), W + ' by ' + H + ' cells', numbered(WORKERS, 'worker'), about.small + ' small and ' + numbered(about.large, 'large fiber'), numbered(about.slots, 'slot'), numbered(about.events, 'event')].join(', ');
 (function state() {
   const it = $('state');
-  if (about.illegal !== null) { it.textContent = 'illegal event ' + about.illegal + ', ' + N + ' of ' + about.frames + ' frames'; it.title = about.event; it.classList.add('illegal'); }
-  else if (N < about.frames) { it.textContent = 'incomplete, ' + N + ' of ' + about.frames + ' frames'; it.classList.add('short'); }
+  if (about.illegal !== null) { it.textContent = 'illegal event ' + about.illegal + ', ' + N + ' of ' + numbered(about.frames, 'frame'); it.title = about.event; it.classList.add('illegal'); }
+  else if (N < about.frames) { it.textContent = 'incomplete, ' + N + ' of ' + numbered(about.frames, 'frame'); it.classList.add('short'); }
   else it.textContent = 'complete';
 })();
 $('slider').max = Math.max(1, N); $('number').max = Math.max(1, N); $('of').textContent = 'of ' + grouped(N);
