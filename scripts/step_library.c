@@ -1,10 +1,11 @@
 /* Steps a game of the library, and writes the text of each frame, then the digest of the state at the start and after each frame, a
- * line each: `digest FRAME HEX`. The cells of each frame have to be those of its text: else the status is 4. scripts/compare_with_plain builds and runs it, and scripts/try_library does by a compiler of C and
- * one of C++: it is both.
+ * line each: `digest FRAME HEX`. The cells of each frame have to be those of its text. scripts/compare_with_plain builds and runs it, and
+ * scripts/try_library does by a compiler of C and one of C++: it is both.
  *
  *   step_library LEVEL SCRIPT|- FRAMES
  *
- * Status: 0; 1 for a file that can't be read; 2 where the level or the script is refused, with the line that btworld writes. */
+ * Status: 0; 1 for a file that can't be read; 2 where the level or the script is refused, with the line that btworld writes;
+ * 4 where the cells are others, or a call fails. */
 #include "btworld.h"
 #include <inttypes.h>
 #include <stdio.h>
