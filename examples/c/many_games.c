@@ -31,17 +31,17 @@ typedef struct queue {
     uint32_t left; /* jobs that have not ended, those that are being done too */
 } queue;
 
-/* What the threads share, and none of them changes but for the queue. */
+/* What the threads share. Of it only the queue changes, and the digests, of which each job writes its own. */
 typedef struct work {
     queue jobs;
     uint32_t games, frames;
     uint64_t *digests; /* of the games, then of the forks */
 } work;
 
-static void put(queue *jobs, job *put) {
-    put->next = NULL;
-    *jobs->end = put;
-    jobs->end = &put->next;
+static void put(queue *jobs, job *added) {
+    added->next = NULL;
+    *jobs->end = added;
+    jobs->end = &added->next;
     pthread_cond_signal(&jobs->changed);
 }
 
@@ -84,16 +84,16 @@ static uint32_t signals_of(const job *of) { return (of->number * 2654435761u ^ o
 
 static void *do_jobs(void *shared) {
     work *all = shared;
-    job *now, *fork;
+    job *now, *forked;
     while ((now = take(&all->jobs))) {
         for (uint32_t step = 0; step < SLICE && now->frame < all->frames; step++) {
             NEED(btworld_step(&now->game, signals_of(now)));
             now->frame++;
             if (now->number >= all->games || now->frame != (all->frames + 1) / 2) continue;
-            fork = new_job(all, all->games + now->number);
-            fork->frame = now->frame;
-            NEED(btworld_fork(&now->game, &fork->game));
-            put_back(&all->jobs, fork);
+            forked = new_job(all, all->games + now->number);
+            forked->frame = now->frame;
+            NEED(btworld_fork(&now->game, &forked->game));
+            put_back(&all->jobs, forked);
         }
         if (now->frame < all->frames) {
             put_back(&all->jobs, now);
