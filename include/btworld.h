@@ -7,8 +7,8 @@
  *    used any more: a copy of a handle is no second game (btworld_fork makes one);
  *  - the handles, the buffers and the other pointers of one call don't overlap, and none is null, but for bytes of length 0;
  *  - a buffer has as many bytes as its length says, and a length is at most PTRDIFF_MAX;
- *  - a game and all its forks are used by one thread at a time: where another thread goes on, a lock, or the start or the join of
- *    a thread, lies between. Games that were opened apart share nothing;
+ *  - a game is used by one thread at a time, and games, forks too, side by side on as many as there are. Where another thread goes
+ *    on with a game, a lock, or the start or the join of a thread, lies between;
  *  - malloc, realloc and free come from one allocator, and align to 16 bytes; no call comes from a signal handler.
  *
  * `const` at a game means that the call leaves the game as it was. Inside it writes to the handle, so the handle is no object that
@@ -20,7 +20,7 @@
  *
  * In all versions 2.x these stay, so that a program goes on with a newer shared library (libbtworld.so.2) as it was built:
  *  - the name, the arguments and the meaning of each call, and the number of each status: a new status comes of new calls alone;
- *  - size, alignment and order of btworld_game and btworld_agent_state, and what BTWORLD_CLOSED_GAME holds;
+ *  - size, alignment and order of the structs, and what BTWORLD_CLOSED_GAME holds;
  *  - the bytes of the frames of each level and script, and the digest of each state;
  *  - that levels, scripts and logs that are read today are read, and mean the same.
  */
@@ -62,6 +62,11 @@ enum btworld_answer {
 /* x counts columns from the left and y rows from the top, from 0; status is one of btworld_answer. */
 BTWORLD_SINCE_C99 typedef struct btworld_agent_state { uint32_t x, y; bool carrying; uint8_t status; } btworld_agent_state;
 
+/* mark is what the level's map has there where nobody stands and nothing lies: # a wall, . the floor, a to z a door, open or shut,
+ * 0 to 9 a place. item is whether an item lies there; agent is who stands there, 0 for A, and BTWORLD_NOBODY where nobody does. */
+BTWORLD_SINCE_C99 typedef struct btworld_cell_state { uint8_t mark; bool item; uint8_t agent; } btworld_cell_state;
+#define BTWORLD_NOBODY 255
+
 enum btworld_status {
     BTWORLD_OK = 0,
     BTWORLD_NO_MEMORY = 1,
@@ -71,6 +76,7 @@ enum btworld_status {
     BTWORLD_SHORT = 5,      /* the buffer is too short */
     BTWORLD_NO_AGENT = 6,   /* there is no such agent */
     BTWORLD_LAST_FRAME = 7, /* 2^32 - 1 frames were stepped */
+    BTWORLD_NO_CELL = 8,    /* there is no such cell */
     /* LEVEL: the first fault of a level, in this order */
     BTWORLD_LEVEL_JSON = 16,
     BTWORLD_LEVEL_SHAPE = 17,
@@ -107,6 +113,7 @@ BTWORLD_INLINE const char *btworld_status_text(uint32_t status) {
     case BTWORLD_SHORT: return "the buffer is too short";
     case BTWORLD_NO_AGENT: return "there is no such agent";
     case BTWORLD_LAST_FRAME: return "the last frame was stepped";
+    case BTWORLD_NO_CELL: return "there is no such cell";
     case BTWORLD_LEVEL_JSON: return "level: json";
     case BTWORLD_LEVEL_SHAPE: return "level: shape";
     case BTWORLD_LEVEL_MAP_SIZE: return "level: map size";
@@ -168,6 +175,14 @@ uint32_t btworld_text(const btworld_game *game, uint8_t *text, size_t capacity, 
 /* An agent after the frame, 0 for A.
  * Fails with CLOSED, NO_FRAME, NO_AGENT. */
 uint32_t btworld_agent(const btworld_game *game, uint32_t agent, btworld_agent_state *out);
+
+/* How many columns and rows the map has, and how many agents stand on it: the same from the first frame to the last, and before it.
+ * Fails with CLOSED. */
+uint32_t btworld_map(const btworld_game *game, uint32_t *width, uint32_t *height, uint32_t *agents);
+
+/* A cell after the frame, or before the first one, in constant time: x counts columns from the left and y rows from the top, from 0.
+ * Fails with CLOSED, NO_CELL. */
+uint32_t btworld_cell(const btworld_game *game, uint32_t x, uint32_t y, btworld_cell_state *out);
 
 /* How many frames were stepped.
  * Fails with CLOSED. */

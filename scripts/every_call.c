@@ -9,9 +9,10 @@ uint32_t all_of(btworld_game *game, const btworld_game *other) {
     uint32_t (*check)(const uint8_t *, size_t) = btworld_check;
     btworld_game copy = BTWORLD_CLOSED_GAME;
     btworld_agent_state agent;
+    btworld_cell_state cell;
     BTWORLD_SINCE_C99 bool same = false;
     uint64_t digest;
-    uint32_t frame, found = btworld_version() != BTWORLD_VERSION || btworld_status_text(BTWORLD_OK) == NULL;
+    uint32_t frame, width, height, agents, found = btworld_version() != BTWORLD_VERSION || btworld_status_text(BTWORLD_OK) == NULL;
     size_t size;
     found += check(btworld_some(NULL), 0) + btworld_check(NULL, 0);
     found += btworld_fault_text(NULL, 0, NULL, 0, NULL, 0, &size);
@@ -19,6 +20,8 @@ uint32_t all_of(btworld_game *game, const btworld_game *other) {
     found += btworld_step(game, 1) + btworld_step_script(game);
     found += btworld_text(other, NULL, 0, &size);
     found += btworld_agent(other, 0, &agent) + (agent.status == BTWORLD_RUNNING);
+    found += btworld_map(other, &width, &height, &agents);
+    found += btworld_cell(other, 0, 0, &cell) + (cell.agent == BTWORLD_NOBODY);
     found += btworld_frame(other, &frame) + btworld_digest(other, &digest);
     found += btworld_fork(other, &copy) + btworld_same(other, &copy, &same);
     btworld_close(&copy);

@@ -87,7 +87,8 @@ static void look_at_scripts(size_t size, uint32_t frames) {
 int main(int argc, char **argv) {
     btworld_game game = BTWORLD_CLOSED_GAME, twin = BTWORLD_CLOSED_GAME, copy = BTWORLD_CLOSED_GAME;
     btworld_agent_state agent, was = {7, 7, true, 7};
-    uint32_t status, frame;
+    btworld_cell_state cell = {7, true, 7};
+    uint32_t status, frame, width = 7, height = 7, agents = 7;
     size_t size, length, filled;
     bool same;
     FILE *file = argc == 3 ? fopen(argv[1], "rb") : NULL;
@@ -103,6 +104,13 @@ int main(int argc, char **argv) {
     LOOK(btworld_fault_text(NULL, 0, NULL, 0, NULL, 0, &length) == BTWORLD_SHORT && length == 11);
     LOOK(btworld_fault_text(level, size, NULL, 0, NULL, 0, &length) == BTWORLD_OK && length == 0);
     LOOK(btworld_version() == BTWORLD_VERSION);
+    LOOK(btworld_map(&copy, &width, &height, &agents) == BTWORLD_CLOSED && width == 7 && height == 7 && agents == 7);
+    LOOK(btworld_cell(&copy, 0, 0, &cell) == BTWORLD_CLOSED && cell.mark == 7 && cell.item && cell.agent == 7);
+    LOOK(btworld_map(&game, &width, &height, &agents) == BTWORLD_OK && width * height > 0 && agents > 0);
+    LOOK(btworld_cell(&game, width - 1, height - 1, &cell) == BTWORLD_OK && cell.mark != 7);
+    cell.mark = 7;
+    LOOK(btworld_cell(&game, width, height - 1, &cell) == BTWORLD_NO_CELL && cell.mark == 7);
+    LOOK(btworld_cell(&game, width - 1, UINT32_MAX, &cell) == BTWORLD_NO_CELL && cell.mark == 7);
     LOOK(btworld_text(&game, text, ROOM, &length) == BTWORLD_NO_FRAME && btworld_agent(&game, 0, &agent) == BTWORLD_NO_FRAME);
     for (uint32_t f = 1; f <= (uint32_t)atoi(argv[2]); f++) {
         uint32_t on = f * 2654435761u >> 6;

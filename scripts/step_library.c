@@ -1,10 +1,11 @@
 /* Steps a game of the library, and writes the text of each frame, then the digest of the state at the start and after each frame, a
- * line each: `digest FRAME HEX`. scripts/compare_with_plain builds and runs it, and scripts/try_library does by a compiler of C and
- * one of C++: it is both.
+ * line each: `digest FRAME HEX`. The cells of each frame have to be those of its text. scripts/compare_with_plain builds and runs it, and
+ * scripts/try_library does by a compiler of C and one of C++: it is both.
  *
  *   step_library LEVEL SCRIPT|- FRAMES
  *
- * Status: 0; 1 for a file that can't be read; 2 where the level or the script is refused, with the line that btworld writes. */
+ * Status: 0; 1 for a file that can't be read; 2 where the level or the script is refused, with the line that btworld writes;
+ * 4 where the cells are others, or a call fails. */
 #include "btworld.h"
 #include <inttypes.h>
 #include <stdio.h>
@@ -32,6 +33,34 @@ static size_t read_file(const char *path, uint8_t *bytes) {
     return length;
 }
 
+/* What a frame's text has for a cell; a door is drawn by its letter while it is shut. */
+static int is_drawn(const btworld_cell_state *cell, uint8_t glyph) {
+    if (cell->mark == '#') return glyph == '#';
+    if (cell->agent != BTWORLD_NOBODY) return glyph == 'A' + cell->agent;
+    if (cell->item) return glyph == '*';
+    return glyph == cell->mark || (cell->mark >= 'a' && cell->mark <= 'z' && glyph == '/');
+}
+
+static void look_at_cells(const btworld_game *game, const uint8_t *text) {
+    btworld_cell_state cell;
+    uint32_t width, height, agents, standing = 0;
+    const uint8_t *row = (const uint8_t *)memchr(text, '\n', MOST) + 1;
+    int is_so;
+    need(btworld_map(game, &width, &height, &agents));
+    is_so = btworld_cell(game, width, 0, &cell) == BTWORLD_NO_CELL && btworld_cell(game, 0, height, &cell) == BTWORLD_NO_CELL;
+    for (uint32_t y = 0; y < height; y++, row += width + 1) {
+        is_so = is_so && row[width] == '\n';
+        for (uint32_t x = 0; x < width; x++) {
+            need(btworld_cell(game, x, y, &cell));
+            is_so = is_so && is_drawn(&cell, row[x]);
+            standing += cell.agent != BTWORLD_NOBODY;
+        }
+    }
+    if (is_so && standing == agents) return;
+    fprintf(stderr, "the cells are not those of the text\n");
+    exit(4);
+}
+
 int main(int argc, char **argv) {
     static uint8_t level[MOST], script[MOST], text[MOST];
     static uint64_t digests[1 << 17];
@@ -53,6 +82,7 @@ int main(int argc, char **argv) {
         need(btworld_step_script(&game));
         need(btworld_digest(&game, &digests[frame]));
         need(btworld_text(&game, text, MOST, &size));
+        look_at_cells(&game, text);
         fwrite(text, 1, size, stdout);
     }
     for (uint32_t frame = 0; frame <= frames; frame++) printf("digest %" PRIu32 " %016" PRIx64 "\n", frame, digests[frame]);

@@ -1,5 +1,5 @@
 // The calls of btworld.h as a class. A game can be moved and forked, but not copied, and closes itself; what fails throws. As in
-// btworld.h a game and all its forks are used by one thread at a time.
+// btworld.h a game is used by one thread at a time, and forks are games of their own.
 #ifndef BTWORLD_HPP
 #define BTWORLD_HPP
 
@@ -44,6 +44,11 @@ inline std::string fault_text(const Bytes &level, const Bytes &script = {}) {
     });
 }
 
+// How many columns and rows a map has, and how many agents stand on it.
+struct Size {
+    std::uint32_t width, height, agents;
+};
+
 class Game {
 public:
     // The game of a level before its first frame, with a script for step_script: an empty one turns nothing.
@@ -77,6 +82,19 @@ public:
     btworld_agent_state agent(std::uint32_t number) const {
         btworld_agent_state state;
         need(btworld_agent(&handle, number, &state));
+        return state;
+    }
+
+    Size map() const {
+        Size size;
+        need(btworld_map(&handle, &size.width, &size.height, &size.agents));
+        return size;
+    }
+
+    // A cell after the frame, or before the first one.
+    btworld_cell_state cell(std::uint32_t x, std::uint32_t y) const {
+        btworld_cell_state state;
+        need(btworld_cell(&handle, x, y, &state));
         return state;
     }
 

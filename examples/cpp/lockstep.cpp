@@ -79,6 +79,15 @@ private:
     std::uint32_t known = 0, ahead = 0, rollbacks = 0;
 };
 
+// Whether the map and the agents of a frame tell the same.
+bool agents_stand_on_the_map(const Game &game) {
+    for (std::uint32_t number = 0; number < game.map().agents; number++) {
+        const btworld_agent_state agent = game.agent(number);
+        if (game.cell(agent.x, agent.y).agent != number) return false;
+    }
+    return true;
+}
+
 // Plays all frames, and returns whether the machines stayed together.
 bool play(const Bytes &level, const Bytes &script, std::uint32_t frames) {
     Game spectator(level, script), here(level);
@@ -102,7 +111,7 @@ bool play(const Bytes &level, const Bytes &script, std::uint32_t frames) {
         }
     }
     std::cerr << frames << " frames, " << there.rolled_back() << " rollbacks\n";
-    return there.guessed() == here && spectator == here;
+    return there.guessed() == here && spectator == here && (frames == 0 || agents_stand_on_the_map(here));
 }
 
 } // namespace

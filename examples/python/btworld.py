@@ -8,14 +8,16 @@
 ...     for _ in range(3):
 ...         ahead.step("a")
 ...     print(ahead.map, ahead.agents, game.frame)
+...     print(ahead.cell(2, 0), ahead.cell(3, 0).agent)
 frame 1
 A.a0
 A F 0,0 -
 ['../A'] [Agent(letter='A', x=3, y=0, carrying=False, answer=<Answer.RUNNING: 2>)] 1
+Cell(mark='a', item=False, agent=None) 0
 
 The library is what BTWORLD_LIBRARY names, else libbtworld.so beside this folder, else one that is installed. As in btworld.h a game
-and all its forks are used by one thread at a time: ctypes lets other Python threads run while a call goes on, so threads that share
-games need a lock around each call."""
+is used by one thread at a time, and forks are games of their own. ctypes lets other Python threads run while a call goes on, so games
+run side by side, and threads that share one need a lock around each call."""
 from __future__ import annotations
 
 import ctypes
@@ -29,7 +31,7 @@ from pathlib import Path
 from typing import Any, Callable
 
 Status = IntEnum("Status", {
-    "OK": 0, "NO_MEMORY": 1, "CLOSED": 2, "OPEN": 3, "NO_FRAME": 4, "SHORT": 5, "NO_AGENT": 6, "LAST_FRAME": 7,
+    "OK": 0, "NO_MEMORY": 1, "CLOSED": 2, "OPEN": 3, "NO_FRAME": 4, "SHORT": 5, "NO_AGENT": 6, "LAST_FRAME": 7, "NO_CELL": 8,
     "LEVEL_JSON": 16, "LEVEL_SHAPE": 17, "LEVEL_MAP_SIZE": 18, "LEVEL_MAP_CHAR": 19, "LEVEL_LETTERS": 20, "LEVEL_AGENT_COUNT": 21,
     "LEVEL_BAD_TREE": 22, "LEVEL_NO_TREE": 23, "LEVEL_NO_PLACE": 24, "LEVEL_NO_AGENT": 25, "SCRIPT_LINE": 32, "SCRIPT_ORDER": 33,
 })  # fmt: skip
@@ -50,6 +52,15 @@ class Agent:
     answer: Answer
 
 
+@dataclass(frozen=True)
+class Cell:
+    """What the map has there (a door's letter, open or shut), whether an item lies there, and who stands there, 0 for A."""
+
+    mark: str
+    item: bool
+    agent: int | None
+
+
 class Failure(Exception):
     """A call that failed: its status, and for a level or a script the line that btworld writes."""
 
@@ -64,6 +75,10 @@ class _Handle(ctypes.Structure):
 
 class _AgentState(ctypes.Structure):
     _fields_ = [("x", ctypes.c_uint32), ("y", ctypes.c_uint32), ("carrying", ctypes.c_bool), ("status", ctypes.c_uint8)]
+
+
+class _CellState(ctypes.Structure):
+    _fields_ = [("mark", ctypes.c_uint8), ("item", ctypes.c_bool), ("agent", ctypes.c_uint8)]
 
 
 def _load() -> ctypes.CDLL:
@@ -88,6 +103,8 @@ _step = _call("step", _GAME, ctypes.c_uint32)
 _step_script = _call("step_script", _GAME)
 _text = _call("text", _GAME, *_BYTES, _SIZE)
 _agent = _call("agent", _GAME, ctypes.c_uint32, ctypes.POINTER(_AgentState))
+_map = _call("map", _GAME, *[ctypes.POINTER(ctypes.c_uint32)] * 3)
+_cell = _call("cell", _GAME, ctypes.c_uint32, ctypes.c_uint32, ctypes.POINTER(_CellState))
 _frame = _call("frame", _GAME, ctypes.POINTER(ctypes.c_uint32))
 _fork = _call("fork", _GAME, _GAME)
 _same = _call("same", _GAME, _GAME, ctypes.POINTER(ctypes.c_bool))
@@ -186,8 +203,22 @@ class Game:
     @property
     def map(self) -> list[str]:
         """The rows of the map in the frame's text: [y][x] is a cell's glyph."""
-        lines = self.text().splitlines()
-        return lines[1 : len(lines) - len(self.agents)]
+        return self.text().splitlines()[1 : 1 + self.size[1]]
+
+    @property
+    def size(self) -> tuple[int, int]:
+        """How many columns and rows the map has."""
+        width, height, agents = ctypes.c_uint32(), ctypes.c_uint32(), ctypes.c_uint32()
+        _need(_map(self._handle, width, height, agents))
+        return width.value, height.value
+
+    def cell(self, x: int, y: int) -> Cell:
+        """A cell after the frame, or before the first one. Off the map there is none: NO_CELL."""
+        if x < 0 or y < 0:
+            raise Failure(Status.NO_CELL)
+        state = _CellState()
+        _need(_cell(self._handle, x, y, state))
+        return Cell(chr(state.mark), state.item, state.agent if state.agent != 255 else None)
 
     @property
     def frame(self) -> int:

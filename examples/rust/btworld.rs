@@ -1,8 +1,8 @@
 //! A safe wrapper of include/btworld.h. A game owns its handle and closes it; what the calls ask of a caller in C is kept by the
 //! types here.
 //!
-//! `Game` is neither `Send` nor `Sync`. A game and its clones share parts, so `Send` would let two threads use them at once, and
-//! that they may is not proved. A program that keeps a game and all its clones on one thread needs neither.
+//! `Game` is `Send`: what a game and its clones share never changes, and is counted atomically, so each may be on a thread of its
+//! own. It isn't `Sync`, since a call that only reads writes to the handle while it does.
 use std::cell::UnsafeCell;
 use std::fmt;
 use std::ptr;
@@ -20,6 +20,14 @@ struct AgentState {
     y: u32,
     carrying: bool,
     status: u8,
+}
+
+#[repr(C)]
+#[derive(Clone, Copy, Default)]
+struct CellState {
+    mark: u8,
+    item: bool,
+    agent: u8,
 }
 
 unsafe extern "C" {
@@ -43,6 +51,8 @@ unsafe extern "C" {
     fn btworld_step_script(game: *mut Handle) -> u32;
     fn btworld_text(game: *const Handle, text: *mut u8, capacity: usize, size: *mut usize) -> u32;
     fn btworld_agent(game: *const Handle, agent: u32, out: *mut AgentState) -> u32;
+    fn btworld_map(game: *const Handle, width: *mut u32, height: *mut u32, agents: *mut u32) -> u32;
+    fn btworld_cell(game: *const Handle, x: u32, y: u32, out: *mut CellState) -> u32;
     fn btworld_frame(game: *const Handle, frame: *mut u32) -> u32;
     fn btworld_fork(game: *const Handle, copy: *mut Handle) -> u32;
     fn btworld_same(game: *const Handle, other: *const Handle, same: *mut bool) -> u32;
@@ -63,6 +73,8 @@ pub enum Fault {
     NoAgent,
     /// 2^32 - 1 frames were stepped.
     LastFrame,
+    /// There is no such cell.
+    NoCell,
 }
 
 impl fmt::Display for Fault {
@@ -73,6 +85,7 @@ impl fmt::Display for Fault {
             Fault::NoFrame => "no frame was stepped yet",
             Fault::NoAgent => "there is no such agent",
             Fault::LastFrame => "the last frame was stepped",
+            Fault::NoCell => "there is no such cell",
         })
     }
 }
@@ -87,6 +100,7 @@ fn done(status: u32) -> Result<(), Fault> {
         4 => Err(Fault::NoFrame),
         6 => Err(Fault::NoAgent),
         7 => Err(Fault::LastFrame),
+        8 => Err(Fault::NoCell),
         _ => unreachable!("the types here rule status {status} out"),
     }
 }
@@ -123,8 +137,28 @@ pub struct Agent {
     pub answer: Answer,
 }
 
+/// How many columns and rows a map has, and how many agents stand on it.
+#[derive(Clone, Copy, Debug, PartialEq, Eq)]
+pub struct Size {
+    pub width: u32,
+    pub height: u32,
+    pub agents: u32,
+}
+
+/// A cell after a frame: what the map has there, whether an item lies there, and who stands there, 0 for `A`.
+#[derive(Clone, Copy, Debug, PartialEq, Eq)]
+pub struct Cell {
+    pub mark: char,
+    pub item: bool,
+    pub agent: Option<u32>,
+}
+
 /// A game after a frame. The calls that only read write to the handle while they do, so it lies in a cell.
 pub struct Game(UnsafeCell<Handle>);
+
+// SAFETY: the library is proved for this: what a game shares with its clones never changes, and is counted atomically, and nothing
+// of it belongs to a thread.
+unsafe impl Send for Game {}
 
 impl Game {
     fn closed() -> Game {
@@ -169,6 +203,24 @@ impl Game {
         done(unsafe { btworld_agent(self.0.get(), number, &mut state) })?;
         let answer = [Answer::Success, Answer::Failure, Answer::Running][usize::from(state.status)];
         Ok(Agent { x: state.x, y: state.y, carrying: state.carrying, answer })
+    }
+
+    /// The size of the map.
+    pub fn map(&self) -> Size {
+        let mut size = Size { width: 0, height: 0, agents: 0 };
+        // SAFETY: as in `step`; the three numbers don't overlap. The handle is open, so there is no fault.
+        done(unsafe { btworld_map(self.0.get(), &mut size.width, &mut size.height, &mut size.agents) })
+            .expect("an open game has a map");
+        size
+    }
+
+    /// A cell after the frame, or before the first one.
+    pub fn cell(&self, x: u32, y: u32) -> Result<Cell, Fault> {
+        let mut state = CellState::default();
+        // SAFETY: as in `step`.
+        done(unsafe { btworld_cell(self.0.get(), x, y, &mut state) })?;
+        let agent = (state.agent != 255).then_some(u32::from(state.agent));
+        Ok(Cell { mark: char::from(state.mark), item: state.item, agent })
     }
 
     /// How many frames were stepped.

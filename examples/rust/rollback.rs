@@ -29,6 +29,10 @@ fn look_ahead(game: &Game) -> Result<(), Fault> {
     }
     assert!(ahead != *game && ahead.frame() == game.frame() + 10 && game.digest() == digest);
     assert_eq!(ahead.agent(26), Err(Fault::NoAgent));
+    for number in 0..ahead.map().agents {
+        let agent = ahead.agent(number)?;
+        assert_eq!(ahead.cell(agent.x, agent.y)?.agent, Some(number));
+    }
     Ok(())
 }
 
