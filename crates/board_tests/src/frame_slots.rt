@@ -88,17 +88,17 @@ fn slots_hold_the_frames_under_way(rt: HostRuntime) {
 fn is_start_of(slots: &Slots, session: &Session) -> Option<bool> {
     let params = slots.at(1)?;
     let start = params.share().ok()?;
-    let (there, here) = (
-        start.world().agents().first()?,
-        session.world().agents().first()?,
-    );
+    let there = start.world().agents().first()?;
+    let here = session.world().agents().first()?;
     Some(params.frame() == 1 && params.session().is_same(session) && *there == *here)
 }
 
 fn starts(alloc: Global) -> Option<[bool; 2]> {
-    let (session, other) = (walk(alloc)?, session_of(alloc, WALK, "1 on a\n")?);
+    let session = walk(alloc)?;
+    let other = session_of(alloc, WALK, "1 on a\n")?;
+    let params = FrameParams::first(alloc, &session).ok()?;
     let mut slots = Slots::new(alloc, 2).ok()?;
-    slots.fill(FrameParams::first(alloc, &session).ok()?);
+    slots.fill(params);
     Some([is_start_of(&slots, &session)?, is_start_of(&slots, &other)?])
 }
 
