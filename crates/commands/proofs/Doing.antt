@@ -7,7 +7,7 @@ use Rattle.game_rules.specs.Game.{Game}
 use Rattle.game_rules.specs.Text.{texts}
 use Rattle.level_text.specs.Games.{spelled_game}
 use Rattle.words.specs.declared.request.Words.{Words}
-use Rattle.words.specs.declared.request.Words.TheVariants.{Piped, Play, Replay, Check}
+use Rattle.words.specs.declared.request.Words.TheVariants.{Piped, Play, Replay, Check, Explain}
 use Rattle.words.specs.Program.{IsReading, AsksToPlay, AsksToReplay}
 use Rattle.words.proofs.Asked.{read_as_play, read_as_replay}
 use Rattle.words.specs.declared.program_fault.Fault.{Fault}
@@ -61,6 +61,7 @@ done_in_part old new Piped h = tt
 done_in_part old new (Play level settings script log) h = plays_part old new settings.frames h
 done_in_part old new (Replay level log script) h = replays_part old new h
 done_in_part old new (Check level) h = tt
+done_in_part old new (Explain level script log) h = tt
 
 -- done or not, it is a part
 pub part_of : (r : Result (⊤) Fault) (old new : Option (List ℕ)) (w : Words) → OnOk r (IsDone old new w) → OnErr r (IsPartDone old new w)

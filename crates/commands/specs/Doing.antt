@@ -7,7 +7,7 @@ use Rattle.level_text.specs.Games.{spelled_game}
 use Rattle.words.specs.Program.{IsReading, IsNoHelp, IsAskedFor}
 use Rattle.words.specs.declared.fault.WordsFault.{WordsFault}
 use Rattle.words.specs.declared.request.Words.{Words}
-use Rattle.words.specs.declared.request.Words.TheVariants.{Piped, Play, Replay, Check}
+use Rattle.words.specs.declared.request.Words.TheVariants.{Piped, Play, Replay, Check, Explain}
 use Rattle.commands.specs.Replaying.{Shows, ShowsPart}
 
 -- the first frames of the game that some level and script spell were written
@@ -38,6 +38,7 @@ IsDone old new Piped = Unit {0}
 IsDone old new (Play level settings script log) = PlaysSome old new settings.frames
 IsDone old new (Replay level log script) = ReplaysSome old new
 IsDone old new (Check level) = Unit {0}
+IsDone old new (Explain level script log) = Unit {0}
 
 -- or a part of it
 abbrev pub IsPartDone : (old new : Option (List ℕ)) → Words → Type 0
@@ -45,3 +46,4 @@ IsPartDone old new Piped = Unit {0}
 IsPartDone old new (Play level settings script log) = PlaysPart old new settings.frames
 IsPartDone old new (Replay level log script) = ReplaysPart old new
 IsPartDone old new (Check level) = Unit {0}
+IsPartDone old new (Explain level script log) = Unit {0}

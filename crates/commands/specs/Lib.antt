@@ -1,3 +1,4 @@
 pub mod Doing
+pub mod Explaining
 pub mod Faults
 pub mod Replaying

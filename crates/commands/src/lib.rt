@@ -2,7 +2,9 @@
 #![tactic(auto)]
 
 mod checking;
+mod explaining;
 mod few_frames;
+mod finding;
 mod play;
 mod playing;
 mod program;
@@ -10,6 +12,8 @@ mod replaying;
 mod run_fault;
 
 pub use checking::check_bytes;
+pub use explaining::explain_bytes;
+pub use finding::NamedBytes;
 pub use program::command;
 pub use replaying::replay_bytes;
 pub use words::{Fault, Words, WordsFault, read_words, refuse_unread_words, words_given};

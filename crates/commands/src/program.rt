@@ -8,6 +8,7 @@ ghost use Rattle.byte_streams.specs.Streams.{AppendsPart};
 ghost use Rattle.words.specs.Program.{AsksToPlay, AsksToReplay};
 
 use crate::checking::check_file;
+use crate::explaining::explain_files;
 use crate::playing::{play_files, play_input};
 use crate::replaying::replay_files;
 use std::alloc::Global;
@@ -28,7 +29,8 @@ fn act<H: Files + Threads + Wait + Sync, W: Write>(
     ensures part { OnErr result (IsPartDone (W.contents out.old) (W.contents out.new) words) }
 {
     match words {
-        Words::Piped => Ok(()),
+        // `command` does these itself.
+        Words::Piped | Words::Explain { .. } => Ok(()),
         Words::Play {
             level,
             settings,
@@ -77,6 +79,9 @@ pub fn command<H: Files + Threads + Wait + Sync, R: Read, W: Write, E: Write>(
             Ok(()) => 0,
             Err(fault) => fault.report(err),
         },
+        Ok(Words::Explain { level, script, log }) => {
+            explain_files(rt, alloc, level, script, log, out, err)
+        }
         Ok(words) => {
             let done = act(rt, alloc, words, out);
             end_with(done, err)

@@ -6,7 +6,7 @@ use Rattle.clap.specs.declared.error.kind.ErrorKind.TheVariants as kinds
 use Rattle.words.specs.declared.fault.WordsFault.{WordsFault}
 use Rattle.words.specs.declared.fault.WordsFault.TheVariants.{OutOfMemory, Help, Refused}
 use Rattle.words.specs.declared.request.Words.{Words}
-use Rattle.words.specs.declared.request.Words.TheVariants.{Piped, Play, Replay, Check}
+use Rattle.words.specs.declared.request.Words.TheVariants.{Piped, Play, Replay, Check, Explain}
 use Rattle.words.specs.Program.{Enters, IsNumber, IsReading, IsAskedFor, IsNoHelp, AsksToPlay, AsksToReplay}
 
 abbrev name_in : Option (Text × List Row) → Text
@@ -43,6 +43,8 @@ read_as_play words (Replay level log script) n P Q reading asks step done =
     absurd (apart 6 4 (one_length words (codes "replay") (codes "play") reading.0 asks.0 reading.1 asks.1) (omega arith))
 read_as_play words (Check level) n P Q reading asks step done =
     absurd (apart 5 4 (one_length words (codes "check") (codes "play") reading.0 asks.0 reading.1 asks.1) (omega arith))
+read_as_play words (Explain level script log) n P Q reading asks step done =
+    absurd (apart 7 4 (one_length words (codes "explain") (codes "play") reading.0 asks.0 reading.1 asks.1) (omega arith))
 
 -- and as a Replay
 pub read_as_replay : (words : List Text) (w : Words) (P : Words → Type 0) (Q : Type 0) → IsReading words w → AsksToReplay words
@@ -53,6 +55,8 @@ read_as_replay words (Play level settings script log) P Q reading asks step done
 read_as_replay words (Replay level log script) P Q reading asks step done = step level log script done
 read_as_replay words (Check level) P Q reading asks step done =
     absurd (apart 6 5 (one_length words (codes "replay") (codes "check") asks.0 reading.0 asks.1 reading.1) (omega arith))
+read_as_replay words (Explain level script log) P Q reading asks step done =
+    absurd (apart 7 6 (one_length words (codes "explain") (codes "replay") reading.0 asks.0 reading.1 asks.1) (omega arith))
 
 -- words in which clap finds no fault ask for no help
 pub no_help : (words : List Text) (name : Text) (rows : List Row) (fault : WordsFault) → Enters words name rows → IsAskedFor words fault → IsNoHelp fault

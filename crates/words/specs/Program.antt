@@ -10,7 +10,7 @@ use Rattle.job_scheduler.specs.Numbers.{Numbers}
 use Rattle.words.specs.declared.fault.WordsFault.{WordsFault}
 use Rattle.words.specs.declared.fault.WordsFault.TheVariants.{Help}
 use Rattle.words.specs.declared.request.Words.{Words}
-use Rattle.words.specs.declared.request.Words.TheVariants.{Piped, Play, Replay, Check}
+use Rattle.words.specs.declared.request.Words.TheVariants.{Piped, Play, Replay, Check, Explain}
 
 -- takes a number in a range
 abbrev pub in_range : ℕ → ℕ → ValueParser
@@ -62,15 +62,22 @@ replay = with_rule (with_rule (with_rule (new_app (codes "replay")) (word_rule (
 abbrev pub check : App
 check = with_rule (new_app (codes "check")) (word_rule (codes "level"))
 
--- the program with its first command, with two, and with all
+-- `explain LEVEL [--script FILE] [--log FILE]`
+abbrev pub explain : App
+explain = with_files (with_rule (new_app (codes "explain")) (word_rule (codes "level")))
+
+-- the program with its first command, with two, with three, and with all
 abbrev pub with_play : App
 with_play = with_subcommand (on_top (λ s. record s { no_binary_name = true }) (new_app (codes "btworld"))) play.top
 
 abbrev pub with_replay : App
 with_replay = with_subcommand with_play replay.top
 
+abbrev pub with_check : App
+with_check = with_subcommand with_replay check.top
+
 abbrev pub program : App
-program = with_subcommand with_replay check.top
+program = with_subcommand with_check explain.top
 
 -- the decimal value of an entry
 abbrev pub IsNumber : Option Text → ℕ → Type 0
@@ -107,6 +114,8 @@ IsReading words (Play level settings script log) = (rows : List Row) × Enters w
 IsReading words (Replay level log script) = (rows : List Row) × Enters words (codes "replay") rows × IsText rows (codes "level") level
     × IsText rows (codes "log") log × IsOptional rows (codes "script") script
 IsReading words (Check level) = (rows : List Row) × Enters words (codes "check") rows × IsText rows (codes "level") level
+IsReading words (Explain level script log) = (rows : List Row) × Enters words (codes "explain") rows × IsText rows (codes "level") level
+    × IsOptional rows (codes "script") script × IsOptional rows (codes "log") log
 
 abbrev pub IsNoHelp : WordsFault → Type 0
 IsNoHelp (Help text) = ⊥

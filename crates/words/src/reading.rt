@@ -93,6 +93,18 @@ fn check_words(alloc: Global, matches: &ArgMatches<'_>) -> Result<Words, WordsFa
     })
 }
 
+fn explain_words(alloc: Global, matches: &ArgMatches<'_>) -> Result<Words, WordsFault>
+    ensures reading { IfOk result (λ w. (ws : List (List ℕ))
+        → Enters ws (codes "explain") (rows_of (found_of matches.now)) → IsReading ws w) }
+    ensures fault { IfErr result IsNoHelp }
+{
+    Ok(Words::Explain {
+        level: text_entry(alloc, matches, "level")?,
+        script: optional_entry(alloc, matches, "script")?,
+        log: optional_entry(alloc, matches, "log")?,
+    })
+}
+
 /// What the command asks for that clap's matches have entered.
 fn command_words(alloc: Global, matches: &ArgMatches<'_>) -> Result<Words, WordsFault>
     ensures reading { IfOk result (λ w. (ws : List (List ℕ)) → IsEntered ws matches.now → IsReading ws w) }
@@ -102,6 +114,7 @@ fn command_words(alloc: Global, matches: &ArgMatches<'_>) -> Result<Words, Words
         Some(("play", play)) => play_words(alloc, play),
         Some(("replay", replay)) => replay_words(alloc, replay),
         Some(("check", check)) => check_words(alloc, check),
+        Some(("explain", explain)) => explain_words(alloc, explain),
         _ => Err(missing(alloc, "command")),
     }
 }

@@ -23,4 +23,10 @@ pub enum Words {
     Check {
         level: String,
     },
+    /// Say where the first fault of a level, a script and a log lies, and why it is one.
+    Explain {
+        level: String,
+        script: Option<String>,
+        log: Option<String>,
+    },
 }

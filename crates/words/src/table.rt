@@ -49,7 +49,7 @@ const SCRIPT: Argument = Argument {
     form: Form::Path,
 };
 
-pub static SUBCOMMANDS: [Subcommand; 3] = [
+pub static SUBCOMMANDS: [Subcommand; 4] = [
     Subcommand {
         name: "play",
         about: "Plays a level and prints its frames on standard output.",
@@ -123,5 +123,19 @@ pub static SUBCOMMANDS: [Subcommand; 3] = [
         about: "Reads a level, and prints `ok WIDTH HEIGHT AGENTS TREES`.",
         usage: "btworld check LEVEL",
         arguments: &[LEVEL],
+    },
+    Subcommand {
+        name: "explain",
+        about: "Prints where the first fault of a level, a script and a log lies and why it is one, or `ok`.",
+        usage: "btworld explain LEVEL [--script FILE] [--log FILE]",
+        arguments: &[
+            LEVEL,
+            SCRIPT,
+            Argument {
+                name: "log",
+                help: "The log file, as `play --log` writes it",
+                form: Form::Path,
+            },
+        ],
     },
 ];

@@ -1,0 +1,122 @@
+// What is told of a fault of a level, a script or a log: the line that the program reports it by, its place and its reason.
+ghost use Rattle.std.specs.Prelude.{◌≡◌, ◌⊎◌};
+
+use byte_streams::push_number;
+use event_reasons::EventReason;
+use level_reasons::Reason;
+use std::alloc::{AllocError, Global};
+use words::Fault;
+
+/// A file, by the name that its places begin with.
+#[derive(Clone, Copy)]
+pub struct NamedBytes<'f> {
+    pub name: &'f str,
+    pub bytes: &'f [u8],
+}
+
+/// A fault, and what is told of it, which is empty for want of memory.
+#[derive(Drop)]
+pub(crate) struct Finding {
+    pub(crate) fault: Fault,
+    pub(crate) text: Vec<u8>,
+}
+
+/// The line of a fault, and what its place begins with.
+fn begun(alloc: Global, fault: &Fault, name: &str, line: usize) -> Result<Vec<u8>, AllocError> {
+    let begun = format!(in alloc; "{fault}\n{name}:{line}")?;
+    Vec::from_slice(alloc, begun.as_bytes())
+}
+
+fn push_words(text: &mut Vec<u8>, words: &[u8]) -> Result<(), AllocError> {
+    text.extend_from_slice(b"\n")?;
+    text.extend_from_slice(words)?;
+    text.extend_from_slice(b"\n")
+}
+
+fn only_fault(alloc: Global, fault: &Fault) -> Result<Vec<u8>, AllocError> {
+    let line = format!(in alloc; "{fault}\n")?;
+    Vec::from_slice(alloc, line.as_bytes())
+}
+
+/// What is told of a fault of a level or a script.
+fn reason_text(
+    alloc: Global,
+    fault: &Fault,
+    name: &str,
+    reason: Option<Reason>,
+) -> Result<Vec<u8>, AllocError> {
+    let Some(reason) = reason else {
+        return only_fault(alloc, fault);
+    };
+    let mut text = begun(alloc, fault, name, reason.line)?;
+    if let Some(column) = reason.column {
+        push_number(&mut text, b":", column)?;
+    }
+    if !reason.pointer.is_empty() {
+        text.extend_from_slice(b" ")?;
+        text.extend_from_slice(reason.pointer.as_bytes())?;
+    }
+    push_words(&mut text, reason.words.as_bytes())?;
+    Ok(text)
+}
+
+/// What is told of a fault of a log.
+fn event_text(
+    alloc: Global,
+    fault: &Fault,
+    name: &str,
+    reason: Option<EventReason>,
+) -> Result<Vec<u8>, AllocError> {
+    let Some(reason) = reason else {
+        return only_fault(alloc, fault);
+    };
+    let mut text = begun(alloc, fault, name, reason.line)?;
+    push_words(&mut text, &reason.words)?;
+    Ok(text)
+}
+
+impl Finding {
+    fn told(alloc: Global, fault: Fault, text: Result<Vec<u8>, AllocError>) -> Finding
+        ensures { (result.fault ≡ fault) ⊎ (result.fault ≡ Fault.OutOfMemory) }
+    {
+        match text {
+            Ok(text) => Finding { fault, text },
+            Err(_) => Finding {
+                fault: Fault::OutOfMemory,
+                text: Vec::new(alloc),
+            },
+        }
+    }
+
+    /// The finding of a fault of the level or the script in the file of this name.
+    pub(crate) fn in_file(
+        alloc: Global,
+        fault: Fault,
+        name: &str,
+        reason: Result<Option<Reason>, AllocError>,
+    ) -> Finding
+        ensures { (result.fault ≡ fault) ⊎ (result.fault ≡ Fault.OutOfMemory) }
+    {
+        let text = match reason {
+            Ok(reason) => reason_text(alloc, &fault, name, reason),
+            Err(refused) => Err(refused),
+        };
+        Finding::told(alloc, fault, text)
+    }
+
+    /// The finding of a fault of the log in the file of this name.
+    pub(crate) fn in_log(
+        alloc: Global,
+        fault: Fault,
+        name: &str,
+        reason: Result<Option<EventReason>, AllocError>,
+    ) -> Finding
+        ensures { (result.fault ≡ fault) ⊎ (result.fault ≡ Fault.OutOfMemory) }
+    {
+        let text = match reason {
+            Ok(reason) => event_text(alloc, &fault, name, reason),
+            Err(refused) => Err(refused),
+        };
+        Finding::told(alloc, fault, text)
+    }
+}

@@ -1,0 +1,101 @@
+// Limits of trees that are broken.
+use crate::forms::{Arguments, kind_of};
+use crate::pointer::Pointer;
+use crate::search::{Flaw, first_child, first_flaw};
+use bt_nodes::TreeFault;
+use serde_json::Value;
+use std::alloc::{AllocError, Global};
+
+/// How many nodes there are from a node on.
+fn nodes_of(node: &Value) -> u64 {
+    let mut nodes = 1u64;
+    let Value::Array(items) = node else {
+        return nodes;
+    };
+    let first = first_child(node);
+    for (i, item) in items.iter().enumerate() {
+        if i >= first {
+            nodes = nodes.saturating_add(nodes_of(item));
+        }
+    }
+    nodes
+}
+
+pub(crate) fn depth_flaw(alloc: Global, depth: usize) -> Result<Option<String>, AllocError> {
+    if depth <= 32 {
+        return Ok(None);
+    }
+    Ok(Some(format!(in alloc; "depth {depth}, at most 32")?))
+}
+
+pub(crate) fn children_flaw(alloc: Global, node: &Value) -> Result<Option<String>, AllocError> {
+    match kind_of(node) {
+        Some((form, [])) if form.arguments == Arguments::Nodes => {}
+        Some((form, [_])) if form.arguments == Arguments::NumberAndNodes => {}
+        _ => return Ok(None),
+    }
+    Ok(Some(String::from_str(alloc, "no child")?))
+}
+
+pub(crate) fn threshold_flaw(alloc: Global, node: &Value) -> Result<Option<String>, AllocError> {
+    let Some((form, [number, children @ ..])) = kind_of(node) else {
+        return Ok(None);
+    };
+    let Some(threshold) = number.as_u64() else {
+        return Ok(None);
+    };
+    let children = children.len() as u64;
+    if form.arguments != Arguments::NumberAndNodes || (1..=children).contains(&threshold) {
+        return Ok(None);
+    }
+    let noun = if children == 1 { "child" } else { "children" };
+    Ok(Some(format!(in alloc; "{threshold} of {children} {noun}")?))
+}
+
+/// The most that the number of a node may be, where it counts ticks or is a distance.
+fn most_of(head: &str) -> Option<u64> {
+    match head {
+        "tries" | "ticks" | "wait" => Some(1000),
+        "near" => Some(16),
+        _ => None,
+    }
+}
+
+pub(crate) fn count_flaw(alloc: Global, node: &Value) -> Result<Option<String>, AllocError> {
+    let Some((form, [number, ..])) = kind_of(node) else {
+        return Ok(None);
+    };
+    let (Some(most), Some(number)) = (most_of(form.head), number.as_u64()) else {
+        return Ok(None);
+    };
+    if (1..=most).contains(&number) {
+        return Ok(None);
+    }
+    Ok(Some(format!(in alloc; "{number}, from 1 to {most}")?))
+}
+
+/// What is wrong of the first node, in preorder, with which a tree breaks a limit.
+pub(crate) fn limit_flaw(
+    alloc: Global,
+    level: &Value,
+    name: &str,
+    fault: TreeFault,
+    at: &mut Pointer,
+) -> Result<Option<String>, AllocError> {
+    let Some(root) = level.get("trees").and_then(|trees| trees.get(name)) else {
+        return Ok(None);
+    };
+    at.member("trees")?;
+    at.member(name)?;
+    let flaw = match fault {
+        TreeFault::TooManyNodes => {
+            let nodes = nodes_of(root);
+            return Ok(Some(format!(in alloc; "{nodes} nodes, at most 255")?));
+        }
+        TreeFault::TooDeep => Flaw::Depth,
+        TreeFault::NoChild => Flaw::Children,
+        TreeFault::Threshold => Flaw::Threshold,
+        TreeFault::Count => Flaw::Count,
+    };
+    first_flaw(alloc, root, 1, flaw, at)
+}

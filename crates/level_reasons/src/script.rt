@@ -1,0 +1,46 @@
+use crate::reason::Reason;
+use level_text::ScriptFault;
+use std::alloc::{AllocError, Global};
+
+/// The line of a number, from 1, without its line feed.
+fn line_of(bytes: &[u8], n: u64) -> Option<&[u8]> {
+    let i = usize::try_from(n.checked_sub(1)?).ok()?;
+    bytes.split(|b| *b == b'\n').nth(i)
+}
+
+/// The frame that a line of a script begins with, as it is written.
+fn frame_of(bytes: &[u8], n: u64) -> &str {
+    let line = line_of(bytes, n).unwrap_or(b"");
+    let word = line.split(|b| *b == b' ').next().unwrap_or(b"");
+    std::str::from_utf8(word).unwrap_or("")
+}
+
+fn reason_at(alloc: Global, n: u64, words: String) -> Reason {
+    Reason {
+        line: n as usize,
+        column: None,
+        pointer: String::new(alloc),
+        words,
+    }
+}
+
+/// In which line of a script's bytes the fault lies for which `read_script` refuses them, and why it is one; none for want of
+/// memory.
+pub fn script_reason(
+    alloc: Global,
+    bytes: &[u8],
+    fault: ScriptFault,
+) -> Result<Option<Reason>, AllocError> {
+    match fault {
+        ScriptFault::OutOfMemory => Ok(None),
+        ScriptFault::Line { n } => {
+            let words = String::from_str(alloc, "wanted: FRAME on LETTER or FRAME off LETTER")?;
+            Ok(Some(reason_at(alloc, n, words)))
+        }
+        ScriptFault::Order { n } => {
+            let (before, frame) = (frame_of(bytes, n.saturating_sub(1)), frame_of(bytes, n));
+            let words = format!(in alloc; "frame {frame} after frame {before}")?;
+            Ok(Some(reason_at(alloc, n, words)))
+        }
+    }
+}
