@@ -1,5 +1,7 @@
+use Rattle.std.proofs.Common.{sym, subst}
 use Rattle.commands.proofs.Untouched.{whole_is_part}
 use Rattle.words.proofs.Statuses.{ok_at_zero}
+use Rattle.commands.specs.Doing.{IsDone, IsPartDone}
 use Rattle.commands.proofs.Doing.{part_of, played, played_in_part, replayed, replayed_in_part}
 use Rattle.commands.proofs.program.command.Goals as goal
 
@@ -28,3 +30,23 @@ returns-in-Ok-clause-replayed_part g c = λ asks.
     let part = part_of c.act-done.result (g.W.Write.contents c.args.out.now) (g.W.Write.contents c.act-done.new.out) c.in-Ok.words
     c.act-done.ensures.ok c.act-done.ensures.part in
     replayed_in_part (g.W.Write.contents c.args.out.now) (g.W.Write.contents c.act-done.new.out) _ c.in-Ok.words c.in-Ok.ensures.reading asks part
+
+pub returns-in-Ok-Explain-clause-played : goal.returns-in-Ok-Explain-clause-played
+returns-in-Ok-Explain-clause-played g c = λ n asks zero.
+    let done = subst (IsDone (g.W.Write.contents c.args.out.now) (g.W.Write.contents c.explain_files.new.out)) (sym c.in-Ok-Explain.field-0-is) tt in
+    played (g.W.Write.contents c.args.out.now) (g.W.Write.contents c.explain_files.new.out) _ c.in-Ok-Explain.field-0 n c.in-Ok-Explain.ensures.reading asks done
+
+pub returns-in-Ok-Explain-clause-played_part : goal.returns-in-Ok-Explain-clause-played_part
+returns-in-Ok-Explain-clause-played_part g c = λ n asks.
+    let part = subst (IsPartDone (g.W.Write.contents c.args.out.now) (g.W.Write.contents c.explain_files.new.out)) (sym c.in-Ok-Explain.field-0-is) tt in
+    played_in_part (g.W.Write.contents c.args.out.now) (g.W.Write.contents c.explain_files.new.out) _ c.in-Ok-Explain.field-0 n c.in-Ok-Explain.ensures.reading asks part
+
+pub returns-in-Ok-Explain-clause-replayed : goal.returns-in-Ok-Explain-clause-replayed
+returns-in-Ok-Explain-clause-replayed g c = λ asks zero.
+    let done = subst (IsDone (g.W.Write.contents c.args.out.now) (g.W.Write.contents c.explain_files.new.out)) (sym c.in-Ok-Explain.field-0-is) tt in
+    replayed (g.W.Write.contents c.args.out.now) (g.W.Write.contents c.explain_files.new.out) _ c.in-Ok-Explain.field-0 c.in-Ok-Explain.ensures.reading asks done
+
+pub returns-in-Ok-Explain-clause-replayed_part : goal.returns-in-Ok-Explain-clause-replayed_part
+returns-in-Ok-Explain-clause-replayed_part g c = λ asks.
+    let part = subst (IsPartDone (g.W.Write.contents c.args.out.now) (g.W.Write.contents c.explain_files.new.out)) (sym c.in-Ok-Explain.field-0-is) tt in
+    replayed_in_part (g.W.Write.contents c.args.out.now) (g.W.Write.contents c.explain_files.new.out) _ c.in-Ok-Explain.field-0 c.in-Ok-Explain.ensures.reading asks part
