@@ -13,6 +13,3 @@ pub use log_text::{Event, JobName, Settings};
 pub use reading::reading_reason;
 pub use reason::{EventReason, illegal_reason, incomplete_reason};
 pub use run::Run;
-
-#[cfg(test)]
-mod tests;

@@ -19,6 +19,3 @@ mod tokens;
 pub use level::level_reason;
 pub use reason::Reason;
 pub use script::script_reason;
-
-#[cfg(test)]
-mod tests;
