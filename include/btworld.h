@@ -21,7 +21,7 @@
  * In all versions 2.x these stay, so that a program goes on with a newer shared library (libbtworld.so.2) as it was built:
  *  - the name, the arguments and the meaning of each call, and the number of each status: a new status comes of new calls alone;
  *  - size, alignment and order of the structs, and what BTWORLD_CLOSED_GAME holds;
- *  - the bytes of the frames of each level and script, and the digest of each state;
+ *  - the bytes of the frames of each level and script, and the digest of each level and of each state;
  *  - that levels, scripts and logs that are read today are read, and mean the same.
  */
 #ifndef BTWORLD_H
@@ -203,8 +203,27 @@ BTWORLD_SINCE_C99 uint32_t btworld_same(const btworld_game *game, const btworld_
  * carries an item; of each agent's memory the number of each node of its tree in 2 bytes, in preorder; the number of each cell
  * with an item in 4 bytes, cells being counted row after row. Trees and walls are not in it. Games in the same state have the
  * same digest; the other way round is not promised.
+ * A bug report is a level, a script, a frame and two digests: the level's and the state's. Two machines whose digests differ write
+ * btworld_state each, and `diff` tells what is different.
  * Fails with CLOSED. */
 uint32_t btworld_digest(const btworld_game *game, uint64_t *digest);
+
+/* FNV-1a of 64 bits over the bytes of the level's game, each number with its lowest byte first: width and height in 2 bytes each;
+ * of each cell, row after row, 2 bytes: 0 0 a wall, 1 0 floor, 2 and the signal's number a door, 3 and the digit a place; the number
+ * of agents in 2 bytes, and agents and items as in btworld_digest; of each agent's tree each node in preorder: a byte for its kind,
+ * the number in it, or that of its letter or digit, in 2 bytes, 0 where there is none, and a byte for how many children it has. Kinds
+ * are counted from 0: seq, fallback, seq*, fallback*, par, not, tries, ticks, wait, move, take, drop, at, carrying, item, signal,
+ * near, give. It is the same at each frame. Names, how the file is laid out, and trees that no agent has don't count.
+ * Fails with CLOSED. */
+uint32_t btworld_level_digest(const btworld_game *game, uint64_t *digest);
+
+/* The state after the frame, or before the first one, as text at the start of a buffer, and how many bytes it has, with no zero
+ * behind them. Its lines are: `btworld state 1 level L frame F`, L being btworld_level_digest in 16 digits of base 16; `shown` and
+ * the letters of the signals that were on in the frame, and `next` and those that are on in the next one by what was handed in so
+ * far, a space before each; of each agent its line as in btworld_text, with `-` for the answer before the first frame, and the
+ * number of each node of its memory behind it, a space before each; `item X,Y` for each item, row after row.
+ * Fails with CLOSED, NO_MEMORY, SHORT. */
+uint32_t btworld_state(const btworld_game *game, uint8_t *text, size_t capacity, size_t *size);
 
 /* The handle is closed, and its memory given back; a closed one stays so. */
 void btworld_close(btworld_game *game);
@@ -240,6 +259,7 @@ BTWORLD_INLINE uint8_t *btworld_some_room(uint8_t *room) {
 #define btworld_open_script(game, level, level_length, script, script_length) \
     btworld_open_script(game, btworld_some(level), level_length, btworld_some(script), script_length)
 #define btworld_text(game, text, capacity, size) btworld_text(game, btworld_some_room(text), capacity, size)
+#define btworld_state(game, text, capacity, size) btworld_state(game, btworld_some_room(text), capacity, size)
 #define btworld_replay(level, level_length, script, script_length, log, log_length, text, capacity, size, frames) \
     btworld_replay(btworld_some(level), level_length, btworld_some(script), script_length, btworld_some(log), log_length, \
                    btworld_some_room(text), capacity, size, frames)

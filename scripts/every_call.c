@@ -22,7 +22,8 @@ uint32_t all_of(btworld_game *game, const btworld_game *other) {
     found += btworld_agent(other, 0, &agent) + (agent.status == BTWORLD_RUNNING);
     found += btworld_map(other, &width, &height, &agents);
     found += btworld_cell(other, 0, 0, &cell) + (cell.agent == BTWORLD_NOBODY);
-    found += btworld_frame(other, &frame) + btworld_digest(other, &digest);
+    found += btworld_frame(other, &frame) + btworld_digest(other, &digest) + btworld_level_digest(other, &digest);
+    found += btworld_state(other, NULL, 0, &size);
     found += btworld_fork(other, &copy) + btworld_same(other, &copy, &same);
     btworld_close(&copy);
     found += btworld_replay(NULL, 0, NULL, 0, NULL, 0, NULL, 0, &size, &frame);

@@ -84,11 +84,29 @@ static void look_at_scripts(size_t size, uint32_t frames) {
     LOOK(btworld_complete(level, size, script, sizeof script - 1, whole, strlen(head) + 5, shown, LOGS, &length) == BTWORLD_LOG_STOPPED);
 }
 
+/* A game's state, written where memory is refused and where the buffer is short; a game in the same state writes the same. */
+static void look_at_state(const btworld_game *game, const btworld_game *twin) {
+    static uint8_t right[ROOM];
+    uint32_t status;
+    size_t length, filled = 7;
+    bool same;
+    memset(text, 1, ROOM);
+    memset(other, 1, ROOM);
+    LOOK(btworld_state(twin, right, ROOM, &length) == BTWORLD_OK && length > 0);
+    REFUSING(status, btworld_state(game, text, ROOM, &filled)) LOOK(!memcmp(text, other, ROOM) && filled == 7);
+    LOOK(status == BTWORLD_OK && filled == length && !memcmp(text, right, length) && !memcmp(text + length, other, ROOM - length));
+    LOOK(btworld_state(game, NULL, 0, &filled) == BTWORLD_SHORT && filled == length);
+    memset(text, 1, ROOM);
+    LOOK(btworld_state(game, text, length - 1, &filled) == BTWORLD_SHORT && filled == length && !memcmp(text, other, ROOM));
+    LOOK(btworld_same(game, twin, &same) == BTWORLD_OK && same);
+}
+
 int main(int argc, char **argv) {
     btworld_game game = BTWORLD_CLOSED_GAME, twin = BTWORLD_CLOSED_GAME, copy = BTWORLD_CLOSED_GAME;
     btworld_agent_state agent, was = {7, 7, true, 7};
     btworld_cell_state cell = {7, true, 7};
     uint32_t status, frame, width = 7, height = 7, agents = 7;
+    uint64_t digest = 7, twins;
     size_t size, length, filled;
     bool same;
     FILE *file = argc == 3 ? fopen(argv[1], "rb") : NULL;
@@ -112,6 +130,11 @@ int main(int argc, char **argv) {
     LOOK(btworld_cell(&game, width, height - 1, &cell) == BTWORLD_NO_CELL && cell.mark == 7);
     LOOK(btworld_cell(&game, width - 1, UINT32_MAX, &cell) == BTWORLD_NO_CELL && cell.mark == 7);
     LOOK(btworld_text(&game, text, ROOM, &length) == BTWORLD_NO_FRAME && btworld_agent(&game, 0, &agent) == BTWORLD_NO_FRAME);
+    memset(text, 1, ROOM);
+    length = 7;
+    LOOK(btworld_state(&copy, text, ROOM, &length) == BTWORLD_CLOSED && length == 7 && text[0] == 1);
+    LOOK(btworld_level_digest(&copy, &digest) == BTWORLD_CLOSED && digest == 7);
+    look_at_state(&game, &twin);
     for (uint32_t f = 1; f <= (uint32_t)atoi(argv[2]); f++) {
         uint32_t on = f * 2654435761u >> 6;
         REFUSING(status, btworld_step(&game, on)) {
@@ -129,9 +152,11 @@ int main(int argc, char **argv) {
         LOOK(btworld_text(&game, NULL, 0, &filled) == BTWORLD_SHORT && filled == length);
         memset(text, 1, ROOM);
         LOOK(btworld_text(&game, text, length - 1, &filled) == BTWORLD_SHORT && filled == length && !memcmp(text, other, ROOM));
+        look_at_state(&game, &twin);
         REFUSING(status, btworld_fork(&game, &copy)) LOOK(!copy.is_open && btworld_same(&game, &twin, &same) == BTWORLD_OK && same);
         LOOK(status == BTWORLD_OK && btworld_same(&game, &copy, &same) == BTWORLD_OK && same);
         LOOK(btworld_step(&copy, ~on) == BTWORLD_OK && btworld_same(&game, &copy, &same) == BTWORLD_OK && !same);
+        LOOK(btworld_level_digest(&game, &digest) == BTWORLD_OK && btworld_level_digest(&copy, &twins) == BTWORLD_OK && digest == twins);
         LOOK(btworld_same(&game, &twin, &same) == BTWORLD_OK && same);
         btworld_close(&copy);
         btworld_close(&copy);

@@ -1,6 +1,7 @@
-/* Steps a game of the library, and writes the text of each frame, then the digest of the state at the start and after each frame, a
- * line each: `digest FRAME HEX`. The cells of each frame have to be those of its text. scripts/compare_with_plain builds and runs it, and
- * scripts/try_library does by a compiler of C and one of C++: it is both.
+/* Steps a game of the library, and writes the text of each frame, then by a fork that was made at the start the level's digest, and at
+ * the start and after each frame the state's digest and the state: `level digest HEX`, then `digest FRAME HEX` and the state's lines. The
+ * cells of each frame have to be those of its text. scripts/compare_with_plain builds and runs it, and scripts/try_library does by a
+ * compiler of C and one of C++: it is both.
  *
  *   step_library LEVEL SCRIPT|- FRAMES
  *
@@ -61,13 +62,29 @@ static void look_at_cells(const btworld_game *game, const uint8_t *text) {
     exit(4);
 }
 
+static void write_digest(const char *title, uint64_t digest) { printf("%s %016" PRIx64 "\n", title, digest); }
+
+static void write_state(const btworld_game *game, uint8_t *text) {
+    uint32_t frame;
+    uint64_t digest;
+    size_t size;
+    char title[20];
+    need(btworld_frame(game, &frame));
+    need(btworld_digest(game, &digest));
+    sprintf(title, "digest %" PRIu32, frame);
+    write_digest(title, digest);
+    need(btworld_state(game, text, MOST, &size));
+    fwrite(text, 1, size, stdout);
+}
+
 int main(int argc, char **argv) {
     static uint8_t level[MOST], script[MOST], text[MOST];
-    static uint64_t digests[1 << 17];
-    btworld_game game = BTWORLD_CLOSED_GAME;
+    btworld_game game = BTWORLD_CLOSED_GAME, again = BTWORLD_CLOSED_GAME;
     size_t level_length, script_length, size;
+    uint64_t digest;
     uint32_t status, frames;
-    if (argc != 4 || (frames = (uint32_t)strtoul(argv[3], NULL, 10)) >= 1 << 17) return 64;
+    if (argc != 4) return 64;
+    frames = (uint32_t)strtoul(argv[3], NULL, 10);
     level_length = read_file(argv[1], level);
     script_length = read_file(argv[2], script);
     status = btworld_open_script(&game, level, level_length, script, script_length);
@@ -77,15 +94,21 @@ int main(int argc, char **argv) {
         return 2;
     }
     need(status);
-    need(btworld_digest(&game, &digests[0]));
+    need(btworld_fork(&game, &again));
     for (uint32_t frame = 1; frame <= frames; frame++) {
         need(btworld_step_script(&game));
-        need(btworld_digest(&game, &digests[frame]));
         need(btworld_text(&game, text, MOST, &size));
         look_at_cells(&game, text);
         fwrite(text, 1, size, stdout);
     }
-    for (uint32_t frame = 0; frame <= frames; frame++) printf("digest %" PRIu32 " %016" PRIx64 "\n", frame, digests[frame]);
+    need(btworld_level_digest(&game, &digest));
+    write_digest("level digest", digest);
+    write_state(&again, text);
+    for (uint32_t frame = 1; frame <= frames; frame++) {
+        need(btworld_step_script(&again));
+        write_state(&again, text);
+    }
+    btworld_close(&again);
     btworld_close(&game);
     return 0;
 }

@@ -110,6 +110,19 @@ public:
         return digest;
     }
 
+    std::uint64_t level_digest() const {
+        std::uint64_t digest;
+        need(btworld_level_digest(&handle, &digest));
+        return digest;
+    }
+
+    // The state by lines, to be compared with another machine's by diff.
+    std::string state() const {
+        return written([this](std::uint8_t *text, std::size_t capacity, std::size_t *size) {
+            return btworld_state(&handle, text, capacity, size);
+        });
+    }
+
     // The same game at the same frame, to be gone on with apart from this one.
     Game fork() const {
         Game copy;

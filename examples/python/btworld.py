@@ -109,6 +109,8 @@ _frame = _call("frame", _GAME, ctypes.POINTER(ctypes.c_uint32))
 _fork = _call("fork", _GAME, _GAME)
 _same = _call("same", _GAME, _GAME, ctypes.POINTER(ctypes.c_bool))
 _digest = _call("digest", _GAME, ctypes.POINTER(ctypes.c_uint64))
+_level_digest = _call("level_digest", _GAME, ctypes.POINTER(ctypes.c_uint64))
+_state = _call("state", _GAME, *_BYTES, _SIZE)
 _close = _call("close", _GAME, answers=None)
 
 
@@ -232,6 +234,27 @@ class Game:
         digest = ctypes.c_uint64()
         _need(_digest(self._handle, digest))
         return digest.value
+
+    def level_digest(self) -> int:
+        """The digest of the level, the same at each frame: machines that play the same level have the same."""
+        digest = ctypes.c_uint64()
+        _need(_level_digest(self._handle, digest))
+        return digest.value
+
+    def state(self) -> str:
+        """The state by lines, to be compared with another machine's by `diff`.
+
+        >>> game = Game.open({"map": ["A*0"], "agents": ["t"], "trees": {"t": ["move", "0"]}})
+        >>> print(game.state(), end="")
+        btworld state 1 level 80390d2489972cff frame 0
+        shown
+        next
+        A - 0,0 - 0
+        item 1,0
+        >>> f"{game.level_digest():016x}" == game.state().split()[4]
+        True
+        """
+        return _written(_state, self._handle)
 
     def fork(self) -> Game:
         """The same game at the same frame, to be gone on with apart from this one."""

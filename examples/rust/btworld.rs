@@ -57,6 +57,8 @@ unsafe extern "C" {
     fn btworld_fork(game: *const Handle, copy: *mut Handle) -> u32;
     fn btworld_same(game: *const Handle, other: *const Handle, same: *mut bool) -> u32;
     fn btworld_digest(game: *const Handle, digest: *mut u64) -> u32;
+    fn btworld_level_digest(game: *const Handle, digest: *mut u64) -> u32;
+    fn btworld_state(game: *const Handle, text: *mut u8, capacity: usize, size: *mut usize) -> u32;
     fn btworld_close(game: *mut Handle);
 }
 
@@ -237,6 +239,20 @@ impl Game {
         // SAFETY: as in `step`. It takes no memory, and the handle is open, so there is no fault.
         done(unsafe { btworld_digest(self.0.get(), &mut digest) }).expect("an open game has a digest");
         digest
+    }
+
+    /// The digest of the level: equal on all machines that play the same level, at each frame.
+    pub fn level_digest(&self) -> u64 {
+        let mut digest = 0;
+        // SAFETY: as in `step`. It takes no memory, and the handle is open, so there is no fault.
+        done(unsafe { btworld_level_digest(self.0.get(), &mut digest) }).expect("an open game has a level's digest");
+        digest
+    }
+
+    /// The state by lines, after the frame or before the first one, to be compared with another machine's by `diff`.
+    pub fn state(&self) -> Result<String, Fault> {
+        // SAFETY: as in `text`.
+        written(|text, capacity, size| unsafe { btworld_state(self.0.get(), text, capacity, size) })
     }
 
     /// The same game at the same frame, to be gone on with apart from this one.

@@ -23,11 +23,12 @@ fn play(level: &[u8], script: &[u8], frames: u32) -> Result<(), Fault> {
 /// Plays a clone on, and looks that the game is where it was.
 fn look_ahead(game: &Game) -> Result<(), Fault> {
     let (digest, mut ahead) = (game.digest(), game.try_clone()?);
-    assert!(ahead == *game);
+    assert!(ahead == *game && ahead.state()? == game.state()?);
     for _ in 0..10 {
         ahead.step(0x3ff_ffff)?;
     }
     assert!(ahead != *game && ahead.frame() == game.frame() + 10 && game.digest() == digest);
+    assert!(ahead.state()? != game.state()? && ahead.level_digest() == game.level_digest());
     assert_eq!(ahead.agent(26), Err(Fault::NoAgent));
     for number in 0..ahead.map().agents {
         let agent = ahead.agent(number)?;
