@@ -7,7 +7,10 @@ use Rattle.level_text.specs.Games.{spelled_game}
 use Rattle.words.specs.Program.{IsReading, IsNoHelp, IsAskedFor}
 use Rattle.words.specs.declared.fault.WordsFault.{WordsFault}
 use Rattle.words.specs.declared.request.Words.{Words}
-use Rattle.words.specs.declared.request.Words.TheVariants.{Piped, Play, Replay, Check}
+use Rattle.words.specs.declared.request.Words.TheVariants.{Piped, Play, Replay, Check, Digest, State, Complete}
+use Rattle.desync_commands.specs.Texts.{digests_text}
+use Rattle.desync_commands.specs.Written.{WritesSome, WritesPart, CompletesSome, CompletesSomePart}
+use Rattle.stepping.specs.StateText.{scripted_state_text}
 use Rattle.commands.specs.Replaying.{Shows, ShowsPart}
 
 -- the first frames of the game that some level and script spell were written
@@ -38,6 +41,9 @@ IsDone old new Piped = Unit {0}
 IsDone old new (Play level settings script log) = PlaysSome old new settings.frames
 IsDone old new (Replay level log script) = ReplaysSome old new
 IsDone old new (Check level) = Unit {0}
+IsDone old new (Digest level frames script) = WritesSome old new (λ g. digests_text g frames)
+IsDone old new (State level frame script) = WritesSome old new (λ g. scripted_state_text g frame)
+IsDone old new (Complete level log whole script) = CompletesSome old new
 
 -- or a part of it
 abbrev pub IsPartDone : (old new : Option (List ℕ)) → Words → Type 0
@@ -45,3 +51,6 @@ IsPartDone old new Piped = Unit {0}
 IsPartDone old new (Play level settings script log) = PlaysPart old new settings.frames
 IsPartDone old new (Replay level log script) = ReplaysPart old new
 IsPartDone old new (Check level) = Unit {0}
+IsPartDone old new (Digest level frames script) = WritesPart old new (λ g. digests_text g frames)
+IsPartDone old new (State level frame script) = WritesPart old new (λ g. scripted_state_text g frame)
+IsPartDone old new (Complete level log whole script) = CompletesSomePart old new

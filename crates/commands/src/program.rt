@@ -5,11 +5,15 @@ ghost use Rattle.game_rules.specs.Text.{texts};
 ghost use Rattle.commands.specs.Doing.{PlaysSome, PlaysPart, ReplaysSome, ReplaysPart, AreRefused, IsDone, IsPartDone};
 ghost use Rattle.level_text.specs.Games.{spelled_game};
 ghost use Rattle.byte_streams.specs.Streams.{AppendsPart};
-ghost use Rattle.words.specs.Program.{AsksToPlay, AsksToReplay};
+ghost use Rattle.desync_commands.specs.Texts.{digests_text};
+ghost use Rattle.desync_commands.specs.Written.{WritesSome, WritesPart, CompletesSome, CompletesSomePart};
+ghost use Rattle.stepping.specs.StateText.{scripted_state_text};
+ghost use Rattle.words.specs.Program.{AsksToPlay, AsksToReplay, AsksToDigest, AsksForState, AsksToComplete};
 
 use crate::checking::check_file;
 use crate::playing::{play_files, play_input};
 use crate::replaying::replay_files;
+use desync_commands::{complete_files, digest_files, state_files};
 use std::alloc::Global;
 use std::io::{Read, Write};
 use std::rt::Files;
@@ -37,6 +41,22 @@ fn act<H: Files + Threads + Wait + Sync, W: Write>(
         } => play_files(rt, alloc, level, settings, script, log, out),
         Words::Replay { level, log, script } => replay_files(rt, alloc, level, log, script, out),
         Words::Check { level } => check_file(rt, alloc, level, out),
+        Words::Digest {
+            level,
+            frames,
+            script,
+        } => digest_files(rt, alloc, level, frames, script, out),
+        Words::State {
+            level,
+            frame,
+            script,
+        } => state_files(rt, alloc, level, frame, script, out),
+        Words::Complete {
+            level,
+            log,
+            whole,
+            script,
+        } => complete_files(rt, alloc, level, log, whole, script, out),
     }
 }
 
@@ -69,6 +89,18 @@ pub fn command<H: Files + Threads + Wait + Sync, R: Read, W: Write, E: Write>(
         → ReplaysSome (W.contents out.old) (W.contents out.new) }
     ensures replayed_part { AsksToReplay (map string_bytes words.now)
         → ReplaysPart (W.contents out.old) (W.contents out.new) }
+    ensures digests { (frames : ℕ) → AsksToDigest (map string_bytes words.now) frames → result ≡ 0
+        → WritesSome (W.contents out.old) (W.contents out.new) (λ g. digests_text g frames) }
+    ensures digests_part { (frames : ℕ) → AsksToDigest (map string_bytes words.now) frames
+        → WritesPart (W.contents out.old) (W.contents out.new) (λ g. digests_text g frames) }
+    ensures state { (frame : ℕ) → AsksForState (map string_bytes words.now) frame → result ≡ 0
+        → WritesSome (W.contents out.old) (W.contents out.new) (λ g. scripted_state_text g frame) }
+    ensures state_part { (frame : ℕ) → AsksForState (map string_bytes words.now) frame
+        → WritesPart (W.contents out.old) (W.contents out.new) (λ g. scripted_state_text g frame) }
+    ensures completed { AsksToComplete (map string_bytes words.now) → result ≡ 0
+        → CompletesSome (W.contents out.old) (W.contents out.new) }
+    ensures completed_part { AsksToComplete (map string_bytes words.now)
+        → CompletesSomePart (W.contents out.old) (W.contents out.new) }
     ensures refused_words { AreRefused (map string_bytes words.now) → result ≢ 0 }
     ensures unwritten { AreRefused (map string_bytes words.now) → W.contents out.new ≡ W.contents out.old }
 {
