@@ -2,8 +2,7 @@
 ghost use Rattle.std.specs.Prelude.{◌≡◌, ◌⊎◌};
 
 use byte_streams::push_number;
-use event_reasons::EventReason;
-use level_reasons::Reason;
+use fault_reasons::{EventReason, Reason};
 use std::alloc::{AllocError, Global};
 use words::Fault;
 

@@ -4,7 +4,6 @@ use Rattle.job_core.specs.declared.names.JobName.{JobName}
 use Rattle.job_core.specs.declared.names.JobName.TheVariants.{Logic, Think, Path, Draw}
 use Rattle.job_core.specs.declared.names.Event.{Event}
 use Rattle.job_core.specs.declared.names.Event.TheVariants.{Start, Resume, Ask, Spread, Hold, Finish, Emit, Stop}
-use Rattle.trace_text.specs.declared.arrows.TheConstants.{JOINED, OUT, INTO}
 
 abbrev pub letter : ℕ → List ℕ
 letter agent = (65 + agent % 26) ∷ []
@@ -74,12 +73,12 @@ is_led_into (Path frame agent question) goes_on = true
 is_led_into _ goes_on = goes_on
 
 abbrev pub into_text : Bool → List ℕ
-into_text led = if led then INTO.now else []
+into_text led = if led then codes ",\"flow_in\":true" else []
 
 -- the arrows from and to a slice, and the end of its entry
 abbrev pub arrow_from : Option ℕ → Bool → List ℕ
 arrow_from None led = codes "}"
-arrow_from (Some number) led = (JOINED.now ++ decimal number) ++ OUT.now ++ into_text led ++ codes "}"
+arrow_from (Some number) led = (codes ",\"bind_id\":\"" ++ decimal number) ++ codes "\",\"flow_out\":true" ++ into_text led ++ codes "}"
 
 abbrev pub arrow_text : JobName → Bool → List ℕ
 arrow_text job goes_on = arrow_from (joined_by job) (is_led_into job goes_on)

@@ -1,5 +1,5 @@
 -- A list of events in Chrome's trace format: JSON, an entry a line. All is of process 1; a worker's thread is its number and one, the printer's 17.
-use Rattle.std.specs.Prelude.{ℕ, zero, suc, ◌+◌, ◌-◌, List, [], ◌∷◌, ◌++◌, decimal, if◌then◌else◌}
+use Rattle.std.specs.Prelude.{ℕ, zero, suc, ◌+◌, ◌-◌, List, [], ◌∷◌, ◌++◌, codes, decimal, if◌then◌else◌}
 use Rattle.std.specs.List.{flat_map}
 use Rattle.job_core.specs.declared.names.Event.{Event}
 use Rattle.job_core.specs.declared.names.Event.TheVariants.{Emit}
@@ -10,21 +10,18 @@ use Rattle.trace_text.specs.Slices.{slices_of}
 use Rattle.job_core.specs.Names.{frame_of}
 use Rattle.trace_text.specs.Spans.{has_frame}
 use Rattle.trace_text.specs.Jobs.{where_text, what_text, how_text, arrow_text}
-use Rattle.trace_text.specs.declared.whole.TheConstants.{HEAD, TAIL}
-use Rattle.trace_text.specs.declared.lanes.TheConstants.{LANE, WORKER, PRINTER, NAME_END, PLACE, PLACE_END}
-use Rattle.trace_text.specs.declared.emits.TheConstants.{EMIT, EMIT_ARGUMENTS, EMIT_END}
 
 -- ---- the names of lanes, in the order of their threads
 
 -- an entry that tells a lane's name, and one that puts it in its place
 abbrev pub worker_text : (thread worker : ℕ) → List ℕ
-worker_text thread worker = (LANE.now ++ decimal thread) ++ (WORKER.now ++ decimal worker) ++ NAME_END.now
+worker_text thread worker = (codes ",\n{\"ph\":\"M\",\"pid\":1,\"tid\":" ++ decimal thread) ++ (codes ",\"name\":\"thread_name\",\"args\":{\"name\":\"worker " ++ decimal worker) ++ codes "\"}}"
 
 abbrev pub printer_text : List ℕ
-printer_text = (LANE.now ++ decimal 17) ++ PRINTER.now ++ NAME_END.now
+printer_text = (codes ",\n{\"ph\":\"M\",\"pid\":1,\"tid\":" ++ decimal 17) ++ codes ",\"name\":\"thread_name\",\"args\":{\"name\":\"printer" ++ codes "\"}}"
 
 abbrev pub place_text : (thread : ℕ) → List ℕ
-place_text thread = (LANE.now ++ decimal thread) ++ (PLACE.now ++ decimal thread) ++ PLACE_END.now
+place_text thread = (codes ",\n{\"ph\":\"M\",\"pid\":1,\"tid\":" ++ decimal thread) ++ (codes ",\"name\":\"thread_sort_index\",\"args\":{\"sort_index\":" ++ decimal thread) ++ codes "}}"
 
 abbrev pub lane_text : (thread worker : ℕ) → List ℕ
 lane_text thread worker = worker_text thread worker ++ place_text thread
@@ -54,7 +51,7 @@ slices_text span slices = flat_map (text_within span) slices
 
 -- what is told of one, and the end of its entry
 unfoldable pub told_text : (frame : ℕ) → List ℕ
-told_text frame = (EMIT.now ++ decimal frame) ++ (EMIT_ARGUMENTS.now ++ decimal frame) ++ EMIT_END.now
+told_text frame = (codes ",\"cat\":\"emit\",\"name\":\"emit " ++ decimal frame) ++ (codes "\",\"args\":{\"frame\":" ++ decimal frame) ++ codes "}}"
 
 abbrev pub emit_text : (at frame : ℕ) → List ℕ
 emit_text at frame = where_text 17 at 1 ++ told_text frame
@@ -72,4 +69,4 @@ emits_from span at (event ∷ events) = shown_text span at event ++ emits_from s
 
 -- of the frames that are looked at
 abbrev pub trace_of : Numbers → List Event → FrameSpan → List ℕ
-trace_of settings events span = HEAD.now ++ lanes_text settings.workers ++ slices_text span (slices_of events) ++ emits_from span 0 events ++ TAIL.now
+trace_of settings events span = codes "{\"traceEvents\":[\n{\"ph\":\"M\",\"pid\":1,\"name\":\"process_name\",\"args\":{\"name\":\"btworld, a microsecond for each event\"}}" ++ lanes_text settings.workers ++ slices_text span (slices_of events) ++ emits_from span 0 events ++ codes "\n]}\n"
