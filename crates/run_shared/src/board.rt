@@ -178,33 +178,12 @@ impl<'t, L: RunLedger, M: Ledger, D: Ledger> SharedBoard<'t, L, M, D> {
         self.board.stop();
     }
 
-    /// Whether all frames are shown, and the board isn't stopped.
-    pub(crate) fn is_done(&self) -> bool
-        ensures { IsTrue result ↔ IsComplete (setup_in self.now) self.now.events }
-    {
-        self.board.is_done()
-    }
-
-    /// Whether nothing happens any more.
-    pub(crate) fn is_stopped(&self) -> bool
-        ensures { result ≡ (state_in self.now).stopped }
-    {
-        self.board.is_stopped()
-    }
-
-    /// Whether an idle worker could be given a task.
+    /// The board, to be looked at.
     #[inline(always)]
-    pub(crate) fn may_take(&self) -> bool
-        ensures { IsTrue result ↔ GivesJob self.now }
+    pub(crate) fn board(&self) -> &TaskBoard<'t>
+        ensures { result.now ≡ self.now }
     {
-        self.board.may_take()
-    }
-
-    /// Whether the next frame can be shown.
-    pub(crate) fn may_show(&self) -> bool
-        ensures { IsTrue result ↔ (f : ℕ) × IsLegal (setup_in self.now) (state_in self.now) (Emit f) }
-    {
-        self.board.may_show()
+        &self.board
     }
 
     /// The events, once all shares are joined; None where they are not a complete list.
