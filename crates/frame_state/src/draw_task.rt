@@ -1,7 +1,6 @@
 ghost use Rattle.std.specs.Prelude.{◌≡◌, ◌<◌, IfOk};
 ghost use Rattle.frame_state.specs.Contents.{bands_in};
 
-use crate::band_mark::BandMark;
 use crate::band_out::BandOut;
 use crate::turn::Turn;
 use draw_list::{DrawFault, draw_band};
@@ -70,18 +69,6 @@ impl<'t> DrawTask<'t> {
         JobName::Draw {
             frame: self.frame,
             band: self.band,
-        }
-    }
-
-    /// The mark of the band that it draws, for who tells a board of the work and draws the frame when it is shown. Takes
-    /// no memory.
-    pub fn mark(&self) -> BandMark<'t>
-        ensures { result ≡ self.now }
-    {
-        BandMark {
-            session: self.session,
-            frame: self.frame,
-            number: self.band,
         }
     }
 

@@ -46,8 +46,8 @@ impl<'t> Model for Work<'t> {
 impl<'t> Work<'t> {
     ghost use Rattle.job_board.specs.Works.{work_of, IsOver, GoesOn, AsksNothing, IsDoneOf, IsParkedOf};
 
-    /// Does the work of a job that stands at this step, in an arena of its own. A band is not drawn: who shows the frame
-    /// does that.
+    /// Does the work of a job that stands at this step, in an arena of its own. Of a band that is drawn its mark is kept: who
+    /// shows the frame draws it for that.
     pub(crate) fn of(
         alloc: Global,
         session: &'t Session,
@@ -58,14 +58,8 @@ impl<'t> Work<'t> {
         requires { IsTaskAt session.now job step task.now }
         ensures { IfOk result (λ work. work ≡ work_of session.now job step) }
     {
-        let result = match task {
-            Task::Draw(draw) => BoardStep::Draw(draw.mark()),
-            _ => {
-                let arena = Bump::new(alloc);
-                let (told, _no_band) = task.work_in(alloc, &arena)?.deliver();
-                told
-            }
-        };
+        let arena = Bump::new(alloc);
+        let (result, _band) = task.work_in(alloc, &arena)?.deliver();
         Ok(Work {
             session,
             job,
