@@ -50,7 +50,7 @@ slices_text span slices = flat_map (text_within span) slices
 -- ---- the frames shown, in the printer's lane
 
 -- what is told of one, and the end of its entry
-unfoldable pub told_text : (frame : ℕ) → List ℕ
+abbrev pub told_text : (frame : ℕ) → List ℕ
 told_text frame = (codes ",\"cat\":\"emit\",\"name\":\"emit " ++ decimal frame) ++ (codes "\",\"args\":{\"frame\":" ++ decimal frame) ++ codes "}}"
 
 abbrev pub emit_text : (at frame : ℕ) → List ℕ

@@ -13,18 +13,11 @@ const EMIT_ARGUMENTS: &str = "\",\"args\":{\"frame\":";
 
 const EMIT_END: &str = "}}";
 
-#[tactic(auto, unfolding(crate::specs::Trace::told_text))]
 fn push_told(text: &mut Vec<u8>, frame: u32) -> Result<(), AllocError>
     ensures { OnOk result (text.new.items ≡ text.old.items ++ told_text frame) }
 {
-    push_two(
-        text,
-        EMIT,
-        u64::from(frame),
-        EMIT_ARGUMENTS,
-        u64::from(frame),
-        EMIT_END,
-    )
+    let number = u64::from(frame);
+    push_two(text, EMIT, number, EMIT_ARGUMENTS, number, EMIT_END)
 }
 
 fn push_emit(text: &mut Vec<u8>, at: usize, frame: u32) -> Result<(), AllocError>
