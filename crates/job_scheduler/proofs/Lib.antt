@@ -5,4 +5,5 @@ pub mod Woken
 pub mod Tests
 pub mod Kept
 pub mod Needed
+pub mod Turns
 pub mod Looked

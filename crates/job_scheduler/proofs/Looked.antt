@@ -1,26 +1,30 @@
 -- What the scheduler's answers say of the state.
 use Rattle.std.proofs.Common.{◌≡◌, ◌≤◌, ◌<◌, ◌==◌, ℕ, suc, Bool, true, false, Option, Some, None, is_some, refl, sym, ap, ◌∙◌, subst, arith}
 use Rattle.job_core.specs.declared.names.JobName.{JobName}
+use Rattle.job_core.specs.declared.names.JobName.TheVariants.{Logic}
 use Rattle.job_core.specs.declared.names.Event.TheVariants.{Start, Resume, Emit}
-use Rattle.job_core.specs.Core.{Setup, State, Runs, Waits, IsIdle, IsReady, IsLegal, IsLegalList, opening, same}
+use Rattle.job_core.specs.Core.{Setup, State, Runs, Waits, Finished, Draws, Shown, held, IsIdle, IsReady, IsLegal, IsLegalList, opening, same}
 use Rattle.job_core.proofs.ByCases.{by_same}
-use Rattle.job_core.proofs.Shape.{Shape, opens}
+use Rattle.job_core.proofs.Shape.{Shape, opens, logic_done}
 use Rattle.job_core.proofs.Moves.{shape_of}
 use Rattle.board_model.specs.Lists.{tally, at, first_place, all, has}
-use Rattle.board_model.specs.Board.{Core, Held, has_fiber, holds}
+use Rattle.board_model.specs.Board.{Core, Held, has_fiber, holds, first_row}
 use Rattle.board_model.specs.Law.{standing, StandsAs, Fits}
 use Rattle.board_model.specs.Passes.{on_fiber, RunsAt}
 use Rattle.board_model.specs.Pick.{Ready, New, given}
 use Rattle.board_model.proofs.Entries.{standing_waits}
 use Rattle.board_model.proofs.Kit.{place_found}
-use Rattle.board_model.proofs.Legal.{is_idle, fiber_is, fresh_is, none_is_legal, start_is_legal, fiber_is_ready}
+use Rattle.board_model.proofs.Legal.{is_idle, fiber_is, fresh_is, none_is_legal, start_is_legal, fiber_is_ready, stands_not}
+use Rattle.board_model.proofs.Numbers.{emit_before}
 use Rattle.board_model.proofs.Needs.{picked_is}
 use Rattle.board_model.proofs.Passing.{runs_at, passes_may, may_passes}
 use Rattle.board_model.proofs.Fit.{fits}
-use Rattle.job_scheduler.specs.Seats.{IsHolder, IsDrawn}
+use Rattle.job_scheduler.specs.Seats.{IsHolder}
 use Rattle.job_scheduler.proofs.Entries.{has_tally, tally_has}
 use Rattle.job_scheduler.specs.Logged.{Logged, setup_of, reached, IsKept}
 use Rattle.job_scheduler.specs.Looks.{IsOn}
+use Rattle.job_scheduler.specs.Turns.{turned_after}
+use Rattle.job_scheduler.proofs.Turns.{turned_is}
 
 same_is : (i j : JobName) → same i j ≡ true → i ≡ j
 same_is i j e = by_same i j (λ b. b ≡ true → i ≡ j) (λ y _. y) (λ n f. absurd cc) e
@@ -100,11 +104,24 @@ module _ (v : Logged) (c : Core) (now capacity : ℕ) (k : IsKept v c now capaci
 
   -- ---- what is shown
 
-  pub show_legal : (f : ℕ) → (reached v q).stopped ≡ false → f ≡ suc c.emitted → f ≤ v.numbers.frames → IsDrawn c f → IsLegal (setup_of v q) (reached v q) (Emit f)
-  show_legal f on e small d = (on, passes_may s st inv c fit a_slot (Emit f) (e, small, d.unshown, d.turned, d.drawn))
+  module _ (t : ℕ) (is : t ≡ turned_after 0 v.events) where
+    ended_all : inv.turned ≡ t
+    ended_all = turned_is (setup_of v q) v.events l inv ∙ sym is
 
-  pub show_only : (f : ℕ) → IsLegal (setup_of v q) (reached v q) (Emit f) → (f ≡ suc c.emitted) × (f ≤ v.numbers.frames) × IsDrawn c f
-  show_only f m = let t = may_passes s st inv c fit a_slot (Emit f) m.1 in (t.0, t.1, record { unshown = t.2; turned = t.3; drawn = t.4 })
+    pub show_legal : (f : ℕ) → (reached v q).stopped ≡ false → f ≡ suc c.emitted → f ≤ v.numbers.frames → f ≤ t → first_row (Draws f) c.counters ≡ None → IsLegal (setup_of v q) (reached v q) (Emit f)
+    show_legal f on e small over drawn =
+        let many = ended_all in
+        let done : (reached v q).phase (Logic f) ≡ Finished = inv.early f (omega arith) (omega arith) in
+        let next : f ≡ suc (reached v q).emitted = e ∙ ap suc emitted_is in
+        let there : first_row (Shown f) c.counters ≡ None → ⊥ = λ n. let a = (stands_not s st inv c fit (Shown f)).0 n in let b = emit_before s st inv f next done in omega arith in
+        (on, passes_may s st inv c fit a_slot (Emit f) (e, small, there, fit.seats.once (Logic f) ∙ ap held done, drawn))
+
+    pub show_only : (f : ℕ) → IsLegal (setup_of v q) (reached v q) (Emit f) → (f ≡ suc c.emitted) × (f ≤ v.numbers.frames) × (f ≤ t) × (first_row (Draws f) c.counters ≡ None)
+    show_only f m =
+        let many = ended_all in
+        let p = may_passes s st inv c fit a_slot (Emit f) m.1 in
+        let done = logic_done s st inv f p.1 m.1.2 in
+        (p.0, p.1, omega arith, p.4)
 
   -- ---- what may start, and what may go on
 

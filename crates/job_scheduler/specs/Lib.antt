@@ -5,3 +5,4 @@ pub mod Opening
 pub mod Logged
 pub mod Ends
 pub mod Looks
+pub mod Turns

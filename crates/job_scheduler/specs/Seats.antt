@@ -1,10 +1,9 @@
 -- A worker's fiber, with the job that it holds from now on.
 use Rattle.std.specs.Prelude.{◌≡◌, ◌<◌, ℕ, List, length, Option, None}
 use Rattle.job_core.specs.declared.names.JobName.{JobName}
-use Rattle.job_core.specs.declared.names.JobName.TheVariants.{Logic}
-use Rattle.job_core.specs.Core.{Counter, Draws, Shown}
+use Rattle.job_core.specs.Core.{Counter}
 use Rattle.board_model.specs.Lists.{write, tally, first_place}
-use Rattle.board_model.specs.Board.{Core, Held, runner, runs_on, seat, wake, woken, lower, holds, first_row}
+use Rattle.board_model.specs.Board.{Core, Held, runner, runs_on, seat, wake, woken, lower, holds}
 
 abbrev pub holding : Core → ℕ → ℕ → Option Held → Core
 holding c worker fiber held =
@@ -34,9 +33,3 @@ pub record IsHolder (job : JobName) (jobs : List (Option Held)) (fiber : ℕ) : 
   pub first : first_place (holds job) jobs ≡ fiber
   pub there : 0 < tally (holds job) jobs
   pub bound : fiber < length jobs
-
--- a frame is still to be shown, its Logic is over, and no draw of it is left
-pub record IsDrawn (c : Core) (frame : ℕ) : Type 0 where
-  pub unshown : first_row (Shown frame) c.counters ≡ None → ⊥
-  pub turned : tally (holds (Logic frame)) c.seats.jobs ≡ 0
-  pub drawn : first_row (Draws frame) c.counters ≡ None

@@ -129,7 +129,10 @@ impl JobLog {
             return Err(BoardFault::Illegal);
         }
         let frame = self.scheduler.emitted() + 1;
-        if self.scheduler.is_drawn(frame) {
+        if self.turned < frame {
+            return Err(BoardFault::Illegal);
+        }
+        if self.scheduler.has_no_draws(frame) {
             return Ok(frame);
         }
         Err(BoardFault::Illegal)

@@ -1,11 +1,11 @@
-ghost use Rattle.std.specs.Prelude.{◌≡◌, ◌<◌, ◌^◌, ◌==◌, MatchOption, option_map, length, ◌↔◌, IsTrue};
-ghost use Rattle.job_core.specs.Core.{same};
+ghost use Rattle.std.specs.Prelude.{◌≡◌, ◌<◌, ◌^◌, ◌==◌, None, MatchOption, option_map, length, ◌↔◌, IsTrue};
+ghost use Rattle.job_core.specs.Core.{same, Draws};
 ghost use Rattle.board_model.specs.Lists.{all, has, tally, at};
-ghost use Rattle.board_model.specs.Board.{has_fiber, holds};
+ghost use Rattle.board_model.specs.Board.{has_fiber, holds, first_row};
 ghost use Rattle.board_model.specs.Pick.{given};
 ghost use Rattle.board_model.specs.Passes.{on_fiber};
 ghost use Rattle.job_queues.specs.Names.{picked};
-ghost use Rattle.job_scheduler.specs.Seats.{IsHolder, IsDrawn};
+ghost use Rattle.job_scheduler.specs.Seats.{IsHolder};
 
 use super::held::Held;
 use super::scheduler::Scheduler;
@@ -89,18 +89,13 @@ impl Scheduler {
         self.stopped
     }
 
-    /// Whether a frame is drawn and still to be shown.
-    pub fn is_drawn(&self, frame: u32) -> bool
-        requires { length self.now.seats.jobs < 2 ^ 32 }
-        ensures { IsTrue result ↔ IsDrawn self.now frame }
+    /// Whether no draw of a frame is queued, runs or waits.
+    pub fn has_no_draws(&self, frame: u32) -> bool
+        ensures { IsTrue result ↔ (first_row (Draws frame) self.now.counters ≡ None) }
     {
-        // Mostly some draws are left. The counters are few: the fibers are looked at last.
         if self.counters.left(CounterKey::Draws { frame }).is_some() {
             return false;
         }
-        if self.counters.left(CounterKey::Shown { frame }).is_none() {
-            return false;
-        }
-        self.holder(JobName::Logic { frame }).is_none()
+        true
     }
 }

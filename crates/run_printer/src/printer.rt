@@ -126,7 +126,13 @@ impl<'t, L: RunLedger> Printer<'t, L> {
     {
         for _ in rt.forever() {
             match shared.lock(rt).emit(emits) {
-                Ok(ShownFrame { shown, is_more }) => {
+                Ok(
+                    ShownFrame {
+                        shown,
+                        is_more,
+                        spent: _spent,
+                    },
+                ) => {
                     if is_more {
                         shared.waiting.call_worker();
                     }

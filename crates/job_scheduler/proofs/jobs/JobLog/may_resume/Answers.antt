@@ -9,19 +9,19 @@ pub returns-then-not-is_free-clause-none : goal.returns-then-not-is_free-clause-
 returns-then-not-is_free-clause-none c = λ e q l m. is_not _ _ (c.is_free.ensures q l) c.if-not-is_free.true ((m.0, m.1.0), m.1.1)
 
 pub holder-requires : goal.holder-requires
-holder-requires c = let few = few_jobs (the_view c.self.inside) c.self.inside.scheduler _ _ c.self.invariant in omega arith
+holder-requires c = let few = few_jobs (the_view c.self.inside) c.self.inside.scheduler _ _ c.self.invariant.0 in omega arith
 
 pub returns-in_default-clause-none : goal.returns-in_default-clause-none
-returns-in_default-clause-none c = rw (← c.self.view_is) (λ e q l m. let z = resume_holder (the_view c.self.inside) c.self.inside.scheduler _ _ c.self.invariant q l c.args.worker c.args.job m in omega (arith, c.in_default.ensures))
+returns-in_default-clause-none c = rw (← c.self.view_is) (λ e q l m. let z = resume_holder (the_view c.self.inside) c.self.inside.scheduler _ _ c.self.invariant.0 q l c.args.worker c.args.job m in omega (arith, c.in_default.ensures))
 
 pub returns-then-not-is_ready-clause-none : goal.returns-then-not-is_ready-clause-none
-returns-then-not-is_ready-clause-none c = rw (← c.self.view_is) (λ e q l m. let z = sym (resume_ready (the_view c.self.inside) c.self.inside.scheduler _ _ c.self.invariant q l c.args.worker c.args.job c.in-Some.fiber c.in-Some.ensures m) ∙ (sym c.is_ready.ensures ∙ c.if-not-is_ready.true) in cc)
+returns-then-not-is_ready-clause-none c = rw (← c.self.view_is) (λ e q l m. let z = sym (resume_ready (the_view c.self.inside) c.self.inside.scheduler _ _ c.self.invariant.0 q l c.args.worker c.args.job c.in-Some.fiber c.in-Some.ensures m) ∙ (sym c.is_ready.ensures ∙ c.if-not-is_ready.true) in cc)
 
 pub returns-in_default-held_by-clause-none : goal.returns-in_default-held_by-clause-none
-returns-in_default-held_by-clause-none c = rw (← c.self.view_is) (λ e q l. absurd (holder_there (the_view c.self.inside) c.self.inside.scheduler _ _ c.self.invariant q l c.args.worker c.args.job c.in-Some.fiber c.in-Some.ensures c.in_default-held_by.ensures))
+returns-in_default-held_by-clause-none c = rw (← c.self.view_is) (λ e q l. absurd (holder_there (the_view c.self.inside) c.self.inside.scheduler _ _ c.self.invariant.0 q l c.args.worker c.args.job c.in-Some.fiber c.in-Some.ensures c.in_default-held_by.ensures))
 
 pub returns-clause-some : goal.returns-clause-some
 returns-clause-some c = rw (← c.self.view_is) (λ q l.
     let free = ((rw (← c.self.view_is) at c.is_free.ensures) q l).0 c.if-not-is_free.false in
-    let legal = resume_legal (the_view c.self.inside) c.self.inside.scheduler _ _ c.self.invariant q l c.args.worker c.args.job c.in-Some.fiber c.in-Some.ensures free (sym c.is_ready.ensures ∙ c.if-not-is_ready.false) in
-    (legal, resume_stands (the_view c.self.inside) c.self.inside.scheduler _ _ c.self.invariant q l c.args.worker c.args.job c.in-Some.fiber c.in-Some.ensures c.in-Some-held_by.held c.in-Some-held_by.ensures legal))
+    let legal = resume_legal (the_view c.self.inside) c.self.inside.scheduler _ _ c.self.invariant.0 q l c.args.worker c.args.job c.in-Some.fiber c.in-Some.ensures free (sym c.is_ready.ensures ∙ c.if-not-is_ready.false) in
+    (legal, resume_stands (the_view c.self.inside) c.self.inside.scheduler _ _ c.self.invariant.0 q l c.args.worker c.args.job c.in-Some.fiber c.in-Some.ensures c.in-Some-held_by.held c.in-Some-held_by.ensures legal))
