@@ -77,6 +77,7 @@ enum btworld_status {
     BTWORLD_NO_AGENT = 6,   /* there is no such agent */
     BTWORLD_LAST_FRAME = 7, /* 2^32 - 1 frames were stepped */
     BTWORLD_NO_CELL = 8,    /* there is no such cell */
+    BTWORLD_LONG = 9,       /* a signal changed after frame 9999, which no script can name */
     /* LEVEL: the first fault of a level, in this order */
     BTWORLD_LEVEL_JSON = 16,
     BTWORLD_LEVEL_SHAPE = 17,
@@ -114,6 +115,7 @@ BTWORLD_INLINE const char *btworld_status_text(uint32_t status) {
     case BTWORLD_NO_AGENT: return "there is no such agent";
     case BTWORLD_LAST_FRAME: return "the last frame was stepped";
     case BTWORLD_NO_CELL: return "there is no such cell";
+    case BTWORLD_LONG: return "a signal changed after frame 9999";
     case BTWORLD_LEVEL_JSON: return "level: json";
     case BTWORLD_LEVEL_SHAPE: return "level: shape";
     case BTWORLD_LEVEL_MAP_SIZE: return "level: map size";
@@ -184,6 +186,22 @@ uint32_t btworld_map(const btworld_game *game, uint32_t *width, uint32_t *height
  * Fails with CLOSED, NO_CELL. */
 uint32_t btworld_cell(const btworld_game *game, uint32_t x, uint32_t y, btworld_cell_state *out);
 
+/* The memory of an agent after the frame, or before the first one, 0 for A, at the start of a buffer: a number for each node of its
+ * tree, in preorder, and how many they are, at most 255. capacity counts numbers too.
+ * Fails with CLOSED, NO_AGENT, NO_MEMORY, SHORT. */
+uint32_t btworld_memory(const btworld_game *game, uint32_t agent, uint16_t *numbers, size_t capacity, size_t *size);
+
+/* The signals that were on in the frame, and those that the game's script has in the next one, all off where it was opened without
+ * one: bit 0 is a, bit 25 is z, and the higher ones are 0. btworld_step by *scripted is btworld_step_script.
+ * Fails with CLOSED, LAST_FRAME. */
+uint32_t btworld_signals(const btworld_game *game, uint32_t *shown, uint32_t *scripted);
+
+/* The signals of the frames so far as a script, at the start of a buffer, and how many bytes it has: a line for each change.
+ * `btworld play LEVEL --script SCRIPT` with it shows these frames again, so level and script are a save: btworld_open_script and as
+ * many calls of btworld_step_script lead to the same world, memories and text.
+ * Fails with CLOSED, NO_MEMORY, LONG, SHORT. */
+uint32_t btworld_script(const btworld_game *game, uint8_t *text, size_t capacity, size_t *size);
+
 /* How many frames were stepped.
  * Fails with CLOSED. */
 uint32_t btworld_frame(const btworld_game *game, uint32_t *frame);
@@ -235,6 +253,13 @@ void btworld_close(btworld_game *game);
 uint32_t btworld_replay(const uint8_t *level, size_t level_length, const uint8_t *script, size_t script_length, const uint8_t *log,
                         size_t log_length, uint8_t *text, size_t capacity, size_t *size, uint32_t *frames);
 
+/* How many frames a log shows, as btworld_replay tells it, with no buffer for their text: a caller that wants few of them at a time
+ * opens the level with the script, and steps by it. It takes as long as btworld_replay, and keeps the text while it does.
+ * Fails with NO_MEMORY, LEVEL, SCRIPT, LOG_HEAD, LOG_LINE, LOG_ILLEGAL, LOG_INCOMPLETE. LOG_INCOMPLETE comes with *frames written.
+ * LOG_ILLEGAL, and no other status, writes *event: which event isn't legal, from 0; its line is *event + 2, counted from 1. */
+uint32_t btworld_log_frames(const uint8_t *level, size_t level_length, const uint8_t *script, size_t script_length,
+                            const uint8_t *log, size_t log_length, uint32_t *frames, uint64_t *event);
+
 /* The log of a complete run that begins with the events of a log that was broken off, at the start of a buffer. A first line alone
  * is such a log too. It takes as long as to play all frames that the log is of.
  * Fails with NO_MEMORY, LEVEL, SCRIPT, LOG_HEAD, LOG_LINE, LOG_ILLEGAL, LOG_STOPPED, SHORT. */
@@ -252,6 +277,10 @@ BTWORLD_INLINE uint8_t *btworld_some_room(uint8_t *room) {
     static uint8_t none;
     return room ? room : &none;
 }
+BTWORLD_INLINE uint16_t *btworld_some_numbers(uint16_t *numbers) {
+    static uint16_t none;
+    return numbers ? numbers : &none;
+}
 #define btworld_check(level, length) btworld_check(btworld_some(level), length)
 #define btworld_fault_text(level, level_length, script, script_length, text, capacity, size) \
     btworld_fault_text(btworld_some(level), level_length, btworld_some(script), script_length, btworld_some_room(text), capacity, size)
@@ -260,6 +289,12 @@ BTWORLD_INLINE uint8_t *btworld_some_room(uint8_t *room) {
     btworld_open_script(game, btworld_some(level), level_length, btworld_some(script), script_length)
 #define btworld_text(game, text, capacity, size) btworld_text(game, btworld_some_room(text), capacity, size)
 #define btworld_state(game, text, capacity, size) btworld_state(game, btworld_some_room(text), capacity, size)
+#define btworld_memory(game, agent, numbers, capacity, size) \
+    btworld_memory(game, agent, btworld_some_numbers(numbers), capacity, size)
+#define btworld_script(game, text, capacity, size) btworld_script(game, btworld_some_room(text), capacity, size)
+#define btworld_log_frames(level, level_length, script, script_length, log, log_length, frames, event) \
+    btworld_log_frames(btworld_some(level), level_length, btworld_some(script), script_length, btworld_some(log), log_length, \
+                       frames, event)
 #define btworld_replay(level, level_length, script, script_length, log, log_length, text, capacity, size, frames) \
     btworld_replay(btworld_some(level), level_length, btworld_some(script), script_length, btworld_some(log), log_length, \
                    btworld_some_room(text), capacity, size, frames)

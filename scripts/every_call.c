@@ -11,8 +11,8 @@ uint32_t all_of(btworld_game *game, const btworld_game *other) {
     btworld_agent_state agent;
     btworld_cell_state cell;
     BTWORLD_SINCE_C99 bool same = false;
-    uint64_t digest;
-    uint32_t frame, width, height, agents, found = btworld_version() != BTWORLD_VERSION || btworld_status_text(BTWORLD_OK) == NULL;
+    uint64_t digest, event;
+    uint32_t shown, scripted, frame, width, height, agents, found = btworld_version() != BTWORLD_VERSION || btworld_status_text(BTWORLD_OK) == NULL;
     size_t size;
     found += check(btworld_some(NULL), 0) + btworld_check(NULL, 0);
     found += btworld_fault_text(NULL, 0, NULL, 0, NULL, 0, &size);
@@ -24,8 +24,11 @@ uint32_t all_of(btworld_game *game, const btworld_game *other) {
     found += btworld_cell(other, 0, 0, &cell) + (cell.agent == BTWORLD_NOBODY);
     found += btworld_frame(other, &frame) + btworld_digest(other, &digest) + btworld_level_digest(other, &digest);
     found += btworld_state(other, NULL, 0, &size);
+    found += btworld_memory(other, 0, NULL, 0, &size) + btworld_script(other, NULL, 0, &size);
+    found += btworld_signals(other, &shown, &scripted) + (shown == scripted);
     found += btworld_fork(other, &copy) + btworld_same(other, &copy, &same);
     btworld_close(&copy);
     found += btworld_replay(NULL, 0, NULL, 0, NULL, 0, NULL, 0, &size, &frame);
+    found += btworld_log_frames(NULL, 0, NULL, 0, NULL, 0, &frame, &event);
     return found + btworld_complete(NULL, 0, NULL, 0, NULL, 0, NULL, 0, &size);
 }

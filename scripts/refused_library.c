@@ -32,7 +32,8 @@ static const uint8_t script[] = "2 on a\n2 on b\n4 off a\n", bad[] = "2 on a\n1 
 static void look_at_scripts(size_t size, uint32_t frames) {
     btworld_game game = BTWORLD_CLOSED_GAME, twin = BTWORLD_CLOSED_GAME;
     char head[80];
-    uint32_t status, count = 7, on = 0;
+    uint32_t status, count = 7, on = 0, shown_now = 0, next = 0;
+    uint64_t event = 9;
     size_t length, joined = 0, logged;
     bool same;
     REFUSING(status, btworld_open_script(&game, level, size, bad, sizeof bad - 1)) LOOK(!game.is_open);
@@ -48,7 +49,9 @@ static void look_at_scripts(size_t size, uint32_t frames) {
     LOOK(status == BTWORLD_OK && btworld_open_script(&game, level, size, script, sizeof script - 1) == BTWORLD_OPEN);
     LOOK(btworld_open(&twin, level, size) == BTWORLD_OK);
     for (uint32_t f = 1; f <= frames; f++) {
+        LOOK(btworld_signals(&game, &shown_now, &next) == BTWORLD_OK && shown_now == on);
         on = f == 2 ? 3 : f == 4 ? 2 : on;
+        LOOK(next == on);
         REFUSING(status, btworld_step_script(&game)) LOOK(btworld_frame(&game, &count) == BTWORLD_OK && count == f - 1);
         LOOK(status == BTWORLD_OK && btworld_step(&twin, on) == BTWORLD_OK);
         LOOK(btworld_same(&game, &twin, &same) == BTWORLD_OK && same);
@@ -72,6 +75,11 @@ static void look_at_scripts(size_t size, uint32_t frames) {
         LOOK(!memcmp(shown, ones, LOGS) && count == 7);
     LOOK(status == BTWORLD_OK && count == frames && length == joined && !memcmp(shown, all, joined) && shown[joined] == 1);
     count = 7;
+    REFUSING(status, btworld_log_frames(level, size, script, sizeof script - 1, whole, logged, &count, &event)) LOOK(count == 7);
+    LOOK(status == BTWORLD_OK && count == frames && event == 9);
+    LOOK(btworld_log_frames(level, size, script, sizeof script - 1, whole, strlen(head), &count, &event) == BTWORLD_LOG_INCOMPLETE
+         && count == 0 && event == 9);
+    count = 7;
     LOOK(btworld_replay(level, size, script, sizeof script - 1, whole, logged, shown, joined - 1, &length, &count) == BTWORLD_SHORT
          && length == joined && count == 7);
     LOOK(btworld_replay(level, size, script, sizeof script - 1, whole, strlen(head), shown, LOGS, &length, &count) == BTWORLD_LOG_INCOMPLETE
@@ -80,6 +88,9 @@ static void look_at_scripts(size_t size, uint32_t frames) {
     LOOK(btworld_replay(level, size, script, sizeof script - 1, whole, logged - 1, shown, LOGS, &length, &count) == BTWORLD_LOG_LINE);
     memcpy(whole + strlen(head), "emit 1\n", 7);
     LOOK(btworld_replay(level, size, script, sizeof script - 1, whole, strlen(head) + 7, shown, LOGS, &length, &count) == BTWORLD_LOG_ILLEGAL);
+    count = 7;
+    LOOK(btworld_log_frames(level, size, script, sizeof script - 1, whole, strlen(head) + 7, &count, &event) == BTWORLD_LOG_ILLEGAL
+         && count == 7 && event == 0);
     memcpy(whole + strlen(head), "stop\n", 5);
     LOOK(btworld_complete(level, size, script, sizeof script - 1, whole, strlen(head) + 5, shown, LOGS, &length) == BTWORLD_LOG_STOPPED);
 }
@@ -99,6 +110,50 @@ static void look_at_state(const btworld_game *game, const btworld_game *twin) {
     memset(text, 1, ROOM);
     LOOK(btworld_state(game, text, length - 1, &filled) == BTWORLD_SHORT && filled == length && !memcmp(text, other, ROOM));
     LOOK(btworld_same(game, twin, &same) == BTWORLD_OK && same);
+}
+
+/* Memories, signals and the script so far, where memory is refused and where buffers are short; a game that is stepped by that script
+   comes to the same state. */
+static void look_back(const btworld_game *game, size_t size, uint32_t frames, uint32_t agents, uint32_t on) {
+    static uint16_t numbers[256], sevens[256];
+    btworld_game again = BTWORLD_CLOSED_GAME;
+    uint32_t status, shown = 7, scripted = 7;
+    size_t length, filled = 7;
+    bool same;
+    memset(sevens, 7, sizeof sevens);
+    memset(other, 1, ROOM);
+    for (uint32_t agent = 0; agent < agents; agent++) {
+        memset(numbers, 7, sizeof numbers);
+        filled = 7;
+        REFUSING(status, btworld_memory(game, agent, numbers, 255, &filled)) LOOK(!memcmp(numbers, sevens, sizeof numbers) && filled == 7);
+        LOOK(status == BTWORLD_OK && filled > 0 && !memcmp(numbers + filled, sevens, sizeof numbers - 2 * filled));
+        LOOK(btworld_memory(game, agent, NULL, 0, &length) == BTWORLD_SHORT && length == filled);
+        memset(numbers, 7, sizeof numbers);
+        LOOK(btworld_memory(game, agent, numbers, filled - 1, &length) == BTWORLD_SHORT && !memcmp(numbers, sevens, sizeof numbers));
+    }
+    LOOK(btworld_memory(game, agents, numbers, 255, &filled) == BTWORLD_NO_AGENT && !memcmp(numbers, sevens, sizeof numbers));
+    LOOK(btworld_signals(game, &shown, &scripted) == BTWORLD_OK && shown == on && scripted == 0);
+    memset(text, 1, ROOM);
+    filled = 7;
+    REFUSING(status, btworld_script(game, text, ROOM, &filled)) LOOK(!memcmp(text, other, ROOM) && filled == 7);
+    LOOK(status == BTWORLD_OK && !memcmp(text + filled, other, ROOM - filled));
+    LOOK(btworld_script(game, NULL, 0, &length) == (filled ? BTWORLD_SHORT : BTWORLD_OK) && length == filled);
+    LOOK(btworld_open_script(&again, level, size, text, filled) == BTWORLD_OK);
+    for (uint32_t f = 1; f <= frames; f++) LOOK(btworld_step_script(&again) == BTWORLD_OK);
+    LOOK(btworld_same(game, &again, &same) == BTWORLD_OK && same);
+    btworld_close(&again);
+}
+
+/* No script can name a change after frame 9999. */
+static void look_at_late_changes(void) {
+    static const uint8_t waits[] = "{\"map\":[\"A\"],\"agents\":[\"t\"],\"trees\":{\"t\":[\"wait\",1]}}";
+    btworld_game game = BTWORLD_CLOSED_GAME;
+    size_t length = 7;
+    LOOK(btworld_open(&game, waits, sizeof waits - 1) == BTWORLD_OK);
+    for (uint32_t f = 1; f <= 10000; f++) LOOK(btworld_step(&game, f >= 9999) == BTWORLD_OK);
+    LOOK(btworld_script(&game, text, ROOM, &length) == BTWORLD_OK && length == 10 && !memcmp(text, "9999 on a\n", 10));
+    LOOK(btworld_step(&game, 0) == BTWORLD_OK && btworld_script(&game, text, ROOM, &length) == BTWORLD_LONG && length == 10);
+    btworld_close(&game);
 }
 
 int main(int argc, char **argv) {
@@ -135,6 +190,10 @@ int main(int argc, char **argv) {
     LOOK(btworld_state(&copy, text, ROOM, &length) == BTWORLD_CLOSED && length == 7 && text[0] == 1);
     LOOK(btworld_level_digest(&copy, &digest) == BTWORLD_CLOSED && digest == 7);
     look_at_state(&game, &twin);
+    look_back(&game, size, 0, agents, 0);
+    look_at_late_changes();
+    LOOK(btworld_script(&copy, text, ROOM, &length) == BTWORLD_CLOSED && btworld_signals(&copy, &width, &height) == BTWORLD_CLOSED);
+    LOOK(btworld_memory(&copy, 0, NULL, 0, &length) == BTWORLD_CLOSED);
     for (uint32_t f = 1; f <= (uint32_t)atoi(argv[2]); f++) {
         uint32_t on = f * 2654435761u >> 6;
         REFUSING(status, btworld_step(&game, on)) {
@@ -153,6 +212,7 @@ int main(int argc, char **argv) {
         memset(text, 1, ROOM);
         LOOK(btworld_text(&game, text, length - 1, &filled) == BTWORLD_SHORT && filled == length && !memcmp(text, other, ROOM));
         look_at_state(&game, &twin);
+        look_back(&game, size, f, agents, on);
         REFUSING(status, btworld_fork(&game, &copy)) LOOK(!copy.is_open && btworld_same(&game, &twin, &same) == BTWORLD_OK && same);
         LOOK(status == BTWORLD_OK && btworld_same(&game, &copy, &same) == BTWORLD_OK && same);
         LOOK(btworld_step(&copy, ~on) == BTWORLD_OK && btworld_same(&game, &copy, &same) == BTWORLD_OK && !same);

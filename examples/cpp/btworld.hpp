@@ -49,6 +49,11 @@ struct Size {
     std::uint32_t width, height, agents;
 };
 
+// The signals of a frame, and those that the script has in the next one: bit 0 is a.
+struct Signals {
+    std::uint32_t shown, scripted;
+};
+
 class Game {
 public:
     // The game of a level before its first frame, with a script for step_script: an empty one turns nothing.
@@ -96,6 +101,29 @@ public:
         btworld_cell_state state;
         need(btworld_cell(&handle, x, y, &state));
         return state;
+    }
+
+    // The memory of an agent after the frame: a number for each node of its tree, in preorder.
+    std::vector<std::uint16_t> memory(std::uint32_t number) const {
+        std::vector<std::uint16_t> numbers;
+        std::size_t size = 0;
+        std::uint32_t status;
+        while ((status = btworld_memory(&handle, number, numbers.data(), numbers.size(), &size)) == BTWORLD_SHORT) numbers.resize(size);
+        need(status);
+        return numbers;
+    }
+
+    Signals signals() const {
+        Signals signals;
+        need(btworld_signals(&handle, &signals.shown, &signals.scripted));
+        return signals;
+    }
+
+    // The signals of the frames so far, as a script.
+    std::string script() const {
+        return written([this](std::uint8_t *text, std::size_t capacity, std::size_t *size) {
+            return btworld_script(&handle, text, capacity, size);
+        });
     }
 
     std::uint32_t frame() const {

@@ -32,6 +32,7 @@ from typing import Any, Callable
 
 Status = IntEnum("Status", {
     "OK": 0, "NO_MEMORY": 1, "CLOSED": 2, "OPEN": 3, "NO_FRAME": 4, "SHORT": 5, "NO_AGENT": 6, "LAST_FRAME": 7, "NO_CELL": 8,
+    "LONG": 9,
     "LEVEL_JSON": 16, "LEVEL_SHAPE": 17, "LEVEL_MAP_SIZE": 18, "LEVEL_MAP_CHAR": 19, "LEVEL_LETTERS": 20, "LEVEL_AGENT_COUNT": 21,
     "LEVEL_BAD_TREE": 22, "LEVEL_NO_TREE": 23, "LEVEL_NO_PLACE": 24, "LEVEL_NO_AGENT": 25, "SCRIPT_LINE": 32, "SCRIPT_ORDER": 33,
 })  # fmt: skip
@@ -111,6 +112,9 @@ _same = _call("same", _GAME, _GAME, ctypes.POINTER(ctypes.c_bool))
 _digest = _call("digest", _GAME, ctypes.POINTER(ctypes.c_uint64))
 _level_digest = _call("level_digest", _GAME, ctypes.POINTER(ctypes.c_uint64))
 _state = _call("state", _GAME, *_BYTES, _SIZE)
+_memory = _call("memory", _GAME, ctypes.c_uint32, ctypes.POINTER(ctypes.c_uint16), ctypes.c_size_t, _SIZE)
+_signals = _call("signals", _GAME, *[ctypes.POINTER(ctypes.c_uint32)] * 2)
+_script = _call("script", _GAME, *_BYTES, _SIZE)
 _close = _call("close", _GAME, answers=None)
 
 
@@ -221,6 +225,40 @@ class Game:
         state = _CellState()
         _need(_cell(self._handle, x, y, state))
         return Cell(chr(state.mark), state.item, state.agent if state.agent != 255 else None)
+
+    def memory(self, agent: int) -> list[int]:
+        """The memory of an agent after the frame, 0 for A: a number for each node of its tree, in preorder.
+
+        >>> game = Game.open({"map": ["A"], "agents": ["t"], "trees": {"t": ["seq*", ["wait", 3], ["wait", 2]]}})
+        >>> game.step()
+        >>> game.memory(0)
+        [0, 1, 0]
+        """
+        size = ctypes.c_size_t(0)
+        numbers = (ctypes.c_uint16 * 255)()  # a tree has no more nodes
+        _need(_memory(self._handle, agent, numbers, len(numbers), size))
+        return numbers[: size.value]
+
+    @property
+    def signals(self) -> tuple[int, int]:
+        """The signals of the frame, and those that the script has in the next one, as bits, bit 0 for a."""
+        shown, scripted = ctypes.c_uint32(), ctypes.c_uint32()
+        _need(_signals(self._handle, shown, scripted))
+        return shown.value, scripted.value
+
+    def script(self) -> str:
+        """The signals of the frames so far, as a script: with the level it is a save.
+
+        >>> game = Game.open({"map": ["A"], "agents": ["t"], "trees": {"t": ["wait", 1]}})
+        >>> for signals in ["a", "ab", "", ""]:
+        ...     game.step(signals)
+        >>> print(game.script(), end="")
+        1 on a
+        2 on b
+        3 off a
+        3 off b
+        """
+        return _written(_script, self._handle)
 
     @property
     def frame(self) -> int:

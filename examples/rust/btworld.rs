@@ -59,6 +59,9 @@ unsafe extern "C" {
     fn btworld_digest(game: *const Handle, digest: *mut u64) -> u32;
     fn btworld_level_digest(game: *const Handle, digest: *mut u64) -> u32;
     fn btworld_state(game: *const Handle, text: *mut u8, capacity: usize, size: *mut usize) -> u32;
+    fn btworld_memory(game: *const Handle, agent: u32, numbers: *mut u16, capacity: usize, size: *mut usize) -> u32;
+    fn btworld_signals(game: *const Handle, shown: *mut u32, scripted: *mut u32) -> u32;
+    fn btworld_script(game: *const Handle, text: *mut u8, capacity: usize, size: *mut usize) -> u32;
     fn btworld_close(game: *mut Handle);
 }
 
@@ -77,6 +80,8 @@ pub enum Fault {
     LastFrame,
     /// There is no such cell.
     NoCell,
+    /// A signal changed after frame 9999, which no script can name.
+    Long,
 }
 
 impl fmt::Display for Fault {
@@ -88,6 +93,7 @@ impl fmt::Display for Fault {
             Fault::NoAgent => "there is no such agent",
             Fault::LastFrame => "the last frame was stepped",
             Fault::NoCell => "there is no such cell",
+            Fault::Long => "a signal changed after frame 9999",
         })
     }
 }
@@ -103,23 +109,28 @@ fn done(status: u32) -> Result<(), Fault> {
         6 => Err(Fault::NoAgent),
         7 => Err(Fault::LastFrame),
         8 => Err(Fault::NoCell),
+        9 => Err(Fault::Long),
         _ => unreachable!("the types here rule status {status} out"),
     }
 }
 
 /// What a call writes, that takes a buffer, its capacity, and where its size goes: asked with no room first.
-fn written(mut call: impl FnMut(*mut u8, usize, &mut usize) -> u32) -> Result<String, Fault> {
-    let (mut text, mut size) = (Vec::new(), 0);
+fn filled<T: Clone + Default>(mut call: impl FnMut(*mut T, usize, &mut usize) -> u32) -> Result<Vec<T>, Fault> {
+    let (mut items, mut size) = (Vec::new(), 0);
     loop {
-        match call(text.as_mut_ptr(), text.len(), &mut size) {
-            5 => text = vec![0; size],
+        match call(items.as_mut_ptr(), items.len(), &mut size) {
+            5 => items = vec![T::default(); size],
             status => {
                 done(status)?;
-                text.truncate(size);
-                return Ok(String::from_utf8(text).expect("what btworld writes is UTF-8"));
+                items.truncate(size);
+                return Ok(items);
             }
         }
     }
+}
+
+fn written(call: impl FnMut(*mut u8, usize, &mut usize) -> u32) -> Result<String, Fault> {
+    Ok(String::from_utf8(filled(call)?).expect("what btworld writes is UTF-8"))
 }
 
 /// What an agent's tree answered in a frame.
@@ -223,6 +234,26 @@ impl Game {
         done(unsafe { btworld_cell(self.0.get(), x, y, &mut state) })?;
         let agent = (state.agent != 255).then_some(u32::from(state.agent));
         Ok(Cell { mark: char::from(state.mark), item: state.item, agent })
+    }
+
+    /// The memory of an agent after the frame, 0 for `A`: a number for each node of its tree, in preorder.
+    pub fn memory(&self, number: u32) -> Result<Vec<u16>, Fault> {
+        // SAFETY: as in `text`.
+        filled(|numbers, capacity, size| unsafe { btworld_memory(self.0.get(), number, numbers, capacity, size) })
+    }
+
+    /// The signals of the frame, and those that the script has in the next one: bit 0 is `a`.
+    pub fn signals(&self) -> Result<(u32, u32), Fault> {
+        let (mut shown, mut scripted) = (0, 0);
+        // SAFETY: as in `step`; the two numbers don't overlap.
+        done(unsafe { btworld_signals(self.0.get(), &mut shown, &mut scripted) })?;
+        Ok((shown, scripted))
+    }
+
+    /// The signals of the frames so far, as a script.
+    pub fn script(&self) -> Result<String, Fault> {
+        // SAFETY: as in `text`.
+        written(|text, capacity, size| unsafe { btworld_script(self.0.get(), text, capacity, size) })
     }
 
     /// How many frames were stepped.

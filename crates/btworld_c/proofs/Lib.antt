@@ -1,3 +1,4 @@
 pub mod Told
 pub mod Values
 pub mod HandleValues
+pub mod ScriptText

@@ -1,12 +1,13 @@
 -- What is read of the game of a handle.
-use Rattle.std.specs.Prelude.{ℕ, zero, suc, ◌≡◌, ◌<◌, ◌≤◌, ◌≢◌, Bool, true, false, List, length, Option, Some, None, slice_index_or}
+use Rattle.std.specs.Prelude.{ℕ, ◌≡◌, ◌<◌, ◌≤◌, ◌≢◌, Bool, true, false, List, [], length, Option, Some, None, slice_index_or}
 use Rattle.grid_world.specs.Grid.{agent_of}
 use Rattle.grid_world.specs.declared.cell.Agent.{Agent as Body}
 use Rattle.bt_nodes.specs.declared.node.Status.{Status}
 use Rattle.bt_nodes.specs.declared.node.Status.TheVariants.{Success, Failure, Running}
+use Rattle.game_rules.specs.Game.{signals}
 use Rattle.game_rules.specs.Play.{play}
 use Rattle.game_rules.specs.Text.{frame_text}
-use Rattle.stepping.specs.Played.{Played, State, state_of, statuses_at}
+use Rattle.stepping.specs.Played.{Played, state_of, statuses_at, scripted_signals, AreBits}
 use Rattle.stepping.specs.Digest.{digest_of}
 use Rattle.btworld_c.specs.Buffers.{IsFilled, IsShort}
 use Rattle.btworld_c.specs.declared.game.Agent.{Agent}
@@ -44,6 +45,19 @@ abbrev pub IsBeyondAgents : Option Played → ℕ → Type 0
 IsBeyondAgents None number = ⊥
 IsBeyondAgents (Some p) number = length p.game.trees ≤ number
 
+abbrev pub memory_of : Played → ℕ → List ℕ
+memory_of p agent = slice_index_or (play p.game p.frame).memories agent []
+
+-- the memory of an agent of the held game stands at the start of a buffer, which is kept behind it
+abbrev pub IsMemory : Option Played → (agent size : ℕ) → (old new : List ℕ) → Type 0
+IsMemory None agent size old new = ⊥
+IsMemory (Some p) agent size old new = (agent < length p.game.trees) × IsFilled (memory_of p agent) size old new
+
+-- the memory of an agent of the held game is so long, and longer than a buffer
+abbrev pub IsMemoryTooLong : Option Played → (agent size : ℕ) → List ℕ → Type 0
+IsMemoryTooLong None agent size buffer = ⊥
+IsMemoryTooLong (Some p) agent size buffer = (agent < length p.game.trees) × IsShort (memory_of p agent) size buffer
+
 abbrev pub IsFrame : Option Played → ℕ → Type 0
 IsFrame None frame = ⊥
 IsFrame (Some p) frame = frame ≡ p.frame
@@ -51,6 +65,11 @@ IsFrame (Some p) frame = frame ≡ p.frame
 abbrev pub IsDigest : Option Played → ℕ → Type 0
 IsDigest None digest = ⊥
 IsDigest (Some p) digest = digest ≡ digest_of (state_of p)
+
+-- the signals of the held game's frame, and those of its script in the next frame
+abbrev pub AreSignals : Option Played → (shown scripted : ℕ) → Type 0
+AreSignals None shown scripted = ⊥
+AreSignals (Some p) shown scripted = AreBits shown (signals p.game.changes p.frame) × AreBits scripted (scripted_signals p)
 
 -- whether two held games are in the same state
 abbrev pub TellsSame : Option Played → Option Played → Bool → Type 0

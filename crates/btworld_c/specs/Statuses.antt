@@ -45,6 +45,10 @@ last_frame = 7
 abbrev pub off_map : ℕ
 off_map = 8
 
+-- a signal changes in a frame behind all that a script can name
+abbrev pub long : ℕ
+long = 9
+
 -- ---- what a call on a handle may answer
 
 abbrev pub IsStepStatus : ℕ → Type 0
@@ -61,6 +65,15 @@ IsStateStatus status = (status ≡ done) ⊎ ((status ≡ closed) ⊎ ((status �
 
 abbrev pub IsCellStatus : ℕ → Type 0
 IsCellStatus status = (status ≡ done) ⊎ ((status ≡ closed) ⊎ (status ≡ off_map))
+
+abbrev pub IsSignalsStatus : ℕ → Type 0
+IsSignalsStatus status = (status ≡ done) ⊎ ((status ≡ closed) ⊎ (status ≡ last_frame))
+
+abbrev pub IsMemoryStatus : ℕ → Type 0
+IsMemoryStatus status = (status ≡ done) ⊎ ((status ≡ closed) ⊎ ((status ≡ beyond_agents) ⊎ ((status ≡ no_memory) ⊎ (status ≡ short))))
+
+abbrev pub IsScriptStatus : ℕ → Type 0
+IsScriptStatus status = (status ≡ done) ⊎ ((status ≡ closed) ⊎ ((status ≡ long) ⊎ ((status ≡ no_memory) ⊎ (status ≡ short))))
 
 -- ---- levels
 

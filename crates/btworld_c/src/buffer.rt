@@ -1,24 +1,28 @@
-ghost use Rattle.std.specs.Prelude.{◌≡◌, ◌≤◌, ◌++◌, true, false, length, drop};
+ghost use Rattle.std.specs.Prelude.{◌≡◌, ◌≢◌, ◌⊎◌, ◌≤◌, ◌++◌, length, drop};
 ghost use Rattle.btworld_c.specs.Buffers.{IsFilled, IsShort};
+ghost use Rattle.btworld_c.specs.Statuses.{done, short};
 
-// Bytes are copied to the start of a buffer that has room for them.
-fn copy(bytes: &[u8], buffer: &mut [u8])
-    requires { length bytes.now ≤ length buffer.old }
-    ensures { buffer.new ≡ bytes.now ++ drop (length bytes.now) buffer.old }
+use crate::status::{OK, SHORT};
+
+// Items are copied to the start of a buffer that has room for them.
+fn copy<T: Copy>(items: &[T], buffer: &mut [T])
+    requires { length items.now ≤ length buffer.old }
+    ensures { buffer.new ≡ items.now ++ drop (length items.now) buffer.old }
 {
-    buffer[..bytes.len()].copy_from_slice(bytes);
+    buffer[..items.len()].copy_from_slice(items);
 }
 
-// Bytes are copied to the start of a buffer, where it has room for them; their number is told in any case.
-pub(crate) fn fill(bytes: &[u8], buffer: &mut [u8], size: &mut usize) -> bool
-    ensures filled { result ≡ true → IsFilled bytes.now size.new buffer.old buffer.new }
-    ensures short { result ≡ false → IsShort bytes.now size.new buffer.old }
-    ensures untouched { result ≡ false → buffer.new ≡ buffer.old }
+// Items are copied to the start of a caller's buffer, where it has room for them; their number is told in any case.
+pub(crate) fn fill<T: Copy>(items: &[T], buffer: &mut [T], size: &mut usize) -> u32
+    ensures ok { result ≡ done → IsFilled items.now size.new buffer.old buffer.new }
+    ensures short { result ≡ short → IsShort items.now size.new buffer.old }
+    ensures untouched { result ≢ done → buffer.new ≡ buffer.old }
+    ensures status { (result ≡ done) ⊎ (result ≡ short) }
 {
-    *size = bytes.len();
-    if buffer.len() < bytes.len() {
-        return false;
+    *size = items.len();
+    if buffer.len() < items.len() {
+        return SHORT;
     }
-    copy(bytes, buffer);
-    true
+    copy(items, buffer);
+    OK
 }

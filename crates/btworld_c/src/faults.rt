@@ -1,5 +1,5 @@
 // The line of a level's or a script's first fault.
-ghost use Rattle.std.specs.Prelude.{◌≡◌, ◌≢◌, ◌⊎◌, List, ℕ, length, IsOk, IfSome};
+ghost use Rattle.std.specs.Prelude.{◌≡◌, ◌≢◌, ◌⊎◌, List, ℕ, IsOk, IfSome};
 ghost use Rattle.level_text.specs.Levels.{spelled};
 ghost use Rattle.level_text.specs.Scripts.{script_of};
 ghost use Rattle.words.specs.declared.program_fault.Fault.TheVariants.{OutOfMemory};
@@ -7,7 +7,7 @@ ghost use Rattle.btworld_c.specs.Buffers.{IsFilled, IsShort};
 ghost use Rattle.btworld_c.specs.Statuses.{done, short, no_memory};
 
 use crate::buffer::fill;
-use crate::status::{NO_MEMORY, OK, SHORT};
+use crate::status::NO_MEMORY;
 use level_text::{read_level, read_script};
 use std::alloc::Global;
 use words::Fault;
@@ -23,16 +23,6 @@ fn first_fault(alloc: Global, level: &[u8], script: &[u8]) -> Option<Fault>
         Ok(_) => None,
         Err(fault) => Some(Fault::from(fault)),
     }
-}
-
-fn write_line(line: &[u8], text: &mut [u8], size: &mut usize) -> u32
-    ensures ok { result ≡ done → IsFilled line.now size.new text.old text.new }
-    ensures short { result ≡ short → IsShort line.now size.new text.old }
-    ensures size { size.new ≡ length line.now }
-    ensures untouched { result ≢ done → text.new ≡ text.old }
-    ensures status { (result ≡ done) ⊎ (result ≡ short) }
-{
-    if fill(line, text, size) { OK } else { SHORT }
 }
 
 /// The line that the program writes of a level's or a script's first fault, with no line feed, at the start of a buffer, and
@@ -54,10 +44,10 @@ pub extern "C" fn btworld_fault_text(
     ensures status { (result ≡ done) ⊎ ((result ≡ short) ⊎ (result ≡ no_memory)) }
 {
     match first_fault(alloc, level, script) {
-        None => write_line(b"", text, size),
+        None => fill(b"", text, size),
         Some(Fault::OutOfMemory) => NO_MEMORY,
         Some(fault) => match format!(in alloc; "{fault}") {
-            Ok(line) => write_line(line.as_bytes(), text, size),
+            Ok(line) => fill(line.as_bytes(), text, size),
             Err(_) => NO_MEMORY,
         },
     }

@@ -6,7 +6,7 @@ ghost use Rattle.stepping.specs.Played.{played_of, bits, scripted_signals, IsOnB
 ghost use Rattle.btworld_c.specs.Statuses.{done, closed, no_memory, taken, last_frame, IsStepStatus};
 ghost use Rattle.btworld_c.specs.Games.{IsOpened, IsOpenStatus, IsOpenedBeside, IsOpenBesideStatus, IsSteppedIn, IsSteppedByScript, IsNotStepped};
 
-use crate::game::{Game, put, take};
+use crate::game::{Game, put, read, take};
 use crate::status::{CLOSED, LAST_FRAME, NO_MEMORY, OK, OPEN, level_status, script_status};
 use game_session::{Level, Script};
 use level_text::{read_level, read_script};
@@ -176,17 +176,13 @@ pub extern "C" fn btworld_fork(alloc: Global, game: &mut Game, copy: &mut Game) 
     if copy.is_open {
         return OPEN;
     }
-    let Some(held) = take(alloc, game) else {
-        return CLOSED;
-    };
-    let made = forked(alloc, &held);
-    put(game, held);
-    match made {
-        Ok(other) => {
+    match read(alloc, game, |held| forked(alloc, held)) {
+        Some(Ok(other)) => {
             put(copy, other);
             OK
         }
-        Err(_) => NO_MEMORY,
+        Some(Err(_)) => NO_MEMORY,
+        None => CLOSED,
     }
 }
 

@@ -1,15 +1,23 @@
 // What a caller reads of a game's map. No reading changes the game.
-ghost use Rattle.std.specs.Prelude.{◌≡◌, ◌≢◌, ◌⊎◌, ◌<◌, Some, None, IfSome, length, position};
+ghost use Rattle.std.specs.Prelude.{◌≡◌, ◌≢◌, ◌⊎◌, ◌<◌, Some, None, IfSome, IfNone, length, position};
 ghost use Rattle.grid_world.specs.Grid.{point_of, same_point};
 ghost use Rattle.grid_world.specs.World.{point};
 ghost use Rattle.btworld_c.specs.Statuses.{done, closed, off_map, IsCellStatus};
 ghost use Rattle.btworld_c.specs.Maps.{IsMap, IsCell, IsOffMap, mark_told, agent_number};
 
-use crate::game::{CellState, Game, put, take};
+use crate::game::{CellState, Game, read};
 use crate::status::{CLOSED, NO_CELL, OK};
 use grid_world::{Agent, Cell, World};
 use std::alloc::Global;
 use stepping::Stepping;
+
+// How many columns and rows the map has, and how many agents stand on it.
+fn size_of(held: &Stepping) -> (u32, u32, u32)
+    ensures { IsMap (Some held.now) result.0 result.1 result.2 }
+{
+    let world = held.world();
+    (world.width(), world.height(), world.agents().len() as u32)
+}
 
 /// The size of the map in cells, and how many agents stand on it. The status is 0, or 2 for a closed handle, and then nothing
 /// is written. It takes constant time.
@@ -28,13 +36,12 @@ pub extern "C" fn btworld_map(
     ensures answered { (result ≡ done) ⊎ (result ≡ closed) }
     ensures kept { game.new.handle.value ≡ game.old.handle.value }
 {
-    let Some(held) = take(alloc, game) else {
+    let Some((columns, rows, many)) = read(alloc, game, size_of) else {
         return CLOSED;
     };
-    *width = held.world().width();
-    *height = held.world().height();
-    *agents = held.world().agents().len() as u32;
-    put(game, held);
+    *width = columns;
+    *height = rows;
+    *agents = many;
     OK
 }
 
@@ -67,23 +74,18 @@ fn agent_number(world: &World, x: u32, y: u32) -> u8
     }
 }
 
-fn write_cell(held: &Stepping, x: u32, y: u32, out: &mut CellState) -> u32
-    ensures ok { result ≡ done → IsCell (Some held.now) x y out.new }
-    ensures off { result ≡ off_map → IsOffMap (Some held.now) x y }
-    ensures untouched { result ≢ done → out.new ≡ out.old }
-    ensures held { result ≢ closed }
-    ensures status { IsCellStatus result }
+// A cell after the frame, if the map has it.
+fn cell_at(held: &Stepping, x: u32, y: u32) -> Option<CellState>
+    ensures cell { IfSome result (IsCell (Some held.now) x y) }
+    ensures off { IfNone result (IsOffMap (Some held.now) x y) }
 {
     let world = held.world();
-    let Some(cell) = world.cell(x, y) else {
-        return NO_CELL;
-    };
-    *out = CellState {
+    let cell = world.cell(x, y)?;
+    Some(CellState {
         mark: mark_of(cell),
         item: world.has_item(x, y),
         agent: agent_number(world, x, y),
-    };
-    OK
+    })
 }
 
 /// What lies and stands on a cell after the frame, at a column from the left and a row from the top, both from 0. The status is
@@ -104,10 +106,12 @@ pub extern "C" fn btworld_cell(
     ensures status { IsCellStatus result }
     ensures kept { game.new.handle.value ≡ game.old.handle.value }
 {
-    let Some(held) = take(alloc, game) else {
-        return CLOSED;
-    };
-    let status = write_cell(&held, x, y, out);
-    put(game, held);
-    status
+    match read(alloc, game, |held| cell_at(held, x, y)) {
+        Some(Some(cell)) => {
+            *out = cell;
+            OK
+        }
+        Some(None) => NO_CELL,
+        None => CLOSED,
+    }
 }

@@ -1,36 +1,27 @@
 // What a caller reads of a game. No reading changes it.
-ghost use Rattle.std.specs.Prelude.{◌≡◌, ◌≢◌, ◌⊎◌, Some, None, IfSome, IsSomeAnd};
-ghost use Rattle.stepping.specs.Played.{state_of};
+ghost use Rattle.std.specs.Prelude.{◌≡◌, ◌≢◌, ◌⊎◌, ◌<◌, Some, None, IfSome, IsSomeAnd, IfOk, OnOk, IfErr};
 ghost use Rattle.btworld_c.specs.Statuses.{done, closed, no_memory, no_frame, short, beyond_agents, IsTextStatus, IsAgentStatus};
 ghost use Rattle.btworld_c.specs.Readings.{IsText, IsTooLong, IsAgent, IsBeyondAgents, IsFrame, IsDigest, TellsSame, agent_told, status_number, text_of};
 
 use crate::buffer::fill;
-use crate::game::{Agent, Game, put, take};
-use crate::status::{CLOSED, NO_AGENT, NO_FRAME, NO_MEMORY, OK, SHORT};
+use crate::game::{Agent, Game, put, read, take};
+use crate::status::{CLOSED, NO_AGENT, NO_FRAME, NO_MEMORY, OK};
 use bt_nodes::Status;
 use std::alloc::Global;
 use stepping::{AgentState, Stepping};
 
-fn write_text(alloc: Global, held: &Stepping, text: &mut [u8], size: &mut usize) -> u32
-    ensures ok { result ≡ done → IsText (Some held.now) size.new text.old text.new }
-    ensures short { result ≡ short → IsTooLong (Some held.now) size.new text.old }
-    ensures untouched { result ≢ done → text.new ≡ text.old }
-    ensures size { result ≢ done → result ≢ short → size.new ≡ size.old }
-    ensures held { result ≢ closed }
-    ensures early { held.now.frame ≡ 0 → result ≡ no_frame }
-    ensures framed { result ≡ no_frame → held.now.frame ≡ 0 }
-    ensures status { IsTextStatus result }
+// The text of the frame, or why there is none.
+fn text_of(alloc: Global, held: &Stepping) -> Result<Vec<u8>, u32>
+    ensures text { IfOk result (λ text. text.items ≡ text_of held.now) }
+    ensures framed { OnOk result (0 < held.now.frame) }
+    ensures refused { IfErr result (λ status. ((status ≡ no_frame) × (held.now.frame ≡ 0)) ⊎ ((status ≡ no_memory) × (0 < held.now.frame))) }
 {
     if held.frame() == 0 {
-        return NO_FRAME;
+        return Err(NO_FRAME);
     }
-    let Ok(written) = held.text(alloc) else {
-        return NO_MEMORY;
-    };
-    if fill(&written, text, size) {
-        OK
-    } else {
-        SHORT
+    match held.text(alloc) {
+        Ok(text) => Ok(text),
+        Err(_) => Err(NO_MEMORY),
     }
 }
 
@@ -55,12 +46,11 @@ pub extern "C" fn btworld_text(
     ensures status { IsTextStatus result }
     ensures kept { game.new.handle.value ≡ game.old.handle.value }
 {
-    let Some(held) = take(alloc, game) else {
-        return CLOSED;
-    };
-    let status = write_text(alloc, &held, text, size);
-    put(game, held);
-    status
+    match read(alloc, game, |held| text_of(alloc, held)) {
+        Some(Ok(written)) => fill(&written, text, size),
+        Some(Err(status)) => status,
+        None => CLOSED,
+    }
 }
 
 fn status_number(status: Status) -> u8
@@ -84,24 +74,19 @@ fn told(state: AgentState) -> Agent
     }
 }
 
-fn write_agent(held: &Stepping, number: u32, out: &mut Agent) -> u32
-    ensures ok { result ≡ done → IsAgent (Some held.now) number out.new }
-    ensures beyond { result ≡ beyond_agents → IsBeyondAgents (Some held.now) number }
-    ensures untouched { result ≢ done → out.new ≡ out.old }
-    ensures held { result ≢ closed }
-    ensures early { held.now.frame ≡ 0 → result ≡ no_frame }
-    ensures framed { result ≡ no_frame → held.now.frame ≡ 0 }
-    ensures status { IsAgentStatus result }
+// An agent after the frame, or why there is none.
+fn agent_of(held: &Stepping, number: u32) -> Result<Agent, u32>
+    ensures agent { IfOk result (IsAgent (Some held.now) number) }
+    ensures framed { OnOk result (0 < held.now.frame) }
+    ensures refused { IfErr result (λ status. ((status ≡ no_frame) × (held.now.frame ≡ 0))
+        ⊎ ((status ≡ beyond_agents) × (0 < held.now.frame) × IsBeyondAgents (Some held.now) number)) }
 {
     if held.frame() == 0 {
-        return NO_FRAME;
+        return Err(NO_FRAME);
     }
     match held.agent(number) {
-        Some(state) => {
-            *out = told(state);
-            OK
-        }
-        None => NO_AGENT,
+        Some(state) => Ok(told(state)),
+        None => Err(NO_AGENT),
     }
 }
 
@@ -119,12 +104,14 @@ pub extern "C" fn btworld_agent(alloc: Global, game: &mut Game, number: u32, out
     ensures status { IsAgentStatus result }
     ensures kept { game.new.handle.value ≡ game.old.handle.value }
 {
-    let Some(held) = take(alloc, game) else {
-        return CLOSED;
-    };
-    let status = write_agent(&held, number, out);
-    put(game, held);
-    status
+    match read(alloc, game, |held| agent_of(held, number)) {
+        Some(Ok(agent)) => {
+            *out = agent;
+            OK
+        }
+        Some(Err(status)) => status,
+        None => CLOSED,
+    }
 }
 
 /// How many frames were stepped. The status is 0, or 2 for a closed handle, and then nothing is written.
@@ -137,11 +124,10 @@ pub extern "C" fn btworld_frame(alloc: Global, game: &mut Game, frame: &mut u32)
     ensures answered { (result ≡ done) ⊎ (result ≡ closed) }
     ensures kept { game.new.handle.value ≡ game.old.handle.value }
 {
-    let Some(held) = take(alloc, game) else {
+    let Some(now) = read(alloc, game, Stepping::frame) else {
         return CLOSED;
     };
-    *frame = held.frame();
-    put(game, held);
+    *frame = now;
     OK
 }
 
@@ -157,11 +143,10 @@ pub extern "C" fn btworld_digest(alloc: Global, game: &mut Game, digest: &mut u6
     ensures answered { (result ≡ done) ⊎ (result ≡ closed) }
     ensures kept { game.new.handle.value ≡ game.old.handle.value }
 {
-    let Some(held) = take(alloc, game) else {
+    let Some(now) = read(alloc, game, Stepping::digest) else {
         return CLOSED;
     };
-    *digest = held.digest();
-    put(game, held);
+    *digest = now;
     OK
 }
 

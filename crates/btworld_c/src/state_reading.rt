@@ -4,8 +4,8 @@ ghost use Rattle.btworld_c.specs.Statuses.{done, closed, short, IsStateStatus};
 ghost use Rattle.btworld_c.specs.States.{IsLevelDigest, IsState, IsStateTooLong};
 
 use crate::buffer::fill;
-use crate::game::{Game, put, take};
-use crate::status::{CLOSED, NO_MEMORY, OK, SHORT};
+use crate::game::{Game, read};
+use crate::status::{CLOSED, NO_MEMORY, OK};
 use std::alloc::Global;
 use stepping::Stepping;
 
@@ -21,30 +21,11 @@ pub extern "C" fn btworld_level_digest(alloc: Global, game: &mut Game, digest: &
     ensures answered { (result ≡ done) ⊎ (result ≡ closed) }
     ensures kept { game.new.handle.value ≡ game.old.handle.value }
 {
-    let Some(held) = take(alloc, game) else {
+    let Some(told) = read(alloc, game, Stepping::level_digest) else {
         return CLOSED;
     };
-    *digest = held.level_digest();
-    put(game, held);
+    *digest = told;
     OK
-}
-
-fn write_state(alloc: Global, held: &Stepping, text: &mut [u8], size: &mut usize) -> u32
-    ensures ok { result ≡ done → IsState (Some held.now) size.new text.old text.new }
-    ensures short { result ≡ short → IsStateTooLong (Some held.now) size.new text.old }
-    ensures untouched { result ≢ done → text.new ≡ text.old }
-    ensures size { result ≢ done → result ≢ short → size.new ≡ size.old }
-    ensures held { result ≢ closed }
-    ensures status { IsStateStatus result }
-{
-    let Ok(written) = held.state_text(alloc) else {
-        return NO_MEMORY;
-    };
-    if fill(&written, text, size) {
-        OK
-    } else {
-        SHORT
-    }
 }
 
 /// The state after the frame as text, at the start of a buffer, and its length in bytes, which is told also where the buffer is
@@ -66,10 +47,9 @@ pub extern "C" fn btworld_state(
     ensures status { IsStateStatus result }
     ensures kept { game.new.handle.value ≡ game.old.handle.value }
 {
-    let Some(held) = take(alloc, game) else {
-        return CLOSED;
-    };
-    let status = write_state(alloc, &held, text, size);
-    put(game, held);
-    status
+    match read(alloc, game, |held| held.state_text(alloc)) {
+        Some(Ok(written)) => fill(&written, text, size),
+        Some(Err(_)) => NO_MEMORY,
+        None => CLOSED,
+    }
 }

@@ -1,7 +1,7 @@
 // The statuses that calls answer, by their numbers in btworld.h.
 ghost use Rattle.std.specs.Prelude.{◌≡◌, ◌≢◌};
 ghost use Rattle.level_text.specs.Levels.{fault_view};
-ghost use Rattle.btworld_c.specs.Statuses.{fault_status, script_status, log_status, done, closed, IsRefusal};
+ghost use Rattle.btworld_c.specs.Statuses.{fault_status, script_status, log_status, done, closed, illegal_event, IsRefusal};
 
 use level_text::{LevelFault, ScriptFault};
 use replay_log::LogFault;
@@ -24,6 +24,8 @@ pub(crate) const LAST_FRAME: u32 = 7;
 
 pub(crate) const NO_CELL: u32 = 8;
 
+pub(crate) const LONG: u32 = 9;
+
 pub(crate) const ILLEGAL_EVENT: u32 = 50;
 
 pub(crate) const INCOMPLETE: u32 = 51;
@@ -35,6 +37,7 @@ pub(crate) fn level_status(fault: &LevelFault) -> u32
     ensures value { result ≡ fault_status (fault_view fault.now) }
     ensures fault { result ≢ done }
     ensures level { result ≢ closed }
+    ensures legal { result ≢ illegal_event }
     ensures refusal { IsRefusal result }
 {
     match fault {
@@ -56,6 +59,7 @@ pub(crate) fn level_status(fault: &LevelFault) -> u32
 pub(crate) fn script_status(fault: ScriptFault) -> u32
     ensures value { result ≡ script_status fault }
     ensures fault { result ≢ done }
+    ensures legal { result ≢ illegal_event }
     ensures refusal { IsRefusal result }
 {
     match fault {
@@ -68,6 +72,7 @@ pub(crate) fn script_status(fault: ScriptFault) -> u32
 // The number of a log's fault.
 pub(crate) fn log_status(fault: LogFault) -> u32
     ensures value { result ≡ log_status fault }
+    ensures legal { result ≢ illegal_event }
     ensures refusal { IsRefusal result }
 {
     match fault {

@@ -1,6 +1,6 @@
 -- The bytes of a tree, from those of its root and of what stands below it.
-use Rattle.std.proofs.Common.{◌≡◌, ◌++◌, ◌∙◌, ℕ, List, [], None, Some, refl, sym, ap, append-nil}
-use Rattle.bt_nodes.specs.Plain.{Plain, Composite, Star, Par, Not, Tries, Ticks, Wait, Move, Does, Forest, tree}
+use Rattle.std.proofs.Common.{◌≡◌, ◌++◌, ◌∙◌, ℕ, None, Some, refl, sym, ap, append-nil}
+use Rattle.bt_nodes.specs.Plain.{Plain, Composite, Star, Par, Not, Tries, Ticks, Wait, Move, Does, Forest}
 use Rattle.bt_nodes.specs.Heads.{listed, decorated}
 use Rattle.bt_nodes.specs.Sizes.{count}
 use Rattle.stepping.specs.Digest.{fnv_all}

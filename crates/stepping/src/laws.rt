@@ -4,7 +4,7 @@ ghost use Rattle.game_rules.specs.declared.change.Change.{Change};
 ghost use Rattle.game_rules.specs.Game.{Game};
 ghost use Rattle.game_rules.specs.Play.{play};
 ghost use Rattle.game_rules.specs.Text.{frame_text, texts};
-ghost use Rattle.stepping.specs.Played.{Played, played_of, IsStepped, IsByScript, scripted_game, scripted_signals, state_of};
+ghost use Rattle.stepping.specs.Played.{Played, played_of, changes_so_far, IsStepped, IsByScript, scripted_game, scripted_signals, state_of};
 
 /// Games in the same state that are stepped with the same signals are in the same state again, and show the same frame. So
 /// whoever compares states once, as two machines in lockstep, knows all that comes of the same signals.
@@ -26,4 +26,11 @@ pub fn scripted_steps_play_the_script()
     ensures goes_on { (p next : Played) → IsByScript p → IsStepped (scripted_signals p) p next → IsByScript next }
     ensures position { (p : Played) → IsByScript p → play p.game p.frame ≡ play (scripted_game p) p.frame }
     ensures texts { (p : Played) → IsByScript p → texts p.game p.frame ≡ texts (scripted_game p) p.frame }
+{}
+
+/// A game whose script is what was handed in so far has the same signals in each frame so far. So it is where this game is,
+/// with the same texts: whoever keeps the level and these changes can play the frames again.
+#[tactic(auto, using(crate::proofs::SoFar::by_changes_so_far))]
+pub fn changes_so_far_play_alike()
+    ensures { (p : Played) → IsByScript (played_of p.game p.frame (changes_so_far p)) }
 {}

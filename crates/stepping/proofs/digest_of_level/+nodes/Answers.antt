@@ -1,6 +1,6 @@
 use Rattle.std.proofs.Common.{◌≡◌, ◌∙◌, ◌+◌, sym, ap, drop, arith}
 use Rattle.bt_nodes.specs.Plain.{plain, plains, tree}
-use Rattle.bt_nodes.specs.Sizes.{size, sizes, count}
+use Rattle.bt_nodes.specs.Sizes.{sizes}
 use Rattle.bt_nodes.proofs.Alike.{item_smaller, decorated_smaller, listed_smaller}
 use Rattle.bt_nodes.proofs.Forests.{plains-drop, plains-end, count-plains}
 use Rattle.stepping.specs.Digest.{fnv_all}

@@ -1,4 +1,4 @@
-use Rattle.std.proofs.Common.{◌≡◌, ◌∙◌, ◌++◌, ℕ, List, length, ap}
+use Rattle.std.proofs.Common.{◌∙◌, ◌++◌, ℕ, List, length, ap}
 use Rattle.std.specs.List.{flat_map}
 use Rattle.grid_world.specs.Grid.{Grid}
 use Rattle.grid_world.specs.declared.cell.Agent.{Agent}

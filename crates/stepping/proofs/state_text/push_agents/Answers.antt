@@ -1,4 +1,4 @@
-use Rattle.std.proofs.Common.{◌≡◌, ◌<◌, ◌≤◌, ◌∙◌, ◌++◌, ℕ, List, [], false, length, get_or, ap, sym, arith}
+use Rattle.std.proofs.Common.{◌≡◌, ◌<◌, ◌≤◌, ◌∙◌, ◌++◌, ℕ, List, [], length, get_or, ap, sym, arith}
 use Rattle.std.specs.Prelude.{Option, slice_get}
 use Rattle.std.proofs.lemmas.Grind.{common_steps}
 use Rattle.grid_world.specs.declared.cell.Agent.{Agent}
@@ -7,7 +7,6 @@ use Rattle.bt_nodes.specs.Plain.{Plain, Does, Carrying}
 use Rattle.bt_nodes.specs.Trees.{plain_of}
 use Rattle.bt_nodes.specs.declared.node.Status.{Status}
 use Rattle.game_rules.specs.Play.{Position, play}
-use Rattle.game_session.specs.Levels.{value_of, agent_trees}
 use Rattle.draw_list.proofs.Counting.{pieces_more, pieces_end}
 use Rattle.stepping.specs.Played.{statuses_at}
 use Rattle.stepping.specs.StateText.{agent_line, line_of, agent_lines}

@@ -1,4 +1,4 @@
-use Rattle.std.proofs.Common.{◌<◌, ◌≤◌, ◌++◌, ℕ, List, arith}
+use Rattle.std.proofs.Common.{◌<◌, ◌≤◌, ◌++◌, arith}
 use Rattle.std.specs.List.{flat_map}
 use Rattle.grid_world.specs.Map.{count_up}
 use Rattle.draw_list.proofs.Counting.{pieces_more, pieces_end}

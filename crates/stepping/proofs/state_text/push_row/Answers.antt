@@ -1,4 +1,4 @@
-use Rattle.std.proofs.Common.{◌≡◌, ◌<◌, ◌≤◌, ◌∙◌, ◌&&◌, ◌++◌, ℕ, Bool, List, true, nat_lt, ap, sym, arith, subst, codes, decimal, if◌then◌else◌, []}
+use Rattle.std.proofs.Common.{◌≡◌, ◌<◌, ◌≤◌, ◌∙◌, ◌&&◌, ◌++◌, ℕ, Bool, List, true, nat_lt, ap, arith, codes, decimal, if◌then◌else◌, []}
 use Rattle.std.specs.List.{flat_map}
 use Rattle.grid_world.specs.Grid.{has_item}
 use Rattle.grid_world.specs.Map.{count_up}
