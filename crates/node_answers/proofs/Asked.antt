@@ -10,7 +10,7 @@ use Rattle.bt_nodes.specs.Plain.{Plain}
 use Rattle.bt_nodes.specs.Sizes.{size}
 use Rattle.game_rules.specs.View.{View, cell_of}
 use Rattle.game_rules.specs.Tick.{Gives, Stands}
-use Rattle.game_rules.specs.Thought.{ticked, last_of, way_to_last, next_answer, add_if, ways, all_ways, questions}
+use Rattle.game_rules.specs.Thought.{ticked, way_to_last, next_answer, add_if, ways, all_ways, questions}
 use Rattle.game_rules.proofs.Ways.{stands, ends, few, all_there}
 use Rattle.bt_tick.specs.Thinking.{Thinking}
 use Rattle.bt_tick.specs.declared.tick.Outcome.{Outcome}

@@ -1,5 +1,5 @@
 -- A leaf ticked as a tree of its own gives what it gives anywhere.
-use Rattle.std.proofs.Common.{◌≡◌, ℕ, List, [], ◌∷◌, ◌++◌, Bool, true, false, refl, sym, ap, ◌∙◌, subst, ◌⊎◌, inl, inr, rules}
+use Rattle.std.proofs.Common.{◌≡◌, ℕ, List, [], ◌∷◌, ◌++◌, Bool, true, false, refl, sym, ap, ◌∙◌, ◌⊎◌, inl, inr, rules}
 use Rattle.std.specs.Prelude.{if◌then◌else◌}
 use Rattle.grid_world.specs.declared.cell.Intent.{Intent}
 use Rattle.grid_world.specs.declared.cell.Intent.TheVariants as intent
@@ -9,7 +9,7 @@ use Rattle.bt_nodes.specs.Plain.{Plain, Does, Move, plain, Leaf, Take, Drop, At,
 use Rattle.bt_nodes.specs.declared.node.Node.{Node, the_lemmas}
 use Rattle.bt_nodes.specs.declared.node.Node as node
 use Rattle.game_rules.specs.View.{View, carries, is_on_item, stands_on, has_signal, is_near, can_give}
-use Rattle.game_rules.specs.Tick.{Reply, Gives, Stands, State, Result, gives, want, test, does, tick}
+use Rattle.game_rules.specs.Tick.{Gives, Stands, State, Result, gives, want, does, tick}
 use Rattle.game_rules.specs.Thought.{first_want, ticked}
 use Rattle.node_answers.specs.Observing.{wanting}
 
@@ -78,8 +78,8 @@ module _ (v : View) (p : Plain) (leaf : Leaf) (is : p ≡ Does leaf) (m : List �
 
 -- ---- nodes that are leaves
 
-pub plain-Move : {A : Type 0} → (p : ℕ) → plain (node.Move {A = A} p) ≡ Move p
-plain-Move p = search (rules, the_lemmas)
+pub moves : {A : Type 0} (n : Node A) (p : ℕ) → n ≡ node.Move p → plain n ≡ Move p
+moves n p e = ap plain e ∙ search (rules, the_lemmas)
 
 pub leaf_of : {A : Type 0} (n : Node A)
     → (n ≡ node.Take) ⊎ ((n ≡ node.Drop) ⊎ (((p : ℕ) × (n ≡ node.At p)) ⊎ ((n ≡ node.Carrying) ⊎ ((n ≡ node.Item) ⊎ (((a : ℕ) × (n ≡ node.Signal a)) ⊎ (((k : ℕ) × (n ≡ node.Near k)) ⊎ ((b : ℕ) × (n ≡ node.Give b))))))))

@@ -1,8 +1,8 @@
 -- Where a node's children stand, and what they keep of its limits.
-use Rattle.std.proofs.Common.{◌≡◌, ◌≤◌, ℕ, zero, suc, ◌+◌, ◌<◌, List, [], ◌∷◌, ◌++◌, length, get_or, Bool, true, false, ◌&&◌, refl, sym, ap, ◌∙◌, subst, arith, length-append}
+use Rattle.std.proofs.Common.{◌≡◌, ◌≤◌, ℕ, suc, ◌+◌, List, [], ◌∷◌, ◌++◌, length, get_or, refl, ap, ◌∙◌, subst, arith, length-append}
 use Rattle.std.proofs.lemmas.List.{get_or_append_left, get_or-append-add}
-use Rattle.bt_nodes.specs.Plain.{Plain, Kind, Composite, Star, Par, Not, Tries, Ticks, Wait, Move, Does, Forest, none, tree, plains}
-use Rattle.bt_nodes.specs.Sizes.{size, sizes, subtree_sizes, subtree_sizes_all}
+use Rattle.bt_nodes.specs.Plain.{Plain, Composite, Star, Par, Not, Tries, Ticks, Wait, Move, Does, Forest, none, tree, plains}
+use Rattle.bt_nodes.specs.Sizes.{size, subtree_sizes, subtree_sizes_all}
 use Rattle.bt_nodes.specs.declared.node.Node.{Node}
 use Rattle.bt_nodes.proofs.SizeTables.{length-subtree_sizes}
 use Rattle.bt_tick.specs.Places.{Segment}

@@ -1,5 +1,5 @@
 -- Answers that are written to their places.
-use Rattle.std.proofs.Common.{◌≡◌, ℕ, List, [], ◌∷◌, ◌++◌, length, set, refl, ◌∙◌}
+use Rattle.std.proofs.Common.{◌≡◌, ℕ, List, [], ◌∷◌, ◌++◌, length, refl, ◌∙◌}
 use Rattle.std.specs.Prelude.{slice_set, Option, Some}
 use Rattle.std.proofs.lemmas.List.{length-set}
 use Rattle.bt_nodes.specs.declared.node.Status.{Status}

@@ -1,7 +1,7 @@
 -- What the nodes of a tree answer in a tick. The tick itself is only looked at: each answer and each state that is handed on is its own.
 use Rattle.std.specs.Prelude.{ℕ, zero, suc, ◌+◌, Bool, true, false, nat_lt, if◌then◌else◌, List, [], ◌∷◌, ◌++◌, replicate, slice_set, Option, Some, None}
 use Rattle.bt_nodes.specs.declared.node.Status.{Status}
-use Rattle.bt_nodes.specs.declared.node.Status.TheVariants.{Success, Failure, Running}
+use Rattle.bt_nodes.specs.declared.node.Status.TheVariants.{Success, Failure}
 use Rattle.bt_nodes.specs.Plain.{Kind, Seq, Fallback, Plain, Composite, Star, Par, Not, Tries, Ticks, Wait, Move, Does, Forest, none, tree}
 use Rattle.bt_nodes.specs.Sizes.{size}
 use Rattle.game_rules.specs.View.{View}

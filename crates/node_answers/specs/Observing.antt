@@ -1,5 +1,5 @@
 -- An observed tick on its way, as plain data.
-use Rattle.std.specs.Prelude.{◌≡◌, ℕ, Bool, true, false, List, [], ◌∷◌, length, drop, Option, Some, None}
+use Rattle.std.specs.Prelude.{◌≡◌, ℕ, Bool, true, false, List, length, drop, Option, Some, None}
 use Rattle.grid_world.specs.declared.cell.Answer.{Answer}
 use Rattle.grid_world.specs.declared.cell.Intent.{Intent}
 use Rattle.bt_nodes.specs.declared.node.Status.{Status}

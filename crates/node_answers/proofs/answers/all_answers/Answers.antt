@@ -1,4 +1,4 @@
-use Rattle.std.proofs.Common.{◌≡◌, ◌∙◌, ap, subst, arith, ℕ, List, Bool}
+use Rattle.std.proofs.Common.{◌∙◌, ap, subst, arith, ℕ, List, Bool}
 use Rattle.std.specs.declared.alloc.Global.{Global}
 use Rattle.grid_world.specs.Grid.{Point}
 use Rattle.grid_world.specs.World.{point}

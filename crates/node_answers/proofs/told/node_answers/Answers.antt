@@ -1,12 +1,9 @@
-use Rattle.std.proofs.Common.{◌≡◌, ◌∙◌, ap, sym, subst, ℕ, List, [], replicate, None}
-use Rattle.grid_world.specs.declared.cell.Answer.{Answer}
+use Rattle.std.proofs.Common.{◌∙◌, sym, subst, None}
 use Rattle.std.proofs.lemmas.List.{length-replicate}
-use Rattle.bt_nodes.specs.declared.node.Status.{Status}
-use Rattle.bt_nodes.specs.Bounds.{Fits}
 use Rattle.bt_nodes.specs.Sizes.{size}
 use Rattle.bt_nodes.specs.Trees.{plain_of}
 use Rattle.bt_nodes.proofs.MemoryBounds.{length-bounds}
-use Rattle.node_answers.specs.Observing.{Seen, HasRoom}
+use Rattle.node_answers.specs.Observing.{HasRoom}
 use Rattle.node_answers.proofs.told.node_answers.Goals as goal
 
 pub observe-requires-clause-room : goal.observe-requires-clause-room

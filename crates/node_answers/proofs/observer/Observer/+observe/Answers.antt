@@ -1,19 +1,18 @@
-use Rattle.std.proofs.Common.{◌≡◌, suc, ◌+◌, ◌-◌, ◌*◌, ◌<◌, ◌≤◌, ℕ, List, [], ◌∷◌, ap, sym, subst, refl, ◌∙◌, arith, length}
+use Rattle.std.proofs.Common.{◌≡◌, suc, ◌+◌, ◌-◌, ℕ, ap, sym, subst, refl, ◌∙◌, arith}
 use Rattle.std.specs.Prelude.{Option, Some, None}
 use Rattle.bt_nodes.specs.declared.node.Status.{Status}
 use Rattle.bt_nodes.specs.declared.node.Status.TheVariants.{Success, Failure, Running}
-use Rattle.bt_nodes.specs.Plain.{Kind, Plain, Seq, Fallback, Composite, Star, Par, Not, Tries, Ticks, Wait, Move, Does, Forest, none, tree, plain, plains}
-use Rattle.bt_nodes.specs.Sizes.{size, sizes, subtree_sizes, count}
+use Rattle.bt_nodes.specs.Plain.{Plain, Seq, Fallback, Composite, Star, Par, Not, Tries, Ticks, Move, Forest, none, tree, plain, plains}
+use Rattle.bt_nodes.specs.Sizes.{size, sizes, count}
 use Rattle.bt_nodes.specs.Trees.{plain_of}
 use Rattle.bt_nodes.proofs.AtLeastOne.{one-le-size}
 use Rattle.bt_nodes.proofs.Forests.{count-plains}
 use Rattle.bt_nodes.proofs.Views.{plain-Seq, plain-Fallback, plain-SeqStar, plain-FallbackStar, plain-Par, plain-Not, plain-Tries, plain-Ticks}
 use Rattle.bt_nodes.proofs.WithinLimits.{tree_within}
 use Rattle.bt_tick.specs.Views.{view_of}
-use Rattle.bt_tick.specs.Places.{Segment}
-use Rattle.game_rules.specs.Tick.{goes, verdict, tick, tick_line, tick_star, tick_all}
+use Rattle.game_rules.specs.Tick.{tick, tick_line, tick_star, tick_all}
 use Rattle.node_answers.specs.Answered.{written, below, below_line, below_star, below_all, answered}
-use Rattle.node_answers.specs.Observing.{Seen, seen, reply_of, kind_of, not_of, HasRoom, Observed, StandsAt, StandAt}
+use Rattle.node_answers.specs.Observing.{Seen, seen, kind_of, not_of, Observed, StandsAt, StandAt}
 use Rattle.node_answers.proofs.Parts
 use Rattle.node_answers.proofs.Leaves
 use Rattle.node_answers.proofs.Standing
@@ -21,7 +20,7 @@ use Rattle.node_answers.proofs.observer.Observer.+observe.Goals as goal
 
 pub observe-tick-requires : goal.observe-tick-requires
 observe-tick-requires t c =
-    (omega arith, c.requires.view, c.requires.stands, c.requires.room)
+    (omega arith, (c.requires.view, (c.requires.stands, c.requires.room)))
 
 pub observe-tell-requires : goal.observe-tell-requires
 observe-tell-requires t c =
@@ -56,7 +55,7 @@ line-observe-requires t c =
     let stand : StandAt w n (tree x xs) = subst (StandAt w n) is c.requires.stand in
     let many : sizes (plains c.args.nodes.now) ≡ size x + sizes xs = ap sizes is in
     let one = one-le-size x in
-    (omega (arith, many), c.requires.view, Rattle.node_answers.proofs.Standing.first_child w x xs n stand, c.requires.room)
+    (omega (arith, many), (c.requires.view, (Rattle.node_answers.proofs.Standing.first_child w x xs n stand, c.requires.room)))
 
 pub star-number_after-next-requires : goal.star-number_after-next-requires
 star-number_after-next-requires t c =
@@ -80,7 +79,7 @@ star-observe-requires t c =
     let stand : StandAt w n (tree x xs) = subst (StandAt w n) is c.requires.stand in
     let many : sizes (plains c.args.nodes.now) ≡ size x + sizes xs = ap sizes is in
     let one = one-le-size x in
-    (omega (arith, many), c.requires.view, Rattle.node_answers.proofs.Standing.first_child w x xs n stand, c.requires.room)
+    (omega (arith, many), (c.requires.view, (Rattle.node_answers.proofs.Standing.first_child w x xs n stand, c.requires.room)))
 
 pub all-number_after-next-requires : goal.all-number_after-next-requires
 all-number_after-next-requires t c =
@@ -104,7 +103,7 @@ all-observe-requires t c =
     let stand : StandAt w n (tree x xs) = subst (StandAt w n) is c.requires.stand in
     let many : sizes (plains c.args.nodes.now) ≡ size x + sizes xs = ap sizes is in
     let one = one-le-size x in
-    (omega (arith, many), c.requires.view, Rattle.node_answers.proofs.Standing.first_child w x xs n stand, c.requires.room)
+    (omega (arith, many), (c.requires.view, (Rattle.node_answers.proofs.Standing.first_child w x xs n stand, c.requires.room)))
 
 pub line-returns-in_default : goal.line-returns-in_default
 line-returns-in_default t c =
@@ -147,7 +146,7 @@ line-line-requires t c =
     let many : sizes (plains c.args.nodes.now) ≡ size x + sizes xs = ap sizes is in
     let one = one-le-size x in
     let onward : StandAt w c.number_after-next.result xs = subst (λ (k : ℕ). StandAt w k xs) (sym c.number_after-next.ensures) (Rattle.node_answers.proofs.Standing.other_children w x xs n stand) in
-    (omega (arith, many, one), c.requires.view, onward, c.in_ok-reply.ensures.room)
+    (omega (arith, many, one), (c.requires.view, (onward, c.in_ok-reply.ensures.room)))
 
 pub line-returns-then-goes_on : goal.line-returns-then-goes_on
 line-returns-then-goes_on t c =
@@ -186,10 +185,10 @@ all-all-requires t c =
     let many : sizes (plains c.args.nodes.now) ≡ size x + sizes xs = ap sizes is in
     let one = one-le-size x in
     let onward : StandAt w c.number_after-next.result xs = subst (λ (k : ℕ). StandAt w k xs) (sym c.number_after-next.ensures) (Rattle.node_answers.proofs.Standing.other_children w x xs n stand) in
-    (omega (arith, many, one), c.requires.view, onward, c.in_ok-reply.ensures.room, (let f = c.requires.few in let e = c.number_after-next.ensures in omega (arith, f, e, one)))
+    (omega (arith, many, one), (c.requires.view, (onward, (c.in_ok-reply.ensures.room, (let f = c.requires.few in let e = c.number_after-next.ensures in omega (arith, f, e, one))))))
 
-pub all-returns-in_ok-all-in-Some-Success : goal.all-returns-in_ok-all-in-Some-Success
-all-returns-in_ok-all-in-Some-Success t c =
+pub all-returns-in_ok-all-in-Success : goal.all-returns-in_ok-all-in-Success
+all-returns-in_ok-all-in-Success t c =
     let w = plain_of c.args.self.now.tree.now in
     let v = view_of c.args.self.now.view.now in
     let n = c.args.number in
@@ -197,43 +196,14 @@ all-returns-in_ok-all-in-Some-Success t c =
     let xs = plains c.in-Some.rest.now in
     let is : plains c.args.nodes.now ≡ tree x xs = ap plains c.in-Some.ensures.cases.0 in
     let stand : StandAt w n (tree x xs) = subst (StandAt w n) is c.requires.stand in
-    let first = subst (λ (r : Option Status). Observed w (tick v x n) (answered v x n) (seen c.args.self.now.answers.now c.args.at.now) r (seen c.args.self.now.answers.now c.observe.new.at)) c.in-Some-Success.is c.in_ok-reply.ensures in
-    let first = subst (λ (r : Status). Observed w (tick v x n) (answered v x n) (seen c.args.self.now.answers.now c.args.at.now) (Some r) (seen c.args.self.now.answers.now c.observe.new.at)) c.in-Some-Success.field-0-is first in
-    let rest = subst (λ (k : ℕ). Observed w (tick_all v xs c.args.most c.args.count (c.args.won + 1) (c.args.lost) k) (below_all v xs k) (seen c.args.self.now.answers.now c.observe.new.at) c.in_ok-all-in-Some-Success.field-0 (seen c.args.self.now.answers.now c.all.new.at)) c.number_after-next.ensures c.in_ok-all-in-Some-Success.ensures in
-    subst (λ (cs : Forest). Observed w (tick_all v cs c.args.most c.args.count c.args.won c.args.lost c.args.number) (below_all v cs c.args.number) (seen c.args.self.now.answers.now c.args.at.now) c.in_ok-all-in-Some-Success.field-0 (seen c.args.self.now.answers.now c.all.new.at)) (sym is)
-    (Rattle.node_answers.proofs.Parts.all_next w v x xs n c.args.most c.args.count c.args.won c.args.lost _ _ Success (c.args.won + 1) (c.args.lost) _ c.in_ok-all-in-Some-Success.field-0 first refl rest)
+    let first = subst (λ (r : Option Status). Observed w (tick v x n) (answered v x n) (seen c.args.self.now.answers.now c.args.at.now) r (seen c.args.self.now.answers.now c.observe.new.at)) c.in-Some-reply.is c.in_ok-reply.ensures in
+    let first = subst (λ (r : Status). Observed w (tick v x n) (answered v x n) (seen c.args.self.now.answers.now c.args.at.now) (Some r) (seen c.args.self.now.answers.now c.observe.new.at)) c.in-Success.is first in
+    let rest = subst (λ (k : ℕ). Observed w (tick_all v xs c.args.most c.args.count (c.args.won + 1) (c.args.lost) k) (below_all v xs k) (seen c.args.self.now.answers.now c.observe.new.at) c.in_ok-all-in-Success.field-0 (seen c.args.self.now.answers.now c.all.new.at)) c.number_after-next.ensures c.in_ok-all-in-Success.ensures in
+    subst (λ (cs : Forest). Observed w (tick_all v cs c.args.most c.args.count c.args.won c.args.lost c.args.number) (below_all v cs c.args.number) (seen c.args.self.now.answers.now c.args.at.now) c.in_ok-all-in-Success.field-0 (seen c.args.self.now.answers.now c.all.new.at)) (sym is)
+    (Rattle.node_answers.proofs.Parts.all_next w v x xs n c.args.most c.args.count c.args.won c.args.lost _ _ Success (c.args.won + 1) (c.args.lost) _ c.in_ok-all-in-Success.field-0 first refl rest)
 
-pub all-all-requires-in-Some-Failure : goal.all-all-requires-in-Some-Failure
-all-all-requires-in-Some-Failure t c =
-    let w = plain_of c.args.self.now.tree.now in
-    let v = view_of c.args.self.now.view.now in
-    let n = c.args.number in
-    let x = plain c.in-Some.node.now in
-    let xs = plains c.in-Some.rest.now in
-    let is : plains c.args.nodes.now ≡ tree x xs = ap plains c.in-Some.ensures.cases.0 in
-    let stand : StandAt w n (tree x xs) = subst (StandAt w n) is c.requires.stand in
-    let many : sizes (plains c.args.nodes.now) ≡ size x + sizes xs = ap sizes is in
-    let one = one-le-size x in
-    let onward : StandAt w c.number_after-next.result xs = subst (λ (k : ℕ). StandAt w k xs) (sym c.number_after-next.ensures) (Rattle.node_answers.proofs.Standing.other_children w x xs n stand) in
-    (omega (arith, many, one), c.requires.view, onward, c.in_ok-reply.ensures.room, (let f = c.requires.few in let e = c.number_after-next.ensures in omega (arith, f, e, one)))
-
-pub all-returns-in_ok-all-in-Some-Failure : goal.all-returns-in_ok-all-in-Some-Failure
-all-returns-in_ok-all-in-Some-Failure t c =
-    let w = plain_of c.args.self.now.tree.now in
-    let v = view_of c.args.self.now.view.now in
-    let n = c.args.number in
-    let x = plain c.in-Some.node.now in
-    let xs = plains c.in-Some.rest.now in
-    let is : plains c.args.nodes.now ≡ tree x xs = ap plains c.in-Some.ensures.cases.0 in
-    let stand : StandAt w n (tree x xs) = subst (StandAt w n) is c.requires.stand in
-    let first = subst (λ (r : Option Status). Observed w (tick v x n) (answered v x n) (seen c.args.self.now.answers.now c.args.at.now) r (seen c.args.self.now.answers.now c.observe.new.at)) c.in-Some-Failure.is c.in_ok-reply.ensures in
-    let first = subst (λ (r : Status). Observed w (tick v x n) (answered v x n) (seen c.args.self.now.answers.now c.args.at.now) (Some r) (seen c.args.self.now.answers.now c.observe.new.at)) c.in-Some-Failure.field-0-is first in
-    let rest = subst (λ (k : ℕ). Observed w (tick_all v xs c.args.most c.args.count (c.args.won) (c.args.lost + 1) k) (below_all v xs k) (seen c.args.self.now.answers.now c.observe.new.at) c.in_ok-all-in-Some-Failure.field-0 (seen c.args.self.now.answers.now c.all-in-Some-Failure.new.at)) c.number_after-next.ensures c.in_ok-all-in-Some-Failure.ensures in
-    subst (λ (cs : Forest). Observed w (tick_all v cs c.args.most c.args.count c.args.won c.args.lost c.args.number) (below_all v cs c.args.number) (seen c.args.self.now.answers.now c.args.at.now) c.in_ok-all-in-Some-Failure.field-0 (seen c.args.self.now.answers.now c.all-in-Some-Failure.new.at)) (sym is)
-    (Rattle.node_answers.proofs.Parts.all_next w v x xs n c.args.most c.args.count c.args.won c.args.lost _ _ Failure (c.args.won) (c.args.lost + 1) _ c.in_ok-all-in-Some-Failure.field-0 first refl rest)
-
-pub all-all-requires-in-Some-Running : goal.all-all-requires-in-Some-Running
-all-all-requires-in-Some-Running t c =
+pub all-all-requires-in-Failure : goal.all-all-requires-in-Failure
+all-all-requires-in-Failure t c =
     let w = plain_of c.args.self.now.tree.now in
     let v = view_of c.args.self.now.view.now in
     let n = c.args.number in
@@ -244,10 +214,10 @@ all-all-requires-in-Some-Running t c =
     let many : sizes (plains c.args.nodes.now) ≡ size x + sizes xs = ap sizes is in
     let one = one-le-size x in
     let onward : StandAt w c.number_after-next.result xs = subst (λ (k : ℕ). StandAt w k xs) (sym c.number_after-next.ensures) (Rattle.node_answers.proofs.Standing.other_children w x xs n stand) in
-    (omega (arith, many, one), c.requires.view, onward, c.in_ok-reply.ensures.room, (let f = c.requires.few in let e = c.number_after-next.ensures in omega (arith, f, e, one)))
+    (omega (arith, many, one), (c.requires.view, (onward, (c.in_ok-reply.ensures.room, (let f = c.requires.few in let e = c.number_after-next.ensures in omega (arith, f, e, one))))))
 
-pub all-returns-in_ok-all-in-Some-Running : goal.all-returns-in_ok-all-in-Some-Running
-all-returns-in_ok-all-in-Some-Running t c =
+pub all-returns-in_ok-all-in-Failure : goal.all-returns-in_ok-all-in-Failure
+all-returns-in_ok-all-in-Failure t c =
     let w = plain_of c.args.self.now.tree.now in
     let v = view_of c.args.self.now.view.now in
     let n = c.args.number in
@@ -255,11 +225,40 @@ all-returns-in_ok-all-in-Some-Running t c =
     let xs = plains c.in-Some.rest.now in
     let is : plains c.args.nodes.now ≡ tree x xs = ap plains c.in-Some.ensures.cases.0 in
     let stand : StandAt w n (tree x xs) = subst (StandAt w n) is c.requires.stand in
-    let first = subst (λ (r : Option Status). Observed w (tick v x n) (answered v x n) (seen c.args.self.now.answers.now c.args.at.now) r (seen c.args.self.now.answers.now c.observe.new.at)) c.in-Some-Running.is c.in_ok-reply.ensures in
-    let first = subst (λ (r : Status). Observed w (tick v x n) (answered v x n) (seen c.args.self.now.answers.now c.args.at.now) (Some r) (seen c.args.self.now.answers.now c.observe.new.at)) c.in-Some-Running.field-0-is first in
-    let rest = subst (λ (k : ℕ). Observed w (tick_all v xs c.args.most c.args.count (c.args.won) (c.args.lost) k) (below_all v xs k) (seen c.args.self.now.answers.now c.observe.new.at) c.in_ok-all-in-Some-Running.field-0 (seen c.args.self.now.answers.now c.all-in-Some-Running.new.at)) c.number_after-next.ensures c.in_ok-all-in-Some-Running.ensures in
-    subst (λ (cs : Forest). Observed w (tick_all v cs c.args.most c.args.count c.args.won c.args.lost c.args.number) (below_all v cs c.args.number) (seen c.args.self.now.answers.now c.args.at.now) c.in_ok-all-in-Some-Running.field-0 (seen c.args.self.now.answers.now c.all-in-Some-Running.new.at)) (sym is)
-    (Rattle.node_answers.proofs.Parts.all_next w v x xs n c.args.most c.args.count c.args.won c.args.lost _ _ Running (c.args.won) (c.args.lost) _ c.in_ok-all-in-Some-Running.field-0 first refl rest)
+    let first = subst (λ (r : Option Status). Observed w (tick v x n) (answered v x n) (seen c.args.self.now.answers.now c.args.at.now) r (seen c.args.self.now.answers.now c.observe.new.at)) c.in-Some-reply.is c.in_ok-reply.ensures in
+    let first = subst (λ (r : Status). Observed w (tick v x n) (answered v x n) (seen c.args.self.now.answers.now c.args.at.now) (Some r) (seen c.args.self.now.answers.now c.observe.new.at)) c.in-Failure.is first in
+    let rest = subst (λ (k : ℕ). Observed w (tick_all v xs c.args.most c.args.count (c.args.won) (c.args.lost + 1) k) (below_all v xs k) (seen c.args.self.now.answers.now c.observe.new.at) c.in_ok-all-in-Failure.field-0 (seen c.args.self.now.answers.now c.all-in-Failure.new.at)) c.number_after-next.ensures c.in_ok-all-in-Failure.ensures in
+    subst (λ (cs : Forest). Observed w (tick_all v cs c.args.most c.args.count c.args.won c.args.lost c.args.number) (below_all v cs c.args.number) (seen c.args.self.now.answers.now c.args.at.now) c.in_ok-all-in-Failure.field-0 (seen c.args.self.now.answers.now c.all-in-Failure.new.at)) (sym is)
+    (Rattle.node_answers.proofs.Parts.all_next w v x xs n c.args.most c.args.count c.args.won c.args.lost _ _ Failure (c.args.won) (c.args.lost + 1) _ c.in_ok-all-in-Failure.field-0 first refl rest)
+
+pub all-all-requires-in-Running : goal.all-all-requires-in-Running
+all-all-requires-in-Running t c =
+    let w = plain_of c.args.self.now.tree.now in
+    let v = view_of c.args.self.now.view.now in
+    let n = c.args.number in
+    let x = plain c.in-Some.node.now in
+    let xs = plains c.in-Some.rest.now in
+    let is : plains c.args.nodes.now ≡ tree x xs = ap plains c.in-Some.ensures.cases.0 in
+    let stand : StandAt w n (tree x xs) = subst (StandAt w n) is c.requires.stand in
+    let many : sizes (plains c.args.nodes.now) ≡ size x + sizes xs = ap sizes is in
+    let one = one-le-size x in
+    let onward : StandAt w c.number_after-next.result xs = subst (λ (k : ℕ). StandAt w k xs) (sym c.number_after-next.ensures) (Rattle.node_answers.proofs.Standing.other_children w x xs n stand) in
+    (omega (arith, many, one), (c.requires.view, (onward, (c.in_ok-reply.ensures.room, (let f = c.requires.few in let e = c.number_after-next.ensures in omega (arith, f, e, one))))))
+
+pub all-returns-in_ok-all-in-Running : goal.all-returns-in_ok-all-in-Running
+all-returns-in_ok-all-in-Running t c =
+    let w = plain_of c.args.self.now.tree.now in
+    let v = view_of c.args.self.now.view.now in
+    let n = c.args.number in
+    let x = plain c.in-Some.node.now in
+    let xs = plains c.in-Some.rest.now in
+    let is : plains c.args.nodes.now ≡ tree x xs = ap plains c.in-Some.ensures.cases.0 in
+    let stand : StandAt w n (tree x xs) = subst (StandAt w n) is c.requires.stand in
+    let first = subst (λ (r : Option Status). Observed w (tick v x n) (answered v x n) (seen c.args.self.now.answers.now c.args.at.now) r (seen c.args.self.now.answers.now c.observe.new.at)) c.in-Some-reply.is c.in_ok-reply.ensures in
+    let first = subst (λ (r : Status). Observed w (tick v x n) (answered v x n) (seen c.args.self.now.answers.now c.args.at.now) (Some r) (seen c.args.self.now.answers.now c.observe.new.at)) c.in-Running.is first in
+    let rest = subst (λ (k : ℕ). Observed w (tick_all v xs c.args.most c.args.count (c.args.won) (c.args.lost) k) (below_all v xs k) (seen c.args.self.now.answers.now c.observe.new.at) c.in_ok-all-in-Running.field-0 (seen c.args.self.now.answers.now c.all-in-Running.new.at)) c.number_after-next.ensures c.in_ok-all-in-Running.ensures in
+    subst (λ (cs : Forest). Observed w (tick_all v cs c.args.most c.args.count c.args.won c.args.lost c.args.number) (below_all v cs c.args.number) (seen c.args.self.now.answers.now c.args.at.now) c.in_ok-all-in-Running.field-0 (seen c.args.self.now.answers.now c.all-in-Running.new.at)) (sym is)
+    (Rattle.node_answers.proofs.Parts.all_next w v x xs n c.args.most c.args.count c.args.won c.args.lost _ _ Running (c.args.won) (c.args.lost) _ c.in_ok-all-in-Running.field-0 first refl rest)
 
 pub all-returns-in-None : goal.all-returns-in-None
 all-returns-in-None t c =
@@ -353,7 +352,7 @@ star-star-requires t c =
     let many : sizes (plains c.args.nodes.now) ≡ size x + sizes xs = ap sizes is in
     let one = one-le-size x in
     let onward : StandAt w c.number_after-next.result xs = subst (λ (k : ℕ). StandAt w k xs) (sym c.number_after-next.ensures) (Rattle.node_answers.proofs.Standing.other_children w x xs n stand) in
-    (omega (arith, many, one), c.requires.view, onward, c.requires.room, c.requires.own, (let f = c.requires.few in let e = c.number_after-next.ensures in omega (arith, f, e, one)))
+    (omega (arith, many, one), (c.requires.view, (onward, (c.requires.room, (c.requires.own, (let f = c.requires.few in let e = c.number_after-next.ensures in omega (arith, f, e, one)))))))
 
 pub star-star-requires-then-goes_on : goal.star-star-requires-then-goes_on
 star-star-requires-then-goes_on t c =
@@ -367,7 +366,7 @@ star-star-requires-then-goes_on t c =
     let many : sizes (plains c.args.nodes.now) ≡ size x + sizes xs = ap sizes is in
     let one = one-le-size x in
     let onward : StandAt w c.number_after-next.result xs = subst (λ (k : ℕ). StandAt w k xs) (sym c.number_after-next.ensures) (Rattle.node_answers.proofs.Standing.other_children w x xs n stand) in
-    (omega (arith, many, one), c.requires.view, onward, Rattle.node_answers.proofs.Parts.number_room w _ _ c.args.own (c.args.index + 1) c.in_ok-reply.ensures.room (c.put-then-goes_on.ensures c.args.self.now.answers.now), c.requires.own, (let f = c.requires.few in let e = c.number_after-next.ensures in omega (arith, f, e, one)))
+    (omega (arith, many, one), (c.requires.view, (onward, (Rattle.node_answers.proofs.Parts.number_room w _ _ c.args.own (c.args.index + 1) c.in_ok-reply.ensures.room (c.put-then-goes_on.ensures c.args.self.now.answers.now), (c.requires.own, (let f = c.requires.few in let e = c.number_after-next.ensures in omega (arith, f, e, one)))))))
 
 pub star-returns-then-passed-gt0 : goal.star-returns-then-passed-gt0
 star-returns-then-passed-gt0 t c =
@@ -452,7 +451,7 @@ tries-observe-requires t c =
     let n = c.args.number in
     let x = plain c.args.child.now in
     let i = Rattle.node_answers.proofs.Standing.within w (Tries c.args.most x) n c.requires.stands in
-    (omega arith, c.requires.view, Rattle.node_answers.proofs.Standing.below w n _ _ c.requires.stands, c.requires.room)
+    (omega arith, (c.requires.view, (Rattle.node_answers.proofs.Standing.below w n _ _ c.requires.stands, c.requires.room)))
 
 pub ticks-number-past-requires : goal.ticks-number-past-requires
 ticks-number-past-requires t c =
@@ -479,7 +478,7 @@ ticks-observe-requires t c =
     let n = c.args.number in
     let x = plain c.args.child.now in
     let i = Rattle.node_answers.proofs.Standing.within w (Ticks c.args.most x) n c.requires.stands in
-    (omega arith, c.requires.view, Rattle.node_answers.proofs.Standing.below w n _ _ c.requires.stands, c.requires.room)
+    (omega arith, (c.requires.view, (Rattle.node_answers.proofs.Standing.below w n _ _ c.requires.stands, c.requires.room)))
 
 pub tries-returns-then-failed-most : goal.tries-returns-then-failed-most
 tries-returns-then-failed-most t c =
@@ -600,7 +599,7 @@ tick-line-requires t c =
     let many : size (plain c.args.node.now) ≡ suc (sizes (plains c.in-Seq.children.items)) = ap size is in
     let same = ap sizes cs in
     let stand = subst (StandAt w (n + 1)) (sym cs) (Rattle.node_answers.proofs.Standing.below w n _ _ stands) in
-    (omega (arith, many, same), c.requires.view, stand, c.requires.room)
+    (omega (arith, many, same), (c.requires.view, (stand, c.requires.room)))
 
 pub tick-returns-in_ok-line-in-Seq : goal.tick-returns-in_ok-line-in-Seq
 tick-returns-in_ok-line-in-Seq t c =
@@ -624,7 +623,7 @@ tick-line-requires-in-Fallback t c =
     let many : size (plain c.args.node.now) ≡ suc (sizes (plains c.in-Fallback.children.items)) = ap size is in
     let same = ap sizes cs in
     let stand = subst (StandAt w (n + 1)) (sym cs) (Rattle.node_answers.proofs.Standing.below w n _ _ stands) in
-    (omega (arith, many, same), c.requires.view, stand, c.requires.room)
+    (omega (arith, many, same), (c.requires.view, (stand, c.requires.room)))
 
 pub tick-returns-in_ok-line-in-Fallback : goal.tick-returns-in_ok-line-in-Fallback
 tick-returns-in_ok-line-in-Fallback t c =
@@ -648,7 +647,7 @@ tick-star-requires t c =
     let many : size (plain c.args.node.now) ≡ suc (sizes (plains c.in-SeqStar.children.items)) = ap size is in
     let same = ap sizes cs in
     let stand = subst (StandAt w (n + 1)) (sym cs) (Rattle.node_answers.proofs.Standing.below w n _ _ stands) in
-    (omega (arith, many, same), c.requires.view, stand, c.requires.room, (let i = Rattle.node_answers.proofs.Standing.within w (plain c.args.node.now) n c.requires.stands in let one = one-le-size (plain c.args.node.now) in omega (arith, i, one)), omega arith)
+    (omega (arith, many, same), (c.requires.view, (stand, (c.requires.room, ((let i = Rattle.node_answers.proofs.Standing.within w (plain c.args.node.now) n c.requires.stands in let one = one-le-size (plain c.args.node.now) in omega (arith, i, one)), omega arith)))))
 
 pub tick-returns-in_ok-star-in-SeqStar : goal.tick-returns-in_ok-star-in-SeqStar
 tick-returns-in_ok-star-in-SeqStar t c =
@@ -672,7 +671,7 @@ tick-star-requires-in-FallbackStar t c =
     let many : size (plain c.args.node.now) ≡ suc (sizes (plains c.in-FallbackStar.children.items)) = ap size is in
     let same = ap sizes cs in
     let stand = subst (StandAt w (n + 1)) (sym cs) (Rattle.node_answers.proofs.Standing.below w n _ _ stands) in
-    (omega (arith, many, same), c.requires.view, stand, c.requires.room, (let i = Rattle.node_answers.proofs.Standing.within w (plain c.args.node.now) n c.requires.stands in let one = one-le-size (plain c.args.node.now) in omega (arith, i, one)), omega arith)
+    (omega (arith, many, same), (c.requires.view, (stand, (c.requires.room, ((let i = Rattle.node_answers.proofs.Standing.within w (plain c.args.node.now) n c.requires.stands in let one = one-le-size (plain c.args.node.now) in omega (arith, i, one)), omega arith)))))
 
 pub tick-returns-in_ok-star-in-FallbackStar : goal.tick-returns-in_ok-star-in-FallbackStar
 tick-returns-in_ok-star-in-FallbackStar t c =
@@ -696,7 +695,7 @@ tick-all-requires t c =
     let many : size (plain c.args.node.now) ≡ suc (sizes (plains c.in-Par.children.items)) = ap size is in
     let same = ap sizes cs in
     let stand = subst (StandAt w (n + 1)) (sym cs) (Rattle.node_answers.proofs.Standing.below w n _ _ stands) in
-    (omega (arith, many, same), c.requires.view, stand, c.requires.room, omega arith)
+    (omega (arith, many, same), (c.requires.view, (stand, (c.requires.room, omega arith))))
 
 pub tick-returns-in_ok-all-in-Par : goal.tick-returns-in_ok-all-in-Par
 tick-returns-in_ok-all-in-Par t c =
@@ -717,7 +716,7 @@ tick-observe-requires t c =
     let is : plain c.args.node.now ≡ Not (plain c.deref-in-Not.result.now) = ap plain c.in-Not.is ∙ plain-Not c.in-Not.child ∙ ap (λ q. Not (plain q)) (sym c.deref-in-Not.ensures) in
     let stands = subst (StandsAt w n) is c.requires.stands in
     let many : size (plain c.args.node.now) ≡ suc (size (plain c.deref-in-Not.result.now)) = ap size is in
-    (omega (arith, many), c.requires.view, Rattle.node_answers.proofs.Standing.below w n _ _ stands, c.requires.room)
+    (omega (arith, many), (c.requires.view, (Rattle.node_answers.proofs.Standing.below w n _ _ stands, c.requires.room)))
 
 pub tick-returns-in_ok-observe-in-Not : goal.tick-returns-in_ok-observe-in-Not
 tick-returns-in_ok-observe-in-Not t c =
@@ -738,7 +737,7 @@ tick-tries-requires t c =
     let is : plain c.args.node.now ≡ Tries c.in-Tries.most (plain c.deref-in-Tries.result.now) = ap plain c.in-Tries.is ∙ plain-Tries c.in-Tries.most c.in-Tries.child ∙ ap (λ q. Tries c.in-Tries.most (plain q)) (sym c.deref-in-Tries.ensures) in
     let stands = subst (StandsAt w n) is c.requires.stands in
     let many : size (plain c.args.node.now) ≡ suc (size (plain c.deref-in-Tries.result.now)) = ap size is in
-    (omega (arith, many), c.requires.view, stands, c.requires.room)
+    (omega (arith, many), (c.requires.view, (stands, c.requires.room)))
 
 pub tick-returns-in_ok-tries-in-Tries : goal.tick-returns-in_ok-tries-in-Tries
 tick-returns-in_ok-tries-in-Tries t c =
@@ -757,7 +756,7 @@ tick-ticks-requires t c =
     let is : plain c.args.node.now ≡ Ticks c.in-Ticks.most (plain c.deref-in-Ticks.result.now) = ap plain c.in-Ticks.is ∙ plain-Ticks c.in-Ticks.most c.in-Ticks.child ∙ ap (λ q. Ticks c.in-Ticks.most (plain q)) (sym c.deref-in-Ticks.ensures) in
     let stands = subst (StandsAt w n) is c.requires.stands in
     let many : size (plain c.args.node.now) ≡ suc (size (plain c.deref-in-Ticks.result.now)) = ap size is in
-    (omega (arith, many), c.requires.view, stands, c.requires.room)
+    (omega (arith, many), (c.requires.view, (stands, c.requires.room)))
 
 pub tick-returns-in_ok-ticks-in-Ticks : goal.tick-returns-in_ok-ticks-in-Ticks
 tick-returns-in_ok-ticks-in-Ticks t c =
@@ -785,7 +784,7 @@ tick-returns-in_ok-follow-in-Move t c =
     let w = plain_of c.args.self.now.tree.now in
     let v = view_of c.args.self.now.view.now in
     let n = c.args.number in
-    let is : plain c.args.node.now ≡ Move c.in-Move.place = ap plain c.in-Move.is ∙ Rattle.node_answers.proofs.Leaves.plain-Move c.in-Move.place in
+    let is : plain c.args.node.now ≡ Move c.in-Move.place = Rattle.node_answers.proofs.Leaves.moves c.args.node.now c.in-Move.place c.in-Move.is in
     let o = c.in_ok-follow-in-Move.ensures n in
     subst (λ (p : Plain). Observed w (tick v p n) (below v p n) (seen c.args.self.now.answers.now c.args.at.now) c.in_ok-follow-in-Move.field-0 (seen c.args.self.now.answers.now c.follow.new.at)) (sym is)
     (record { result = o.result; told = o.told; room = o.room })

@@ -1,6 +1,5 @@
-use Rattle.std.proofs.Common.{◌≡◌, ◌∙◌, ap, sym, subst}
+use Rattle.std.proofs.Common.{◌∙◌, ap, sym}
 use Rattle.bt_nodes.specs.declared.node.Status.{Status}
-use Rattle.bt_nodes.specs.declared.node.Status.TheVariants.{Success, Failure, Running}
 use Rattle.bt_nodes.specs.Plain.{plain}
 use Rattle.bt_nodes.specs.Trees.{plain_of}
 use Rattle.bt_tick.specs.Views.{view_of}
