@@ -1,0 +1,5 @@
+pub mod Written
+pub mod Parts
+pub mod Standing
+pub mod Leaves
+pub mod Asked
