@@ -7,33 +7,28 @@ use Rattle.game_rules.specs.Game.{Game}
 use Rattle.game_rules.specs.Text.{texts}
 use Rattle.level_text.specs.Games.{spelled_game}
 use Rattle.words.specs.declared.request.Words.{Words}
-use Rattle.words.specs.declared.request.Words.TheVariants.{Piped, Play, Replay, Check, Explain}
-use Rattle.words.specs.Program.{IsReading, AsksToPlay, AsksToReplay}
-use Rattle.words.proofs.Asked.{read_as_play, read_as_replay}
+use Rattle.words.specs.declared.request.Words.TheVariants.{Piped, Play, Replay, Check, Explain, Digest, State, Complete}
+use Rattle.words.specs.Program.{IsReading, AsksToPlay, AsksToReplay, AsksToExplain, AsksToDigest, AsksForState, AsksToComplete}
+use Rattle.words.proofs.Asked.{read_as_play, read_as_replay, read_as_explain, read_as_digest, read_as_state, read_as_complete}
 use Rattle.words.specs.declared.program_fault.Fault.{Fault}
-use Rattle.commands.specs.Doing.{PlaysSome, PlaysPart, ReplaysSome, ReplaysPart, IsDone, IsPartDone}
+use Rattle.words.specs.Faults.{status_in}
+use Rattle.words.proofs.Statuses.{ok_at_zero}
+use Rattle.desync_commands.specs.Texts.{digests_text}
+use Rattle.desync_commands.specs.Written.{WritesSome, WritesPart, CompletesSome, CompletesSomePart}
+use Rattle.desync_commands.proofs.Written.{some_part, writes_part, completes_part}
+use Rattle.stepping.specs.StateText.{scripted_state_text}
+use Rattle.commands.specs.Doing.{PlaysSome, PlaysPart, ReplaysSome, ReplaysPart, ExplainsSome, IsDone, IsPartDone}
 use Rattle.commands.specs.Replaying.{Shows, ShowsPart}
 
 -- ---- playing
 
-some_part : (old new : Option (List ℕ)) (level script : List ℕ) (n : ℕ) (game : Option Game) → spelled_game level script ≡ game
-    → MatchOption game (Keeps old new) (λ g. AppendsPart old new (texts g n)) → PlaysPart old new n
-some_part old new level script n None e h = inl h
-some_part old new level script n (Some g) e h =
-    inr (level, script, subst (λ game. IsSomeAnd game (λ g. AppendsPart old new (texts g n))) (sym e) h)
-
 pub played_part : (old new : Option (List ℕ)) (level script : List ℕ) (n : ℕ)
     → MatchOption (spelled_game level script) (Keeps old new) (λ g. AppendsPart old new (texts g n)) → PlaysPart old new n
-played_part old new level script n h = some_part old new level script n (spelled_game level script) refl h
-
-whole_part : (old new : Option (List ℕ)) (n : ℕ) (game : Option Game) → IsSomeAnd game (λ g. Appends old new (texts g n))
-    → IsSomeAnd game (λ g. AppendsPart old new (texts g n))
-whole_part old new n None h = absurd h
-whole_part old new n (Some g) h = (texts g n, [], sym (append-nil (texts g n)), h)
+played_part old new level script n h = some_part (λ g. texts g n) old new level script h
 
 -- all that is done is a part
 pub plays_part : (old new : Option (List ℕ)) (n : ℕ) → PlaysSome old new n → PlaysPart old new n
-plays_part old new n h = inr (h.0, h.1, whole_part old new n (spelled_game h.0 h.1) h.2)
+plays_part old new n h = writes_part (λ g. texts g n) old new h
 
 -- ---- replaying
 
@@ -62,12 +57,19 @@ done_in_part old new (Play level settings script log) h = plays_part old new set
 done_in_part old new (Replay level log script) h = replays_part old new h
 done_in_part old new (Check level) h = tt
 done_in_part old new (Explain level script log) h = tt
+done_in_part old new (Digest level frames script) h = writes_part (λ g. digests_text g frames) old new h
+done_in_part old new (State level frame script) h = writes_part (λ g. scripted_state_text g frame) old new h
+done_in_part old new (Complete level log whole script) h = completes_part old new h
 
 -- done or not, it is a part
 pub part_of : (r : Result (⊤) Fault) (old new : Option (List ℕ)) (w : Words) → OnOk r (IsDone old new w) → OnErr r (IsPartDone old new w)
     → IsPartDone old new w
 part_of (Ok x) old new w done part = done_in_part old new w done
 part_of (Err f) old new w done part = part
+
+-- a status of 0 says that it is done
+pub done_at_zero : (r : Result (⊤) Fault) (n : ℕ) (old new : Option (List ℕ)) (w : Words) → n ≡ status_in r → OnOk r (IsDone old new w) → n ≡ 0 → IsDone old new w
+done_at_zero r n old new w status done zero = ok_at_zero r n (IsDone old new w) status zero done
 
 -- ---- by the words
 
@@ -90,3 +92,38 @@ pub replayed_in_part : (old new : Option (List ℕ)) (words : List (List ℕ)) (
     → ReplaysPart old new
 replayed_in_part old new words w reading asks done =
     read_as_replay words w (IsPartDone old new) (ReplaysPart old new) reading asks (λ level log script h. h) done
+
+pub explained : (old new : Option (List ℕ)) (words : List (List ℕ)) (w : Words) → IsReading words w → AsksToExplain words → IsDone old new w
+    → ExplainsSome old new
+explained old new words w reading asks done =
+    read_as_explain words w (IsDone old new) (ExplainsSome old new) reading asks (λ level script log h. h) done
+
+pub digested : (old new : Option (List ℕ)) (words : List (List ℕ)) (w : Words) (n : ℕ) → IsReading words w → AsksToDigest words n → IsDone old new w
+    → WritesSome old new (λ g. digests_text g n)
+digested old new words w n reading asks done =
+    read_as_digest words w n (IsDone old new) (λ k. WritesSome old new (λ g. digests_text g k)) reading asks (λ level frames script h. h) done
+
+pub digested_in_part : (old new : Option (List ℕ)) (words : List (List ℕ)) (w : Words) (n : ℕ) → IsReading words w → AsksToDigest words n → IsPartDone old new w
+    → WritesPart old new (λ g. digests_text g n)
+digested_in_part old new words w n reading asks done =
+    read_as_digest words w n (IsPartDone old new) (λ k. WritesPart old new (λ g. digests_text g k)) reading asks (λ level frames script h. h) done
+
+pub told : (old new : Option (List ℕ)) (words : List (List ℕ)) (w : Words) (n : ℕ) → IsReading words w → AsksForState words n → IsDone old new w
+    → WritesSome old new (λ g. scripted_state_text g n)
+told old new words w n reading asks done =
+    read_as_state words w n (IsDone old new) (λ k. WritesSome old new (λ g. scripted_state_text g k)) reading asks (λ level frame script h. h) done
+
+pub told_in_part : (old new : Option (List ℕ)) (words : List (List ℕ)) (w : Words) (n : ℕ) → IsReading words w → AsksForState words n → IsPartDone old new w
+    → WritesPart old new (λ g. scripted_state_text g n)
+told_in_part old new words w n reading asks done =
+    read_as_state words w n (IsPartDone old new) (λ k. WritesPart old new (λ g. scripted_state_text g k)) reading asks (λ level frame script h. h) done
+
+pub completed : (old new : Option (List ℕ)) (words : List (List ℕ)) (w : Words) → IsReading words w → AsksToComplete words → IsDone old new w
+    → CompletesSome old new
+completed old new words w reading asks done =
+    read_as_complete words w (IsDone old new) (CompletesSome old new) reading asks (λ level log whole script h. h) done
+
+pub completed_in_part : (old new : Option (List ℕ)) (words : List (List ℕ)) (w : Words) → IsReading words w → AsksToComplete words → IsPartDone old new w
+    → CompletesSomePart old new
+completed_in_part old new words w reading asks done =
+    read_as_complete words w (IsPartDone old new) (CompletesSomePart old new) reading asks (λ level log whole script h. h) done

@@ -1,5 +1,5 @@
 -- What is done for words that name files, of which no contract says what they hold.
-use Rattle.std.specs.Prelude.{ℕ, ◌⊎◌, List, Option, IsSomeAnd}
+use Rattle.std.specs.Prelude.{ℕ, ◌⊎◌, List, Option, IsSomeAnd, codes}
 use Rattle.std.specs.Io.KnownBytes.{Appends, Keeps}
 use Rattle.byte_streams.specs.Streams.{AppendsPart}
 use Rattle.game_rules.specs.Text.{texts}
@@ -7,7 +7,11 @@ use Rattle.level_text.specs.Games.{spelled_game}
 use Rattle.words.specs.Program.{IsReading, IsNoHelp, IsAskedFor}
 use Rattle.words.specs.declared.fault.WordsFault.{WordsFault}
 use Rattle.words.specs.declared.request.Words.{Words}
-use Rattle.words.specs.declared.request.Words.TheVariants.{Piped, Play, Replay, Check, Explain}
+use Rattle.words.specs.declared.request.Words.TheVariants.{Piped, Play, Replay, Check, Explain, Digest, State, Complete}
+use Rattle.desync_commands.specs.Texts.{digests_text}
+use Rattle.desync_commands.specs.Written.{WritesSome, WritesPart, CompletesSome, CompletesSomePart}
+use Rattle.stepping.specs.StateText.{scripted_state_text}
+use Rattle.commands.specs.Explaining.{IsFaultless}
 use Rattle.commands.specs.Replaying.{Shows, ShowsPart}
 
 -- the first frames of the game that some level and script spell were written
@@ -28,6 +32,11 @@ abbrev pub ReplaysPart : (old new : Option (List ℕ)) → Type 0
 ReplaysPart old new =
     Keeps old new ⊎ ((level : List ℕ) × (script : List ℕ) × (log : List ℕ) × IsSomeAnd (spelled_game level script) (ShowsPart old new log))
 
+-- `ok` was written, and some level and script spell a game, of which the log, where the words name one, is whole
+abbrev pub ExplainsSome : (old new : Option (List ℕ)) → Type 0
+ExplainsSome old new =
+    (level : List ℕ) × (script : List ℕ) × (log : Option (List ℕ)) × IsFaultless level script log × Appends old new (codes "ok\n")
+
 -- by clap's reading the words are no command's, and don't ask for help
 abbrev pub AreRefused : List (List ℕ) → Type 0
 AreRefused words = ((w : Words) → IsReading words w → ⊥) × ((f : WordsFault) → IsAskedFor words f → IsNoHelp f)
@@ -38,7 +47,10 @@ IsDone old new Piped = Unit {0}
 IsDone old new (Play level settings script log) = PlaysSome old new settings.frames
 IsDone old new (Replay level log script) = ReplaysSome old new
 IsDone old new (Check level) = Unit {0}
-IsDone old new (Explain level script log) = Unit {0}
+IsDone old new (Explain level script log) = ExplainsSome old new
+IsDone old new (Digest level frames script) = WritesSome old new (λ g. digests_text g frames)
+IsDone old new (State level frame script) = WritesSome old new (λ g. scripted_state_text g frame)
+IsDone old new (Complete level log whole script) = CompletesSome old new
 
 -- or a part of it
 abbrev pub IsPartDone : (old new : Option (List ℕ)) → Words → Type 0
@@ -47,3 +59,6 @@ IsPartDone old new (Play level settings script log) = PlaysPart old new settings
 IsPartDone old new (Replay level log script) = ReplaysPart old new
 IsPartDone old new (Check level) = Unit {0}
 IsPartDone old new (Explain level script log) = Unit {0}
+IsPartDone old new (Digest level frames script) = WritesPart old new (λ g. digests_text g frames)
+IsPartDone old new (State level frame script) = WritesPart old new (λ g. scripted_state_text g frame)
+IsPartDone old new (Complete level log whole script) = CompletesSomePart old new

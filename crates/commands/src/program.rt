@@ -1,44 +1,77 @@
 // What the program does with its words.
-ghost use Rattle.std.specs.Prelude.{◌≡◌, ◌≢◌, ℕ, [], None, map, string_bytes, IfSome, IsSomeAnd, MatchOption, OnOk, OnErr};
+ghost use Rattle.std.specs.Prelude.{◌≡◌, ◌≢◌, ℕ, [], None, map, string_bytes, IfSome, IsSomeAnd, MatchOption};
 ghost use Rattle.std.specs.Io.KnownBytes.{Appends, Keeps};
 ghost use Rattle.game_rules.specs.Text.{texts};
-ghost use Rattle.commands.specs.Doing.{PlaysSome, PlaysPart, ReplaysSome, ReplaysPart, AreRefused, IsDone, IsPartDone};
+ghost use Rattle.commands.specs.Doing.{PlaysSome, PlaysPart, ReplaysSome, ReplaysPart, ExplainsSome, AreRefused, IsDone, IsPartDone};
 ghost use Rattle.level_text.specs.Games.{spelled_game};
 ghost use Rattle.byte_streams.specs.Streams.{AppendsPart};
-ghost use Rattle.words.specs.Program.{AsksToPlay, AsksToReplay};
+ghost use Rattle.desync_commands.specs.Texts.{digests_text};
+ghost use Rattle.desync_commands.specs.Written.{WritesSome, WritesPart, CompletesSome, CompletesSomePart};
+ghost use Rattle.stepping.specs.StateText.{scripted_state_text};
+ghost use Rattle.words.specs.Program.{AsksToPlay, AsksToReplay, AsksToExplain, AsksToDigest, AsksForState, AsksToComplete};
 
 use crate::checking::check_file;
 use crate::explaining::explain_files;
 use crate::playing::{play_files, play_input};
 use crate::replaying::replay_files;
+use desync_commands::{complete_files, digest_files, state_files};
 use std::alloc::Global;
 use std::io::{Read, Write};
 use std::rt::Files;
 use std::sync::Wait;
 use std::thread::Threads;
-use words::{Fault, Words, end_with, read_words, refuse_words};
+use words::{Words, end_with, read_words, refuse_words};
 
-/// Does what words ask for that name a level's file.
-fn act<H: Files + Threads + Wait + Sync, W: Write>(
+/// Does what words ask for that name a level's file, and gives the status with which the program ends.
+#[tactic(auto, using(crate::proofs::Doing::done_at_zero, crate::proofs::Doing::part_of))]
+fn act<H: Files + Threads + Wait + Sync, W: Write, E: Write>(
     rt: &H,
     alloc: Global,
     words: Words,
     out: &mut W,
-) -> Result<(), Fault>
-    ensures ok { OnOk result (IsDone (W.contents out.old) (W.contents out.new) words) }
-    ensures part { OnErr result (IsPartDone (W.contents out.old) (W.contents out.new) words) }
+    err: &mut E,
+) -> u8
+    ensures done { result ≡ 0 → IsDone (W.contents out.old) (W.contents out.new) words }
+    ensures part { IsPartDone (W.contents out.old) (W.contents out.new) words }
 {
     match words {
-        // `command` does these itself.
-        Words::Piped | Words::Explain { .. } => Ok(()),
+        // `command` does it itself.
+        Words::Piped => 0,
         Words::Play {
             level,
             settings,
             script,
             log,
-        } => play_files(rt, alloc, level, settings, script, log, out),
-        Words::Replay { level, log, script } => replay_files(rt, alloc, level, log, script, out),
-        Words::Check { level } => check_file(rt, alloc, level, out),
+        } => end_with(
+            play_files(rt, alloc, level, settings, script, log, out),
+            err,
+        ),
+        Words::Replay { level, log, script } => {
+            end_with(replay_files(rt, alloc, level, log, script, out), err)
+        }
+        Words::Check { level } => end_with(check_file(rt, alloc, level, out), err),
+        Words::Explain { level, script, log } => {
+            explain_files(rt, alloc, level, script, log, out, err)
+        }
+        Words::Digest {
+            level,
+            frames,
+            script,
+        } => end_with(digest_files(rt, alloc, level, frames, script, out), err),
+        Words::State {
+            level,
+            frame,
+            script,
+        } => end_with(state_files(rt, alloc, level, frame, script, out), err),
+        Words::Complete {
+            level,
+            log,
+            whole,
+            script,
+        } => end_with(
+            complete_files(rt, alloc, level, log, whole, script, out),
+            err,
+        ),
     }
 }
 
@@ -71,6 +104,20 @@ pub fn command<H: Files + Threads + Wait + Sync, R: Read, W: Write, E: Write>(
         → ReplaysSome (W.contents out.old) (W.contents out.new) }
     ensures replayed_part { AsksToReplay (map string_bytes words.now)
         → ReplaysPart (W.contents out.old) (W.contents out.new) }
+    ensures explained { AsksToExplain (map string_bytes words.now) → result ≡ 0
+        → ExplainsSome (W.contents out.old) (W.contents out.new) }
+    ensures digests { (frames : ℕ) → AsksToDigest (map string_bytes words.now) frames → result ≡ 0
+        → WritesSome (W.contents out.old) (W.contents out.new) (λ g. digests_text g frames) }
+    ensures digests_part { (frames : ℕ) → AsksToDigest (map string_bytes words.now) frames
+        → WritesPart (W.contents out.old) (W.contents out.new) (λ g. digests_text g frames) }
+    ensures state { (frame : ℕ) → AsksForState (map string_bytes words.now) frame → result ≡ 0
+        → WritesSome (W.contents out.old) (W.contents out.new) (λ g. scripted_state_text g frame) }
+    ensures state_part { (frame : ℕ) → AsksForState (map string_bytes words.now) frame
+        → WritesPart (W.contents out.old) (W.contents out.new) (λ g. scripted_state_text g frame) }
+    ensures completed { AsksToComplete (map string_bytes words.now) → result ≡ 0
+        → CompletesSome (W.contents out.old) (W.contents out.new) }
+    ensures completed_part { AsksToComplete (map string_bytes words.now)
+        → CompletesSomePart (W.contents out.old) (W.contents out.new) }
     ensures refused_words { AreRefused (map string_bytes words.now) → result ≢ 0 }
     ensures unwritten { AreRefused (map string_bytes words.now) → W.contents out.new ≡ W.contents out.old }
 {
@@ -79,13 +126,7 @@ pub fn command<H: Files + Threads + Wait + Sync, R: Read, W: Write, E: Write>(
             Ok(()) => 0,
             Err(fault) => fault.report(err),
         },
-        Ok(Words::Explain { level, script, log }) => {
-            explain_files(rt, alloc, level, script, log, out, err)
-        }
-        Ok(words) => {
-            let done = act(rt, alloc, words, out);
-            end_with(done, err)
-        }
+        Ok(words) => act(rt, alloc, words, out, err),
         Err(fault) => refuse_words(fault, out, err),
     }
 }

@@ -3,12 +3,13 @@ use Rattle.std.proofs.Common.{◌≡◌, ◌≢◌, ◌∙◌, ◌⊎◌, inl, i
 use Rattle.std.specs.Prelude.{String, string_bytes}
 use Rattle.clap.specs.Words.{App, Text, HasKind, HasMatchesOf, IsAmong, fault_of, kind_of, is_simple, is_simple_and_free, subcommand_of}
 use Rattle.clap.specs.declared.error.Error.{Error}
+use Rattle.clap.specs.declared.error.kind.ErrorKind.{ErrorKind}
 use Rattle.clap.specs.declared.error.kind.ErrorKind.TheVariants as kinds
 use Rattle.clap.specs.declared.parser.matches.ArgMatches.{ArgMatches}
 use Rattle.clap.proofs.OnLiterals.{clap_on_literals}
 use Rattle.words.specs.declared.fault.WordsFault.{WordsFault}
-use Rattle.words.specs.declared.fault.WordsFault.TheVariants.{OutOfMemory, Help, Refused}
-use Rattle.words.specs.Program.{IsNoHelp}
+use Rattle.words.specs.declared.fault.WordsFault.TheVariants.{OutOfMemory, Help, Version, Refused}
+use Rattle.words.specs.Program.{IsToldAs}
 use Rattle.view_commands.specs.Program.{IsAskedFor, IsEntered, program}
 
 pub simple : is_simple program ≡ true
@@ -30,15 +31,15 @@ entered a words m e h taken some name rows pair =
     let whole : fault_of a words ≡ [] = taken (ap is_simple_and_free e ∙ free) in
     (some, sym (ap (λ (p : App). fault_of p words) e) ∙ whole, sym (ap (λ (p : App). subcommand_of p words) e) ∙ sym matches.1 ∙ pair)
 
-asks : (a : App) (words : List Text) (e : Error) → a ≡ program → HasKind (fault_of a words) e → kind_of e ≡ kinds.DisplayHelp
-    → IsAmong kinds.DisplayHelp (fault_of program words)
-asks a words e same (inl memory) help = cc
-asks a words e same (inr among) help =
-    subst (λ (p : App). IsAmong kinds.DisplayHelp (fault_of p words)) same (subst (λ k. IsAmong k (fault_of a words)) help among)
+asks : (a : App) (words : List Text) (e : Error) (kind : ErrorKind) → a ≡ program → HasKind (fault_of a words) e → kind_of e ≡ kind → kind ≢ kinds.OutOfMemory
+    → IsAmong kind (fault_of program words)
+asks a words e kind same (inl memory) is other = absurd (other (sym is ∙ memory))
+asks a words e kind same (inr among) is other =
+    subst (λ (p : App). IsAmong kind (fault_of p words)) same (subst (λ k. IsAmong k (fault_of a words)) is among)
 
 pub asked_for : (a : App) (words : List Text) (e : Error) (fault : WordsFault) → a ≡ program → (is_simple_and_free a ≡ true → HasKind (fault_of a words) e)
-    → IsNoHelp fault ⊎ (kind_of e ≡ kinds.DisplayHelp) → IsAskedFor words fault
+    → IsToldAs (kind_of e) fault → IsAskedFor words fault
 asked_for a words e OutOfMemory same has said = tt
-asked_for a words e (Help text) same has (inl none) = absurd none
-asked_for a words e (Help text) same has (inr help) = asks a words e same (has (ap is_simple_and_free same ∙ free)) help
+asked_for a words e (Help text) same has help = asks a words e kinds.DisplayHelp same (has (ap is_simple_and_free same ∙ free)) help (λ same. cc)
+asked_for a words e (Version text) same has version = asks a words e kinds.DisplayVersion same (has (ap is_simple_and_free same ∙ free)) version (λ same. cc)
 asked_for a words e (Refused text) same has said = tt

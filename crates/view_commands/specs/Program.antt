@@ -6,7 +6,7 @@ use Rattle.clap.specs.declared.parser.matches.ArgMatches.{ArgMatches}
 use Rattle.clap.specs.Simple.{on_top}
 use Rattle.trace_text.specs.declared.span.FrameSpan.{FrameSpan}
 use Rattle.words.specs.declared.fault.WordsFault.{WordsFault}
-use Rattle.words.specs.declared.fault.WordsFault.TheVariants.{Help}
+use Rattle.words.specs.declared.fault.WordsFault.TheVariants.{Help, Version}
 use Rattle.words.specs.Program.{default_rule, path_rule, word_rule, IsNumber, IsOptional, IsText}
 use Rattle.view_commands.specs.declared.request.View.{View}
 use Rattle.view_commands.specs.declared.request.View.TheVariants.{Trace, Page}
@@ -27,7 +27,7 @@ page =
 
 -- the viewer with its first command, and with both
 abbrev pub with_trace : App
-with_trace = with_subcommand (on_top (λ s. record s { no_binary_name = true }) (new_app (codes "btview"))) trace.top
+with_trace = with_subcommand (on_top (λ s. record s { no_binary_name = true; has_version = true }) (new_app (codes "btview"))) trace.top
 
 abbrev pub program : App
 program = with_subcommand with_trace page.top
@@ -40,9 +40,10 @@ Enters words name rows = (words ≢ []) × (fault_of program words ≡ []) × (s
 abbrev pub IsEntered : List Text → ArgMatches → Type 0
 IsEntered words m = (name : Text) (rows : List Row) → subcommand_rows_of m ≡ Some (name, rows) → Enters words name rows
 
--- clap finds a fault in the words, which don't ask for help
+-- clap finds a fault in the words, which ask neither for help nor for the version
 abbrev pub AreRefused : List Text → Type 0
-AreRefused words = (words ≢ []) × (fault_of program words ≢ []) × (IsAmong kinds.DisplayHelp (fault_of program words) → ⊥)
+AreRefused words =
+    (words ≢ []) × (fault_of program words ≢ []) × (IsAmong kinds.DisplayHelp (fault_of program words) → ⊥) × (IsAmong kinds.DisplayVersion (fault_of program words) → ⊥)
 
 -- the frames that the entries name; clap's reading has an entry with the default where the words have none
 abbrev pub AreFrames : List Row → FrameSpan → Type 0
@@ -62,7 +63,8 @@ IsReading words (Trace log frames) = (rows : List Row) × Enters words (codes "t
 IsReading words (Page level log script frames) = (rows : List Row) × Enters words (codes "page") rows × IsText rows (codes "level") level
     × IsText rows (codes "log") log × IsOptional rows (codes "script") script × AreFrames rows frames
 
--- help is answered only where clap finds that the words ask for it
+-- help or the version is answered only where clap finds that the words ask for it
 abbrev pub IsAskedFor : List Text → WordsFault → Type 0
 IsAskedFor words (Help text) = IsAmong kinds.DisplayHelp (fault_of program words)
+IsAskedFor words (Version text) = IsAmong kinds.DisplayVersion (fault_of program words)
 IsAskedFor words _ = Unit {0}

@@ -6,7 +6,7 @@ ghost use Rattle.view_commands.specs.Program.{program};
 
 use clap::Command;
 use std::alloc::{AllocError, Global};
-use words::{Argument, Form, Subcommand, new_command, with_subcommands};
+use words::{Argument, Form, Subcommand, VERSION, new_command, with_subcommands};
 
 const ABOUT: &str =
     "Shows runs of btworld: their frames, and what their workers did, event by event.";
@@ -76,10 +76,11 @@ pub static SUBCOMMANDS: [Subcommand; 2] = [
 ];
 
 fn top_command<'a>(alloc: Global) -> Command<'a>
-    ensures { app_of result ≡ on_top (λ s. record s { no_binary_name = true }) (new_app (codes "btview")) }
+    ensures { app_of result ≡ on_top (λ s. record s { no_binary_name = true; has_version = true }) (new_app (codes "btview")) }
 {
     new_command(alloc, "btview", ABOUT, "btview <COMMAND>")
         .no_binary_name(true)
+        .version(VERSION)
         .after_help(STATUSES)
 }
 

@@ -33,6 +33,7 @@ above_zero faults.LogHead = omega arith
 above_zero (faults.LogLine n) = omega arith
 above_zero (faults.IllegalEvent n) = omega arith
 above_zero (faults.Incomplete shown frames) = omega arith
+above_zero faults.Stopped = omega arith
 above_zero faults.Write = omega arith
 above_zero faults.Spawn = omega arith
 above_zero faults.GateClosed = omega arith

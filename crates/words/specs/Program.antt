@@ -2,15 +2,16 @@
 use Rattle.std.specs.Prelude.{ℕ, ◌≡◌, ◌≢◌, List, [], ◌∷◌, Some, Option, codes, pos, string_bytes, true, option_map, String}
 use Rattle.std.specs.Str.Parse.{digits_value, without_leading_plus}
 use Rattle.clap.specs.Words.{App, IsAmong, Row, Rule, Text, fault_of, first_of, new_app, new_rule, subcommand_of, with_rule, with_subcommand}
+use Rattle.clap.specs.declared.error.kind.ErrorKind.{ErrorKind}
 use Rattle.clap.specs.declared.error.kind.ErrorKind.TheVariants as kinds
 use Rattle.clap.specs.Simple.{on_top}
 use Rattle.clap.specs.declared.builder.value_parser.ValueParser.{ValueParser}
 use Rattle.clap.specs.declared.builder.value_parser.ValueParser.TheVariants as parsers
 use Rattle.job_scheduler.specs.Numbers.{Numbers}
 use Rattle.words.specs.declared.fault.WordsFault.{WordsFault}
-use Rattle.words.specs.declared.fault.WordsFault.TheVariants.{Help}
+use Rattle.words.specs.declared.fault.WordsFault.TheVariants.{Help, Version}
 use Rattle.words.specs.declared.request.Words.{Words}
-use Rattle.words.specs.declared.request.Words.TheVariants.{Piped, Play, Replay, Check, Explain}
+use Rattle.words.specs.declared.request.Words.TheVariants.{Piped, Play, Replay, Check, Explain, Digest, State, Complete}
 
 -- takes a number in a range
 abbrev pub in_range : ℕ → ℕ → ValueParser
@@ -66,9 +67,27 @@ check = with_rule (new_app (codes "check")) (word_rule (codes "level"))
 abbrev pub explain : App
 explain = with_files (with_rule (new_app (codes "explain")) (word_rule (codes "level")))
 
--- the program with its first command, with two, with three, and with all
+-- a level, a number of frames and `[--script FILE]`
+abbrev pub frames_of_level : Text → Text → App
+frames_of_level name number = with_rule (with_rule (with_rule (new_app name) (word_rule (codes "level"))) (number_rule number 0 9999)) (path_rule (codes "script"))
+
+-- `digest LEVEL --frames N [--script FILE]`
+abbrev pub digest : App
+digest = frames_of_level (codes "digest") (codes "frames")
+
+-- `state LEVEL --frame F [--script FILE]`
+abbrev pub state : App
+state = frames_of_level (codes "state") (codes "frame")
+
+-- `complete LEVEL LOG WHOLE [--script FILE]`
+abbrev pub complete : App
+complete =
+    with_rule (with_rule (with_rule (with_rule (new_app (codes "complete")) (word_rule (codes "level"))) (word_rule (codes "log"))) (word_rule (codes "whole")))
+    (path_rule (codes "script"))
+
+-- the program with its first command, with more, and with all
 abbrev pub with_play : App
-with_play = with_subcommand (on_top (λ s. record s { no_binary_name = true }) (new_app (codes "btworld"))) play.top
+with_play = with_subcommand (on_top (λ s. record s { no_binary_name = true; has_version = true }) (new_app (codes "btworld"))) play.top
 
 abbrev pub with_replay : App
 with_replay = with_subcommand with_play replay.top
@@ -76,8 +95,17 @@ with_replay = with_subcommand with_play replay.top
 abbrev pub with_check : App
 with_check = with_subcommand with_replay check.top
 
+abbrev pub with_explain : App
+with_explain = with_subcommand with_check explain.top
+
+abbrev pub with_digest : App
+with_digest = with_subcommand with_explain digest.top
+
+abbrev pub with_state : App
+with_state = with_subcommand with_digest state.top
+
 abbrev pub program : App
-program = with_subcommand with_check explain.top
+program = with_subcommand with_state complete.top
 
 -- the decimal value of an entry
 abbrev pub IsNumber : Option Text → ℕ → Type 0
@@ -106,6 +134,22 @@ AsksToPlay words frames = (rows : List Row) × Enters words (codes "play") rows 
 abbrev pub AsksToReplay : List Text → Type 0
 AsksToReplay words = (rows : List Row) × Enters words (codes "replay") rows
 
+-- the words are taken for `explain`
+abbrev pub AsksToExplain : List Text → Type 0
+AsksToExplain words = (rows : List Row) × Enters words (codes "explain") rows
+
+-- the words are taken for `digest` with so many frames
+abbrev pub AsksToDigest : List Text → ℕ → Type 0
+AsksToDigest words frames = (rows : List Row) × Enters words (codes "digest") rows × IsNumber (first_of (codes "frames") rows) frames
+
+-- the words are taken for `state` of this frame
+abbrev pub AsksForState : List Text → ℕ → Type 0
+AsksForState words frame = (rows : List Row) × Enters words (codes "state") rows × IsNumber (first_of (codes "frame") rows) frame
+
+-- the words are taken for `complete`
+abbrev pub AsksToComplete : List Text → Type 0
+AsksToComplete words = (rows : List Row) × Enters words (codes "complete") rows
+
 -- no words, or the subcommand and the entries of clap's reading
 abbrev pub IsReading : List Text → Words → Type 0
 IsReading words Piped = words ≡ []
@@ -116,12 +160,27 @@ IsReading words (Replay level log script) = (rows : List Row) × Enters words (c
 IsReading words (Check level) = (rows : List Row) × Enters words (codes "check") rows × IsText rows (codes "level") level
 IsReading words (Explain level script log) = (rows : List Row) × Enters words (codes "explain") rows × IsText rows (codes "level") level
     × IsOptional rows (codes "script") script × IsOptional rows (codes "log") log
+IsReading words (Digest level frames script) = (rows : List Row) × Enters words (codes "digest") rows × IsText rows (codes "level") level
+    × IsNumber (first_of (codes "frames") rows) frames × IsOptional rows (codes "script") script
+IsReading words (State level frame script) = (rows : List Row) × Enters words (codes "state") rows × IsText rows (codes "level") level
+    × IsNumber (first_of (codes "frame") rows) frame × IsOptional rows (codes "script") script
+IsReading words (Complete level log whole script) = (rows : List Row) × Enters words (codes "complete") rows × IsText rows (codes "level") level
+    × IsText rows (codes "log") log × IsText rows (codes "whole") whole × IsOptional rows (codes "script") script
 
+-- neither help nor the version was asked for
 abbrev pub IsNoHelp : WordsFault → Type 0
 IsNoHelp (Help text) = ⊥
+IsNoHelp (Version text) = ⊥
 IsNoHelp _ = Unit {0}
 
--- help is answered only where clap finds that the words ask for it
+-- help and the version are told only of an error that is it
+abbrev pub IsToldAs : ErrorKind → WordsFault → Type 0
+IsToldAs kind (Help text) = kind ≡ kinds.DisplayHelp
+IsToldAs kind (Version text) = kind ≡ kinds.DisplayVersion
+IsToldAs kind _ = Unit {0}
+
+-- help or the version is answered only where clap finds that the words ask for it
 abbrev pub IsAskedFor : List Text → WordsFault → Type 0
 IsAskedFor words (Help text) = IsAmong kinds.DisplayHelp (fault_of program words)
+IsAskedFor words (Version text) = IsAmong kinds.DisplayVersion (fault_of program words)
 IsAskedFor words _ = Unit {0}

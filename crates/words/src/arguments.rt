@@ -79,11 +79,15 @@ fn subcommand_of<'a>(alloc: Global, subcommand: &Subcommand) -> Result<Command<'
     with_arguments(alloc, command, subcommand.arguments)
 }
 
+/// The program's version, and that of the logs that it writes.
+pub const VERSION: &str = "2.0.0, log 2";
+
 fn top_command<'a>(alloc: Global) -> Command<'a>
-    ensures { app_of result ≡ on_top (λ s. record s { no_binary_name = true }) (new_app (codes "btworld")) }
+    ensures { app_of result ≡ on_top (λ s. record s { no_binary_name = true; has_version = true }) (new_app (codes "btworld")) }
 {
     new_command(alloc, "btworld", ABOUT, "btworld\n       btworld <COMMAND>")
         .no_binary_name(true)
+        .version(VERSION)
         .after_help(STATUSES)
 }
 

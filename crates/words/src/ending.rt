@@ -19,7 +19,7 @@ pub fn end_with<E: Write>(done: Result<(), Fault>, err: &mut E) -> u8
     }
 }
 
-/// Says why words are not done, on `out` where help was asked for, and gives the status with which the program ends.
+/// Says why words are not done, on `out` where help or the version was asked for, and gives the status with which the program ends.
 pub fn refuse_words<W: Write, E: Write>(fault: WordsFault, out: &mut W, err: &mut E) -> u8
     ensures refused { IsNoHelp fault → result ≢ 0 }
     ensures memory { fault ≡ WordsFault.OutOfMemory → result ≡ 3 }
@@ -28,7 +28,10 @@ pub fn refuse_words<W: Write, E: Write>(fault: WordsFault, out: &mut W, err: &mu
 {
     match fault {
         WordsFault::OutOfMemory => Fault::OutOfMemory.report(err),
-        WordsFault::Help(text) => end_with(put(out, text.as_bytes()), err),
+        WordsFault::Help(text) | WordsFault::Version(text) => end_with(
+            put(out, text.as_bytes()),
+            err,
+        ),
         WordsFault::Refused(text) => {
             let _ = write_whole(err, text.as_bytes());
             2

@@ -6,6 +6,8 @@ pub enum WordsFault {
     OutOfMemory,
     /// The help that was asked for.
     Help(String),
+    /// The version that was asked for.
+    Version(String),
     /// What is wrong with the words.
     Refused(String),
 }

@@ -45,6 +45,8 @@ pub enum Fault {
     IllegalEvent(u64),
     #[error("log: incomplete, {shown} of {frames} frames")]
     Incomplete { shown: u32, frames: u32 },
+    #[error("log: stopped")]
+    Stopped,
     #[error("run: write")]
     Write,
     #[error("run: spawn")]

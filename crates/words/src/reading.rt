@@ -1,5 +1,5 @@
 ghost use Rattle.std.specs.Prelude.{◌≡◌, ◌⊎◌, ℕ, List, [], codes, map, string_bytes, IfOk, IfErr};
-ghost use Rattle.words.specs.Program.{IsReading, Enters, AreNumbers, IsNoHelp, IsAskedFor};
+ghost use Rattle.words.specs.Program.{IsReading, Enters, AreNumbers, IsNoHelp, IsAskedFor, IsToldAs};
 ghost use Rattle.words.specs.Entered.{IsEntered};
 ghost use Rattle.clap.specs.Words.{found_of, kind_of, rows_of};
 
@@ -22,7 +22,7 @@ pub fn fault_of(
     words: &[String],
     error: &Error,
 ) -> WordsFault
-    ensures { IsNoHelp result ⊎ (kind_of error.now ≡ ErrorKind.DisplayHelp) }
+    ensures { IsToldAs (kind_of error.now) result }
 {
     if error.kind() == ErrorKind::OutOfMemory {
         return WordsFault::OutOfMemory;
@@ -32,6 +32,9 @@ pub fn fault_of(
     };
     if error.kind() == ErrorKind::DisplayHelp {
         return WordsFault::Help(text);
+    }
+    if error.kind() == ErrorKind::DisplayVersion {
+        return WordsFault::Version(text);
     }
     if error.kind() != ErrorKind::UnknownArgument {
         return WordsFault::Refused(text);
@@ -105,6 +108,43 @@ fn explain_words(alloc: Global, matches: &ArgMatches<'_>) -> Result<Words, Words
     })
 }
 
+fn digest_words(alloc: Global, matches: &ArgMatches<'_>) -> Result<Words, WordsFault>
+    ensures reading { IfOk result (λ w. (ws : List (List ℕ))
+        → Enters ws (codes "digest") (rows_of (found_of matches.now)) → IsReading ws w) }
+    ensures fault { IfErr result IsNoHelp }
+{
+    Ok(Words::Digest {
+        level: text_entry(alloc, matches, "level")?,
+        frames: number_entry(alloc, matches, "frames")?,
+        script: optional_entry(alloc, matches, "script")?,
+    })
+}
+
+fn state_words(alloc: Global, matches: &ArgMatches<'_>) -> Result<Words, WordsFault>
+    ensures reading { IfOk result (λ w. (ws : List (List ℕ))
+        → Enters ws (codes "state") (rows_of (found_of matches.now)) → IsReading ws w) }
+    ensures fault { IfErr result IsNoHelp }
+{
+    Ok(Words::State {
+        level: text_entry(alloc, matches, "level")?,
+        frame: number_entry(alloc, matches, "frame")?,
+        script: optional_entry(alloc, matches, "script")?,
+    })
+}
+
+fn complete_words(alloc: Global, matches: &ArgMatches<'_>) -> Result<Words, WordsFault>
+    ensures reading { IfOk result (λ w. (ws : List (List ℕ))
+        → Enters ws (codes "complete") (rows_of (found_of matches.now)) → IsReading ws w) }
+    ensures fault { IfErr result IsNoHelp }
+{
+    Ok(Words::Complete {
+        level: text_entry(alloc, matches, "level")?,
+        log: text_entry(alloc, matches, "log")?,
+        whole: text_entry(alloc, matches, "whole")?,
+        script: optional_entry(alloc, matches, "script")?,
+    })
+}
+
 /// What the command asks for that clap's matches have entered.
 fn command_words(alloc: Global, matches: &ArgMatches<'_>) -> Result<Words, WordsFault>
     ensures reading { IfOk result (λ w. (ws : List (List ℕ)) → IsEntered ws matches.now → IsReading ws w) }
@@ -115,6 +155,9 @@ fn command_words(alloc: Global, matches: &ArgMatches<'_>) -> Result<Words, Words
         Some(("replay", replay)) => replay_words(alloc, replay),
         Some(("check", check)) => check_words(alloc, check),
         Some(("explain", explain)) => explain_words(alloc, explain),
+        Some(("digest", digest)) => digest_words(alloc, digest),
+        Some(("state", state)) => state_words(alloc, state),
+        Some(("complete", complete)) => complete_words(alloc, complete),
         _ => Err(missing(alloc, "command")),
     }
 }
@@ -122,7 +165,7 @@ fn command_words(alloc: Global, matches: &ArgMatches<'_>) -> Result<Words, Words
 /// Reads the words after the program's name.
 ///
 /// Words that clap refuses, numbers out of their limits among them, are `Refused` with clap's text; `--help` is
-/// `Help` with its text. Where a growth is refused while clap makes that text, the text may be shorter.
+/// `Help` with its text, and `--version` is `Version`. Where a growth is refused while clap makes that text, the text may be shorter.
 pub fn read_words(alloc: Global, words: &[String]) -> Result<Words, WordsFault>
     ensures reading { IfOk result (IsReading (map string_bytes words.now)) }
     ensures none { words.now ≡ [] → result ≡ Ok Words.Piped }

@@ -29,4 +29,24 @@ pub enum Words {
         script: Option<String>,
         log: Option<String>,
     },
+    /// Print the digest of each frame's state.
+    Digest {
+        level: String,
+        frames: u32,
+        script: Option<String>,
+    },
+    /// Print the state after a frame.
+    State {
+        level: String,
+        frame: u32,
+        script: Option<String>,
+    },
+    /// Print all frames of an interrupted log's run, and write its whole log.
+    Complete {
+        level: String,
+        log: String,
+        /// Where the whole log is written.
+        whole: String,
+        script: Option<String>,
+    },
 }

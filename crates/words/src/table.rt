@@ -49,7 +49,7 @@ const SCRIPT: Argument = Argument {
     form: Form::Path,
 };
 
-pub static SUBCOMMANDS: [Subcommand; 4] = [
+pub static SUBCOMMANDS: [Subcommand; 7] = [
     Subcommand {
         name: "play",
         about: "Plays a level and prints its frames on standard output.",
@@ -136,6 +136,59 @@ pub static SUBCOMMANDS: [Subcommand; 4] = [
                 help: "The log file, as `play --log` writes it",
                 form: Form::Path,
             },
+        ],
+    },
+    Subcommand {
+        name: "digest",
+        about: "Prints the digests of a level and a script, and then that of the state after each frame: two machines compare them.",
+        usage: "btworld digest LEVEL --frames N [--script FILE]",
+        arguments: &[
+            LEVEL,
+            Argument {
+                name: "frames",
+                help: "How many frames, 0 to 9999",
+                form: Form::Number {
+                    least: 0,
+                    most: 9999,
+                },
+            },
+            SCRIPT,
+        ],
+    },
+    Subcommand {
+        name: "state",
+        about: "Prints the state after a frame, a line for each agent and each item: two machines compare it.",
+        usage: "btworld state LEVEL --frame F [--script FILE]",
+        arguments: &[
+            LEVEL,
+            Argument {
+                name: "frame",
+                help: "After which frame, 0 to 9999",
+                form: Form::Number {
+                    least: 0,
+                    most: 9999,
+                },
+            },
+            SCRIPT,
+        ],
+    },
+    Subcommand {
+        name: "complete",
+        about: "Goes on where the log of an interrupted run breaks off, prints all frames, and writes the log of the whole run.",
+        usage: "btworld complete LEVEL LOG WHOLE [--script FILE]",
+        arguments: &[
+            LEVEL,
+            Argument {
+                name: "log",
+                help: "The log file; a last line without its line feed is left out",
+                form: Form::Place,
+            },
+            Argument {
+                name: "whole",
+                help: "Where the whole log is written, once all frames are",
+                form: Form::Place,
+            },
+            SCRIPT,
         ],
     },
 ];

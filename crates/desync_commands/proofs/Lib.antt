@@ -1,0 +1,5 @@
+pub mod Written
+pub mod Stepped
+pub mod Compared
+pub mod Completed
+pub mod Lines

@@ -1,0 +1,4 @@
+pub mod Texts
+pub mod Opening
+pub mod Completing
+pub mod Written
