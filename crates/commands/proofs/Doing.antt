@@ -17,7 +17,7 @@ use Rattle.desync_commands.specs.Texts.{digests_text}
 use Rattle.desync_commands.specs.Written.{WritesSome, WritesPart, CompletesSome, CompletesSomePart}
 use Rattle.desync_commands.proofs.Written.{some_part, writes_part, completes_part}
 use Rattle.stepping.specs.StateText.{scripted_state_text}
-use Rattle.commands.specs.Doing.{PlaysSome, PlaysPart, ReplaysSome, ReplaysPart, ExplainsSome, IsDone, IsPartDone}
+use Rattle.commands.specs.Doing.{PlaysSome, PlaysPart, ReplaysSome, ReplaysPart, ExplainsSome, AsksNoReason, IsDone, IsPartDone}
 use Rattle.commands.specs.Replaying.{Shows, ShowsPart}
 
 -- ---- playing
@@ -70,6 +70,17 @@ part_of (Err f) old new w done part = part
 -- a status of 0 says that it is done
 pub done_at_zero : (r : Result (⊤) Fault) (n : ℕ) (old new : Option (List ℕ)) (w : Words) → n ≡ status_in r → OnOk r (IsDone old new w) → n ≡ 0 → IsDone old new w
 done_at_zero r n old new w status done zero = ok_at_zero r n (IsDone old new w) status zero done
+
+-- words of no other kind
+pub asks_no_reason : (w : Words) → ((level : _) (script : _) (log : _) → w ≡ Explain level script log → ⊥) → AsksNoReason w
+asks_no_reason Piped no = tt
+asks_no_reason (Play level settings script log) no = tt
+asks_no_reason (Replay level log script) no = tt
+asks_no_reason (Check level) no = tt
+asks_no_reason (Explain level script log) no = no level script log refl
+asks_no_reason (Digest level frames script) no = tt
+asks_no_reason (State level frame script) no = tt
+asks_no_reason (Complete level log whole script) no = tt
 
 -- ---- by the words
 

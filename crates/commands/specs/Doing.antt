@@ -52,6 +52,11 @@ IsDone old new (Digest level frames script) = WritesSome old new (λ g. digests_
 IsDone old new (State level frame script) = WritesSome old new (λ g. scripted_state_text g frame)
 IsDone old new (Complete level log whole script) = CompletesSome old new
 
+-- words that don't ask for a reason
+abbrev pub AsksNoReason : Words → Type 0
+AsksNoReason (Explain level script log) = ⊥
+AsksNoReason words = Unit {0}
+
 -- or a part of it
 abbrev pub IsPartDone : (old new : Option (List ℕ)) → Words → Type 0
 IsPartDone old new Piped = Unit {0}

@@ -1,8 +1,8 @@
 // What the program does with its words.
-ghost use Rattle.std.specs.Prelude.{◌≡◌, ◌≢◌, ℕ, [], None, map, string_bytes, IfSome, IsSomeAnd, MatchOption};
+ghost use Rattle.std.specs.Prelude.{◌≡◌, ◌≢◌, ℕ, [], None, map, string_bytes, IfSome, IsSomeAnd, MatchOption, OnOk, OnErr};
 ghost use Rattle.std.specs.Io.KnownBytes.{Appends, Keeps};
 ghost use Rattle.game_rules.specs.Text.{texts};
-ghost use Rattle.commands.specs.Doing.{PlaysSome, PlaysPart, ReplaysSome, ReplaysPart, ExplainsSome, AreRefused, IsDone, IsPartDone};
+ghost use Rattle.commands.specs.Doing.{PlaysSome, PlaysPart, ReplaysSome, ReplaysPart, ExplainsSome, AreRefused, AsksNoReason, IsDone, IsPartDone};
 ghost use Rattle.level_text.specs.Games.{spelled_game};
 ghost use Rattle.byte_streams.specs.Streams.{AppendsPart};
 ghost use Rattle.desync_commands.specs.Texts.{digests_text};
@@ -20,7 +20,49 @@ use std::io::{Read, Write};
 use std::rt::Files;
 use std::sync::Wait;
 use std::thread::Threads;
-use words::{Words, end_with, read_words, refuse_words};
+use words::{Fault, Words, end_with, read_words, refuse_words};
+
+/// Does what words ask for that name a level's file, but for a reason.
+fn act_on_files<H: Files + Threads + Wait + Sync, W: Write>(
+    rt: &H,
+    alloc: Global,
+    words: Words,
+    out: &mut W,
+) -> Result<(), Fault>
+    requires { AsksNoReason words }
+    ensures ok { OnOk result (IsDone (W.contents out.old) (W.contents out.new) words) }
+    ensures part { OnErr result (IsPartDone (W.contents out.old) (W.contents out.new) words) }
+{
+    match words {
+        // `command` does it itself.
+        Words::Piped => Ok(()),
+        Words::Play {
+            level,
+            settings,
+            script,
+            log,
+        } => play_files(rt, alloc, level, settings, script, log, out),
+        Words::Replay { level, log, script } => replay_files(rt, alloc, level, log, script, out),
+        Words::Check { level } => check_file(rt, alloc, level, out),
+        Words::Explain { .. } => unreachable!(),
+        Words::Digest {
+            level,
+            frames,
+            script,
+        } => digest_files(rt, alloc, level, frames, script, out),
+        Words::State {
+            level,
+            frame,
+            script,
+        } => state_files(rt, alloc, level, frame, script, out),
+        Words::Complete {
+            level,
+            log,
+            whole,
+            script,
+        } => complete_files(rt, alloc, level, log, whole, script, out),
+    }
+}
 
 /// Does what words ask for that name a level's file, and gives the status with which the program ends.
 #[tactic(auto, using(crate::proofs::Doing::done_at_zero, crate::proofs::Doing::part_of))]
@@ -35,43 +77,13 @@ fn act<H: Files + Threads + Wait + Sync, W: Write, E: Write>(
     ensures part { IsPartDone (W.contents out.old) (W.contents out.new) words }
 {
     match words {
-        // `command` does it itself.
-        Words::Piped => 0,
-        Words::Play {
-            level,
-            settings,
-            script,
-            log,
-        } => end_with(
-            play_files(rt, alloc, level, settings, script, log, out),
-            err,
-        ),
-        Words::Replay { level, log, script } => {
-            end_with(replay_files(rt, alloc, level, log, script, out), err)
-        }
-        Words::Check { level } => end_with(check_file(rt, alloc, level, out), err),
         Words::Explain { level, script, log } => {
             explain_files(rt, alloc, level, script, log, out, err)
         }
-        Words::Digest {
-            level,
-            frames,
-            script,
-        } => end_with(digest_files(rt, alloc, level, frames, script, out), err),
-        Words::State {
-            level,
-            frame,
-            script,
-        } => end_with(state_files(rt, alloc, level, frame, script, out), err),
-        Words::Complete {
-            level,
-            log,
-            whole,
-            script,
-        } => end_with(
-            complete_files(rt, alloc, level, log, whole, script, out),
-            err,
-        ),
+        words => {
+            let done = act_on_files(rt, alloc, words, out);
+            end_with(done, err)
+        }
     }
 }
 
