@@ -65,7 +65,7 @@ fn act_on_files<H: Files + Threads + Wait + Sync, W: Write>(
 }
 
 /// Does what words ask for that name a level's file, and gives the status with which the program ends.
-#[tactic(auto, using(crate::proofs::Doing::done_at_zero, crate::proofs::Doing::part_of))]
+#[tactic(auto, using(crate::proofs::Doing::done_at_zero, crate::proofs::Doing::part_of, crate::proofs::Doing::asks_no_reason))]
 fn act<H: Files + Threads + Wait + Sync, W: Write, E: Write>(
     rt: &H,
     alloc: Global,
