@@ -1,6 +1,6 @@
 // node compare.js PAGE TOP PROGRAM: compares by the page's module and glue, byte for byte, with what btworld writes, built at PROGRAM:
 // each level of levels/ with and without its script (frames, the replay of a whole log and of a cut one, the completion of the cut
-// one), refused files, a level with each of 200 bytes changed, and 500 small random levels with scripts.
+// one), what nodes answer before a frame, refused files, a level with each of 200 bytes changed, and 500 small random levels with scripts.
 const fs = require("fs");
 const os = require("os");
 const path = require("path");
@@ -10,6 +10,7 @@ const { randomLevel, randomScript } = require("./random_level.js");
 const [page, top, program] = process.argv.slice(2);
 const FRAMES = 100;
 const room = fs.mkdtempSync(path.join(os.tmpdir(), "page-")), file = (name) => path.join(room, name);
+const read = readPage(page), { Signals } = read;
 const looks = new Looks(), look = (fact, what) => looks.look(fact, what);
 const call = (...words) => spawnSync(program, words, { maxBuffer: 1 << 30 });
 const tree = '{"t":["wait",1]}';
@@ -51,6 +52,20 @@ function compareLevel(world, name, level, script) {
   look(completed.status == 0 && replay().status == 0 && replay().stdout.equals(wanted), `${name}: the completed log, replayed by the program`);
 }
 
+// What the nodes of each agent's tree answer before a frame, the root's as the agent after it; asking changes nothing.
+function compareNodes(world, name, level, script) {
+  const { game } = world.open(level, script), signals = new Signals(world, script), { agents } = JSON.parse(level);
+  let wrong = 0;
+  for (let frame = 1; frame <= FRAMES; frame++) {
+    const before = world.digest(game), told = agents.map((_, a) => world.nodes(game, signals.of(frame), a));
+    wrong += world.digest(game) != before || world.step(game) != 0;
+    agents.forEach((_, a) => { wrong += told[a][0] != world.agent(game, a).answer || told[a].length != world.numbers(game, a).length; });
+  }
+  world.close(game);
+  signals.close();
+  look(wrong == 0, `${name}: answers of nodes`);
+}
+
 function compareFaults(world) {
   const door = fs.readFileSync(path.join(top, "levels/door.json"), "utf8");
   for (const [level, script] of [...REFUSED.map((it) => [it, ""]), ...BAD_SCRIPTS.map((it) => [door, it])]) {
@@ -82,10 +97,13 @@ function compareRandom(world) {
 }
 
 (async () => {
-  const { Btworld, code, samples } = readPage(page), world = await Btworld.load(code);
+  const { code, samples } = read, world = await read.Btworld.load(code);
   for (const { name, level, script } of samples) {
     look(fs.readFileSync(path.join(top, "levels", `${name}.json`), "utf8") == level, `${name}: the sample is the file`);
-    for (const pressed of script ? ["", script] : [""]) compareLevel(world, `${name} ${pressed ? "by its script" : "alone"}`, level, pressed);
+    for (const pressed of script ? ["", script] : [""]) {
+      compareLevel(world, `${name} ${pressed ? "by its script" : "alone"}`, level, pressed);
+      compareNodes(world, name, level, pressed);
+    }
   }
   compareFaults(world);
   compareEdits(world);
