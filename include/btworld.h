@@ -52,14 +52,15 @@ extern "C" {
 BTWORLD_SINCE_C99 typedef struct btworld_game { void *at; bool is_open; } btworld_game;
 #define BTWORLD_CLOSED_GAME {NULL, false}
 
-/* What an agent's tree answered in the frame. */
+/* What an agent's tree answered in the frame, or a node of it answers. */
 enum btworld_answer {
     BTWORLD_SUCCESS = 0,
     BTWORLD_FAILURE = 1,
-    BTWORLD_RUNNING = 2
+    BTWORLD_RUNNING = 2,
+    BTWORLD_NOT_TICKED = 3 /* of btworld_nodes alone */
 };
 
-/* x counts columns from the left and y rows from the top, from 0; status is one of btworld_answer. */
+/* x counts columns from the left and y rows from the top, from 0; status is one of btworld_answer, and never BTWORLD_NOT_TICKED. */
 BTWORLD_SINCE_C99 typedef struct btworld_agent_state { uint32_t x, y; bool carrying; uint8_t status; } btworld_agent_state;
 
 /* mark is what the level's map has there where nobody stands and nothing lies: # a wall, . the floor, a to z a door, open or shut,
@@ -191,6 +192,13 @@ uint32_t btworld_cell(const btworld_game *game, uint32_t x, uint32_t y, btworld_
  * Fails with CLOSED, NO_AGENT, NO_MEMORY, SHORT. */
 uint32_t btworld_memory(const btworld_game *game, uint32_t agent, uint16_t *numbers, size_t capacity, size_t *size);
 
+/* What each node of an agent's tree, 0 for A, answers in the next frame if that has these signals, which are taken as btworld_step
+ * takes them, at the start of a buffer: a byte for each node, in preorder, which is one of btworld_answer, and how many they are, at
+ * most 255. So before a step it tells why the agent will do what it does. It takes the time of some ticks of the tree, and of a
+ * search for each place whose distances are not known.
+ * Fails with CLOSED, NO_AGENT, NO_MEMORY, SHORT. */
+uint32_t btworld_nodes(const btworld_game *game, uint32_t signals, uint32_t agent, uint8_t *answers, size_t capacity, size_t *size);
+
 /* The signals that were on in the frame, and those that the game's script has in the next one, all off where it was opened without
  * one: bit 0 is a, bit 25 is z, and the higher ones are 0. btworld_step by *scripted is btworld_step_script.
  * Fails with CLOSED, LAST_FRAME. */
@@ -291,6 +299,8 @@ BTWORLD_INLINE uint16_t *btworld_some_numbers(uint16_t *numbers) {
 #define btworld_state(game, text, capacity, size) btworld_state(game, btworld_some_room(text), capacity, size)
 #define btworld_memory(game, agent, numbers, capacity, size) \
     btworld_memory(game, agent, btworld_some_numbers(numbers), capacity, size)
+#define btworld_nodes(game, signals, agent, answers, capacity, size) \
+    btworld_nodes(game, signals, agent, btworld_some_room(answers), capacity, size)
 #define btworld_script(game, text, capacity, size) btworld_script(game, btworld_some_room(text), capacity, size)
 #define btworld_log_frames(level, level_length, script, script_length, log, log_length, frames, event) \
     btworld_log_frames(btworld_some(level), level_length, btworld_some(script), script_length, btworld_some(log), log_length, \

@@ -25,6 +25,7 @@ uint32_t all_of(btworld_game *game, const btworld_game *other) {
     found += btworld_frame(other, &frame) + btworld_digest(other, &digest) + btworld_level_digest(other, &digest);
     found += btworld_state(other, NULL, 0, &size);
     found += btworld_memory(other, 0, NULL, 0, &size) + btworld_script(other, NULL, 0, &size);
+    found += btworld_nodes(other, 1, 0, NULL, 0, &size) + BTWORLD_NOT_TICKED;
     found += btworld_signals(other, &shown, &scripted) + (shown == scripted);
     found += btworld_fork(other, &copy) + btworld_same(other, &copy, &same);
     btworld_close(&copy);

@@ -112,8 +112,8 @@ static void look_at_state(const btworld_game *game, const btworld_game *twin) {
     LOOK(btworld_same(game, twin, &same) == BTWORLD_OK && same);
 }
 
-/* Memories, signals and the script so far, where memory is refused and where buffers are short; a game that is stepped by that script
-   comes to the same state. */
+/* Memories, nodes, signals and the script so far, where memory is refused and where buffers are short; a game that is stepped by that
+   script comes to the same state. */
 static void look_back(const btworld_game *game, size_t size, uint32_t frames, uint32_t agents, uint32_t on) {
     static uint16_t numbers[256], sevens[256];
     btworld_game again = BTWORLD_CLOSED_GAME;
@@ -130,8 +130,21 @@ static void look_back(const btworld_game *game, size_t size, uint32_t frames, ui
         LOOK(btworld_memory(game, agent, NULL, 0, &length) == BTWORLD_SHORT && length == filled);
         memset(numbers, 7, sizeof numbers);
         LOOK(btworld_memory(game, agent, numbers, filled - 1, &length) == BTWORLD_SHORT && !memcmp(numbers, sevens, sizeof numbers));
+        memset(text, 7, ROOM);
+        memset(other, 7, ROOM);
+        filled = 7;
+        REFUSING(status, btworld_nodes(game, on, agent, text, ROOM, &filled)) LOOK(!memcmp(text, other, ROOM) && filled == 7);
+        LOOK(status == BTWORLD_OK && filled == length && !memcmp(text + filled, other, ROOM - filled));
+        LOOK(text[0] <= BTWORLD_RUNNING);
+        for (size_t node = 1; node < filled; node++) LOOK(text[node] <= BTWORLD_NOT_TICKED);
+        LOOK(btworld_nodes(game, on, agent, NULL, 0, &length) == BTWORLD_SHORT && length == filled);
+        memset(text, 7, ROOM);
+        LOOK(btworld_nodes(game, on, agent, text, filled - 1, &length) == BTWORLD_SHORT && !memcmp(text, other, ROOM));
+        memset(other, 1, ROOM);
     }
     LOOK(btworld_memory(game, agents, numbers, 255, &filled) == BTWORLD_NO_AGENT && !memcmp(numbers, sevens, sizeof numbers));
+    filled = 7;
+    LOOK(btworld_nodes(game, on, agents, text, ROOM, &filled) == BTWORLD_NO_AGENT && filled == 7);
     LOOK(btworld_signals(game, &shown, &scripted) == BTWORLD_OK && shown == on && scripted == 0);
     memset(text, 1, ROOM);
     filled = 7;
@@ -193,9 +206,11 @@ int main(int argc, char **argv) {
     look_back(&game, size, 0, agents, 0);
     look_at_late_changes();
     LOOK(btworld_script(&copy, text, ROOM, &length) == BTWORLD_CLOSED && btworld_signals(&copy, &width, &height) == BTWORLD_CLOSED);
-    LOOK(btworld_memory(&copy, 0, NULL, 0, &length) == BTWORLD_CLOSED);
+    LOOK(btworld_memory(&copy, 0, NULL, 0, &length) == BTWORLD_CLOSED && btworld_nodes(&copy, 0, 0, NULL, 0, &length) == BTWORLD_CLOSED);
     for (uint32_t f = 1; f <= (uint32_t)atoi(argv[2]); f++) {
         uint32_t on = f * 2654435761u >> 6;
+        uint8_t will[26][255];
+        for (uint32_t a = 0; a < agents; a++) LOOK(btworld_nodes(&game, on | 0xfc000000u, a, will[a], 255, &length) == BTWORLD_OK);
         REFUSING(status, btworld_step(&game, on)) {
             LOOK(btworld_frame(&game, &frame) == BTWORLD_OK && frame == f - 1);
             if (f == 1) continue;
@@ -203,6 +218,7 @@ int main(int argc, char **argv) {
         }
         LOOK(status == BTWORLD_OK && btworld_step(&twin, on) == BTWORLD_OK);
         LOOK(btworld_same(&game, &twin, &same) == BTWORLD_OK && same);
+        for (uint32_t a = 0; a < agents; a++) LOOK(btworld_agent(&game, a, &agent) == BTWORLD_OK && agent.status == will[a][0]);
         LOOK(btworld_text(&twin, kept, ROOM, &length) == BTWORLD_OK);
         memset(text, 1, ROOM);
         memset(other, 1, ROOM);

@@ -113,6 +113,17 @@ public:
         return numbers;
     }
 
+    // What each node of an agent's tree answers in the next frame if that has these signals, in preorder: each is a btworld_answer.
+    std::vector<std::uint8_t> nodes(std::uint32_t signals, std::uint32_t number) const {
+        std::vector<std::uint8_t> answers;
+        std::size_t size = 0;
+        std::uint32_t status;
+        while ((status = btworld_nodes(&handle, signals, number, answers.data(), answers.size(), &size)) == BTWORLD_SHORT)
+            answers.resize(size);
+        need(status);
+        return answers;
+    }
+
     Signals signals() const {
         Signals signals;
         need(btworld_signals(&handle, &signals.shown, &signals.scripted));

@@ -42,6 +42,7 @@ class Answer(IntEnum):
     SUCCESS = 0
     FAILURE = 1
     RUNNING = 2
+    NOT_TICKED = 3  # of Game.nodes alone
 
 
 @dataclass(frozen=True)
@@ -113,6 +114,7 @@ _digest = _call("digest", _GAME, ctypes.POINTER(ctypes.c_uint64))
 _level_digest = _call("level_digest", _GAME, ctypes.POINTER(ctypes.c_uint64))
 _state = _call("state", _GAME, *_BYTES, _SIZE)
 _memory = _call("memory", _GAME, ctypes.c_uint32, ctypes.POINTER(ctypes.c_uint16), ctypes.c_size_t, _SIZE)
+_nodes = _call("nodes", _GAME, ctypes.c_uint32, ctypes.c_uint32, *_BYTES, _SIZE)
 _signals = _call("signals", _GAME, *[ctypes.POINTER(ctypes.c_uint32)] * 2)
 _script = _call("script", _GAME, *_BYTES, _SIZE)
 _close = _call("close", _GAME, answers=None)
@@ -238,6 +240,20 @@ class Game:
         numbers = (ctypes.c_uint16 * 255)()  # a tree has no more nodes
         _need(_memory(self._handle, agent, numbers, len(numbers), size))
         return numbers[: size.value]
+
+    def nodes(self, signals: int | Iterable[str], agent: int) -> list[Answer]:
+        """What each node of an agent's tree answers in the next frame if that has these signals, in preorder.
+
+        >>> game = Game.open({"map": ["A.0"], "agents": ["t"], "trees": {"t": ["seq", ["signal", "a"], ["move", "0"]]}})
+        >>> [answer.name for answer in game.nodes("", 0)]
+        ['FAILURE', 'FAILURE', 'NOT_TICKED']
+        >>> [answer.name for answer in game.nodes("a", 0)]
+        ['RUNNING', 'SUCCESS', 'RUNNING']
+        """
+        size = ctypes.c_size_t(0)
+        answers = ctypes.create_string_buffer(255)  # a tree has no more nodes
+        _need(_nodes(self._handle, mask_of(signals), agent, answers, len(answers), size))
+        return [Answer(it) for it in answers.raw[: size.value]]
 
     @property
     def signals(self) -> tuple[int, int]:

@@ -60,6 +60,7 @@ unsafe extern "C" {
     fn btworld_level_digest(game: *const Handle, digest: *mut u64) -> u32;
     fn btworld_state(game: *const Handle, text: *mut u8, capacity: usize, size: *mut usize) -> u32;
     fn btworld_memory(game: *const Handle, agent: u32, numbers: *mut u16, capacity: usize, size: *mut usize) -> u32;
+    fn btworld_nodes(game: *const Handle, signals: u32, agent: u32, answers: *mut u8, capacity: usize, size: *mut usize) -> u32;
     fn btworld_signals(game: *const Handle, shown: *mut u32, scripted: *mut u32) -> u32;
     fn btworld_script(game: *const Handle, text: *mut u8, capacity: usize, size: *mut usize) -> u32;
     fn btworld_close(game: *mut Handle);
@@ -133,12 +134,19 @@ fn written(call: impl FnMut(*mut u8, usize, &mut usize) -> u32) -> Result<String
     Ok(String::from_utf8(filled(call)?).expect("what btworld writes is UTF-8"))
 }
 
-/// What an agent's tree answered in a frame.
+/// What an agent's tree, or a node of it, answers in a frame.
 #[derive(Clone, Copy, Debug, PartialEq, Eq)]
 pub enum Answer {
     Success,
     Failure,
     Running,
+}
+
+impl Answer {
+    /// By its number in btworld.h; none where a node is not ticked.
+    fn of(number: u8) -> Option<Answer> {
+        [Answer::Success, Answer::Failure, Answer::Running].get(usize::from(number)).copied()
+    }
 }
 
 /// An agent after a frame: `x` counts columns from the left and `y` rows from the top, from 0.
@@ -214,7 +222,7 @@ impl Game {
         let mut state = AgentState::default();
         // SAFETY: as in `step`.
         done(unsafe { btworld_agent(self.0.get(), number, &mut state) })?;
-        let answer = [Answer::Success, Answer::Failure, Answer::Running][usize::from(state.status)];
+        let answer = Answer::of(state.status).expect("an agent's tree is ticked");
         Ok(Agent { x: state.x, y: state.y, carrying: state.carrying, answer })
     }
 
@@ -240,6 +248,15 @@ impl Game {
     pub fn memory(&self, number: u32) -> Result<Vec<u16>, Fault> {
         // SAFETY: as in `text`.
         filled(|numbers, capacity, size| unsafe { btworld_memory(self.0.get(), number, numbers, capacity, size) })
+    }
+
+    /// What each node of an agent's tree, 0 for `A`, answers in the next frame if that has these signals, in preorder; `None` for one
+    /// that is not ticked.
+    pub fn nodes(&self, signals: u32, number: u32) -> Result<Vec<Option<Answer>>, Fault> {
+        // SAFETY: as in `text`.
+        let answers: Vec<u8> =
+            filled(|answers, capacity, size| unsafe { btworld_nodes(self.0.get(), signals, number, answers, capacity, size) })?;
+        Ok(answers.into_iter().map(Answer::of).collect())
     }
 
     /// The signals of the frame, and those that the script has in the next one: bit 0 is `a`.

@@ -1,5 +1,5 @@
 -- What is read of the game of a handle.
-use Rattle.std.specs.Prelude.{ℕ, ◌≡◌, ◌<◌, ◌≤◌, ◌≢◌, Bool, true, false, List, [], length, Option, Some, None, slice_index_or}
+use Rattle.std.specs.Prelude.{ℕ, ◌≡◌, ◌<◌, ◌≤◌, ◌≢◌, Bool, true, false, List, [], length, map, Option, Some, None, slice_index_or}
 use Rattle.grid_world.specs.Grid.{agent_of}
 use Rattle.grid_world.specs.declared.cell.Agent.{Agent as Body}
 use Rattle.bt_nodes.specs.declared.node.Status.{Status}
@@ -7,7 +7,7 @@ use Rattle.bt_nodes.specs.declared.node.Status.TheVariants.{Success, Failure, Ru
 use Rattle.game_rules.specs.Game.{signals}
 use Rattle.game_rules.specs.Play.{play}
 use Rattle.game_rules.specs.Text.{frame_text}
-use Rattle.stepping.specs.Played.{Played, state_of, statuses_at, scripted_signals, AreBits}
+use Rattle.stepping.specs.Played.{Played, state_of, statuses_at, scripted_signals, answers_under, bits, AreBits}
 use Rattle.stepping.specs.Digest.{digest_of}
 use Rattle.btworld_c.specs.Buffers.{IsFilled, IsShort}
 use Rattle.btworld_c.specs.declared.game.Agent.{Agent}
@@ -57,6 +57,25 @@ IsMemory (Some p) agent size old new = (agent < length p.game.trees) × IsFilled
 abbrev pub IsMemoryTooLong : Option Played → (agent size : ℕ) → List ℕ → Type 0
 IsMemoryTooLong None agent size buffer = ⊥
 IsMemoryTooLong (Some p) agent size buffer = (agent < length p.game.trees) × IsShort (memory_of p agent) size buffer
+
+-- of a node; 3 where it is not ticked
+abbrev pub answer_number : Option Status → ℕ
+answer_number None = 3
+answer_number (Some status) = status_number status
+
+-- of the nodes of an agent's tree, in preorder, in the next frame with the signals of a mask
+abbrev pub answers_of : Played → (mask agent : ℕ) → List ℕ
+answers_of p mask agent = map answer_number (answers_under p (bits 26 mask) agent)
+
+-- the answers of an agent's nodes in the held game stand at the start of a buffer, which is kept behind them
+abbrev pub AreAnswers : Option Played → (mask agent size : ℕ) → (old new : List ℕ) → Type 0
+AreAnswers None mask agent size old new = ⊥
+AreAnswers (Some p) mask agent size old new = (agent < length p.game.trees) × IsFilled (answers_of p mask agent) size old new
+
+-- they are so many, and more than fit in a buffer
+abbrev pub AreAnswersTooLong : Option Played → (mask agent size : ℕ) → List ℕ → Type 0
+AreAnswersTooLong None mask agent size buffer = ⊥
+AreAnswersTooLong (Some p) mask agent size buffer = (agent < length p.game.trees) × IsShort (answers_of p mask agent) size buffer
 
 abbrev pub IsFrame : Option Played → ℕ → Type 0
 IsFrame None frame = ⊥

@@ -53,7 +53,7 @@ pub extern "C" fn btworld_text(
     }
 }
 
-fn status_number(status: Status) -> u8
+pub(crate) fn status_number(status: Status) -> u8
     ensures { result ≡ status_number status }
 {
     match status {

@@ -11,6 +11,8 @@ mod levels;
 #[cfg(test)]
 mod maps;
 #[cfg(test)]
+mod nodes;
+#[cfg(test)]
 mod refused_growths;
 #[cfg(test)]
 mod scripts;
