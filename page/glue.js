@@ -1,5 +1,9 @@
 // The calls of include/btworld.h, of a WebAssembly module that was compiled from the proved sources. It holds no rule of the game:
 // it copies bytes in and out. A handle lies in the module's memory, and is 16 bytes, zeros where it is closed.
+
+// As many nodes as a tree may have.
+const MOST_NODES = 255;
+
 class Btworld {
   static async load(bytes) {
     const { instance } = await WebAssembly.instantiate(bytes, {});
@@ -23,6 +27,7 @@ class Btworld {
     this.number = this.take(8);
     this.count = this.take(8);
     this.state = this.take(16);
+    this.memory = this.take(2 * MOST_NODES);
     this.room = 0;
     this.at = null;
   }
@@ -116,6 +121,22 @@ class Btworld {
     if (this.calls.btworld_agent(game, number, this.state) >>> 0) return null;
     const at = new DataView(this.calls.memory.buffer, Number(this.state), 16);
     return { x: at.getUint32(0, true), y: at.getUint32(4, true), loaded: at.getUint8(8), answer: at.getUint8(9) };
+  }
+
+  // What each node of an agent's tree answers in the next frame, if exactly these signals are on in it, in preorder: 0 success, 1 failure,
+  // 2 running, 3 not ticked. The game stays as it is.
+  nodes(game, signals, agent) {
+    const { status, bytes } = this.written((...room) => this.calls.btworld_nodes(game, signals, agent, ...room));
+    if (status) throw new Error(`status ${status}`);
+    return bytes;
+  }
+
+  // The number that an agent remembers for each node of its tree, in preorder, after the frame.
+  numbers(game, agent) {
+    const status = this.calls.btworld_memory(game, agent, this.memory, BigInt(MOST_NODES), this.number) >>> 0;
+    if (status) throw new Error(`status ${status}`);
+    const at = new DataView(this.calls.memory.buffer, Number(this.memory));
+    return Array.from({ length: this.word(this.number) }, (_, n) => at.getUint16(2 * n, true));
   }
 
   text(game) {

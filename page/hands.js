@@ -41,6 +41,7 @@ function seekChange(way) {
 
 const clicks = {
   first: () => show(0), last: () => show(state.total), back: () => show(shownFrame() - 1), next: () => goOn(1),
+  whyBack: () => show(shownFrame() - 1), whyNext: () => goOn(1), whyClose: () => choose(-1),
   before: () => seekChange(-1), after: () => seekChange(1), play: () => setPlaying(!state.isPlaying),
   keys: () => setHelp(true), closeHelp: () => setHelp(false), help: (event) => { if (event.target == $("help")) setHelp(false); },
   agentsTab: () => setPage("agents"), levelTab: () => setPage("level"), paint: () => setPainting(!state.isPainting),
@@ -243,5 +244,5 @@ async function start() {
 }
 
 // For tests, and for whoever looks in from the console.
-window.btworld = { state, hooks, show, load, flip, change, setTool, setPainting, setPlaying, setTotal, framesText, spellLink, choose };
+window.btworld = { state, show, load, flip, change, setTool, setPainting, setPlaying, setTotal, framesText, spellLink, choose };
 start().catch((error) => { $("mapFault").textContent = `page: ${error.message}`; });

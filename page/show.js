@@ -47,11 +47,12 @@ function show(frame) {
 function refresh() {
   if (state.film && state.film.count < state.wanted) return showProgress();
   guarded(() => {
+    const told = readWhy(); // first: it begins at the frame before
     showNames();
     drawMap();
     if (!state.film) return;
     drawTables();
-    drawDetail();
+    drawDetail(told);
     updateSignals();
   });
   refreshRun();
@@ -133,28 +134,28 @@ function zoomMap(by, x, y) {
 const layAgents = () => buildAgents(state.good.agents, $("pages").clientHeight - 60, choose);
 const drawTables = () => drawTable(state.film, shownFrame(), state.chosen, innerWidth > 900 ? 20 : 8);
 
-// Chooses an agent, or none where it is chosen already.
+// Chooses an agent, and shows why it did so; or none where it is chosen already.
 function choose(a) {
   state.chosen = state.film && a >= 0 && a < state.film.agents && a != state.chosen ? a : -1;
   $("agentsPage").classList.toggle("picked", state.chosen >= 0);
+  if (state.chosen >= 0) setPage("agents");
   refresh();
   if (state.chosen >= 0) cells[state.chosen].row.scrollIntoView({ block: "nearest" });
 }
 
-// Below the table: what happens in the frame, and the tree of the chosen agent, or what the level is about.
-function drawDetail() {
-  const box = $("detail"), { film, good, chosen, texts } = state, frame = shownFrame();
-  box.textContent = "";
-  if (frame > 0) putHappened(box, film, frame, chosen);
-  if (chosen >= 0) {
-    const name = good.agents[chosen], answers = frame > 0 ? hooks.nodesOf(film.at(frame - 1), chosen, film.signals.of(frame)) : null;
-    return putTree(box, `Tree ${name} of ${letterOf(chosen)}`, good.trees[name], answers, nodeTexts);
-  }
+// Below the table: what happens in the frame, and why the chosen agent did so, or what the level is about.
+function drawDetail(told) {
+  const happened = $("happened"), about = $("about"), { film, chosen, texts } = state, frame = shownFrame();
+  happened.textContent = about.textContent = "";
+  if (frame > 0) putHappened(happened, film, frame, chosen);
+  else if (told) put(happened, "h2", "At the start");
+  showWhy(told);
+  if (told) return;
   if (texts.about) {
-    put(box, "h2", `About ${texts.name}`, "later");
-    put(box, "p", texts.about);
+    put(about, "h2", `About ${texts.name}`, "later");
+    put(about, "p", texts.about);
   }
-  if (film.agents > 0) put(box, "p", "Click an agent, or press Shift and its letter, for its tree and its way. The level's text is under Level; Paint changes the map.");
+  if (film.agents > 0) put(about, "p", "Click an agent, or press Shift and its letter, to see why it does so, and its way. The level's text is under Level; Paint changes the map.");
 }
 
 // What the help says of each kind of node.

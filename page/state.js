@@ -25,16 +25,6 @@ const state = {
 };
 const shownFrame = () => (state.film ? Math.min(state.wanted, state.film.count) : 0);
 
-// ---- hooks
-
-// The answers of the nodes of an agent's tree in the frame to come, in preorder: "S", "F", "R", or "" for a node that isn't ticked.
-// GAME stands at the frame before, MASK are the signals of the frame. Null until the module has a call for it, which will be
-// btworld_nodes; the outline of a tree shows them as soon as this answers a list.
-function nodesOf(game, agent, mask) {
-  return null;
-}
-const hooks = { nodesOf };
-
 // ---- the module
 
 async function loadModule() {
