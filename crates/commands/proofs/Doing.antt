@@ -73,14 +73,14 @@ done_at_zero r n old new w status done zero = ok_at_zero r n (IsDone old new w) 
 
 -- words of no other kind
 pub asks_no_reason : (w : Words) → ((level : _) (script : _) (log : _) → w ≡ Explain level script log → ⊥) → AsksNoReason w
-asks_no_reason Piped no = tt
-asks_no_reason (Play level settings script log) no = tt
-asks_no_reason (Replay level log script) no = tt
-asks_no_reason (Check level) no = tt
-asks_no_reason (Explain level script log) no = no level script log refl
-asks_no_reason (Digest level frames script) no = tt
-asks_no_reason (State level frame script) no = tt
-asks_no_reason (Complete level log whole script) no = tt
+asks_no_reason Piped other = tt
+asks_no_reason (Play level settings script log) other = tt
+asks_no_reason (Replay level log script) other = tt
+asks_no_reason (Check level) other = tt
+asks_no_reason (Explain level script log) other = other level script log refl
+asks_no_reason (Digest level frames script) other = tt
+asks_no_reason (State level frame script) other = tt
+asks_no_reason (Complete level log whole script) other = tt
 
 -- ---- by the words
 
