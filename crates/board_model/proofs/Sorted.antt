@@ -171,15 +171,7 @@ module _ (s : Setup) (c : Core) (st : State) (p : 0 < s.slots) (inv : Shape s st
   sorted_step (Finish w (Draw f b)) m = sorted_end w (Draws f) (left_at_end w (Draw f b) m (waits_written s c.seats.jobs (fiber_of c.seats w) None refl))
   sorted_step (Emit f) m = record { fresh = h.fresh; ready = sorted_wake c.seats.jobs c.queues.ready (woken (Shown f) c.counters) h.ready }
   sorted_step Stop m = record { fresh = h.fresh; ready = h.ready }
-  sorted_step (Spread w (Think f a)) m = absurd m
-  sorted_step (Spread w (Path f a i)) m = absurd m
-  sorted_step (Spread w (Draw f b)) m = absurd m
-  sorted_step (Hold w (Think f a)) m = absurd m
-  sorted_step (Hold w (Path f a i)) m = absurd m
-  sorted_step (Hold w (Draw f b)) m = absurd m
-  sorted_step (Ask w (Logic f)) m = absurd m
-  sorted_step (Ask w (Path f a i)) m = absurd m
-  sorted_step (Ask w (Draw f b)) m = absurd m
+  sorted_step _ m = absurd m
 
 -- ---- by induction on the log
 

@@ -116,15 +116,7 @@ module _ (s : Setup) (st : State) (inv : Shape s st) (k : Stored) (g : Kept s k 
   event_there (Emit f) m free =
       let l : st.emitted < f = let e : f ≡ suc st.emitted = m.0 in omega arith in (in_slot s st inv k fit f (done_shown s st inv f m.2 l), has_turn f m.2 l)
   event_there Stop m free = tt
-  event_there (Spread w (Think f a)) m free = absurd m
-  event_there (Spread w (Path f a i)) m free = absurd m
-  event_there (Spread w (Draw f b)) m free = absurd m
-  event_there (Hold w (Think f a)) m free = absurd m
-  event_there (Hold w (Path f a i)) m free = absurd m
-  event_there (Hold w (Draw f b)) m free = absurd m
-  event_there (Ask w (Logic f)) m free = absurd m
-  event_there (Ask w (Path f a i)) m free = absurd m
-  event_there (Ask w (Draw f b)) m free = absurd m
+  event_there _ m free = absurd m
 
 -- ---- over logs
 
@@ -177,15 +169,7 @@ kept_step s k st p t (Finish w (Path f a i)) m = path_ends s st t.shape k t.kept
 kept_step s k st p t (Finish w (Draw f b)) m = draw_ends s st t.shape k t.kept w f b m
 kept_step s k st p t (Emit f) m = emits s st t.shape k t.kept (fit_of s k st t) f (mod-lt f p)
 kept_step s k st p t Stop m = stops s st t.shape k t.kept
-kept_step s k st p t (Spread w (Think f a)) m = absurd m
-kept_step s k st p t (Spread w (Path f a i)) m = absurd m
-kept_step s k st p t (Spread w (Draw f b)) m = absurd m
-kept_step s k st p t (Hold w (Think f a)) m = absurd m
-kept_step s k st p t (Hold w (Path f a i)) m = absurd m
-kept_step s k st p t (Hold w (Draw f b)) m = absurd m
-kept_step s k st p t (Ask w (Logic f)) m = absurd m
-kept_step s k st p t (Ask w (Path f a i)) m = absurd m
-kept_step s k st p t (Ask w (Draw f b)) m = absurd m
+kept_step s k st p t _ m = absurd m
 
 tied_from : (s : Setup) (k : Stored) (st : State) → 0 < s.slots → Tied s k st → (es : List Event) → IsLegalFrom s st es → Tied s (stored_from s st k es) (after_all s st es)
 tied_from s k st p t [] l = t
