@@ -179,8 +179,11 @@ IsToldAs kind (Help text) = kind ≡ kinds.DisplayHelp
 IsToldAs kind (Version text) = kind ≡ kinds.DisplayVersion
 IsToldAs kind _ = Unit {0}
 
--- help or the version is answered only where clap finds that the words ask for it
+-- a program answers help or its version only where clap finds that the words ask for it
+abbrev pub IsAskedOf : App → List Text → WordsFault → Type 0
+IsAskedOf a words (Help text) = IsAmong kinds.DisplayHelp (fault_of a words)
+IsAskedOf a words (Version text) = IsAmong kinds.DisplayVersion (fault_of a words)
+IsAskedOf a words _ = Unit {0}
+
 abbrev pub IsAskedFor : List Text → WordsFault → Type 0
-IsAskedFor words (Help text) = IsAmong kinds.DisplayHelp (fault_of program words)
-IsAskedFor words (Version text) = IsAmong kinds.DisplayVersion (fault_of program words)
-IsAskedFor words _ = Unit {0}
+IsAskedFor words fault = IsAskedOf program words fault
