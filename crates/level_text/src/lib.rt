@@ -1,14 +1,13 @@
 //! Levels and scripts as text: reading, writing, and what they stand for.
 #![tactic(auto)]
 
-mod crewed;
 mod draft;
 mod inner;
 mod leaves;
 mod level_fault;
+mod named;
 mod nodes;
 mod parts;
-mod placed;
 mod read;
 mod script_file;
 mod write;
