@@ -20,10 +20,11 @@ use std::io::{Read, Write};
 use std::rt::Files;
 use std::sync::Wait;
 use std::thread::Threads;
+use std::time::Clock;
 use words::{Fault, Words, end_with, read_words, refuse_words};
 
 /// Does what words ask for that name a level's file, but for a reason.
-fn act_on_files<H: Files + Threads + Wait + Sync, W: Write>(
+fn act_on_files<H: Files + Threads + Wait + Clock + Sync, W: Write>(
     rt: &H,
     alloc: Global,
     words: Words,
@@ -66,7 +67,7 @@ fn act_on_files<H: Files + Threads + Wait + Sync, W: Write>(
 
 /// Does what words ask for that name a level's file, and gives the status with which the program ends.
 #[tactic(auto, using(crate::proofs::Doing::done_at_zero, crate::proofs::Doing::part_of, crate::proofs::Doing::asks_no_reason))]
-fn act<H: Files + Threads + Wait + Sync, W: Write, E: Write>(
+fn act<H: Files + Threads + Wait + Clock + Sync, W: Write, E: Write>(
     rt: &H,
     alloc: Global,
     words: Words,
@@ -93,7 +94,7 @@ fn act<H: Files + Threads + Wait + Sync, W: Write, E: Write>(
 ///
 /// No words: the level comes from `input`, and three of its frames are written to `out`. Of words that name files the
 /// clauses say that there are a level, a script and a log of which this is so; that they are what the files hold is tested.
-pub fn command<H: Files + Threads + Wait + Sync, R: Read, W: Write, E: Write>(
+pub fn command<H: Files + Threads + Wait + Clock + Sync, R: Read, W: Write, E: Write>(
     rt: &H,
     alloc: Global,
     words: &[String],
