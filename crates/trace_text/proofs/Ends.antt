@@ -5,7 +5,7 @@ use Rattle.std.specs.List.{All, AllPairs}
 use Rattle.std.proofs.lemmas.Bool.{true≢false}
 use Rattle.std.proofs.lemmas.List.Elements.{All-nil}
 use Rattle.job_core.specs.declared.names.JobName.{JobName}
-use Rattle.job_core.specs.declared.names.JobName.TheVariants.{Logic, Think, Path, Draw}
+use Rattle.job_core.specs.declared.names.JobName.TheVariants.{Logic, Think}
 use Rattle.job_core.specs.declared.names.Event.{Event}
 use Rattle.job_core.specs.declared.names.Event.TheVariants.{Start, Resume, Ask, Spread, Hold, Finish, Emit, Stop}
 use Rattle.job_core.specs.Core.{Setup, Absent, Queued, Runs, Waits, State, May, IsLegalFrom, IsLegalList, state, after, step_of}
