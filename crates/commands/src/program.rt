@@ -1,20 +1,21 @@
 // What the program does with its words.
-ghost use Rattle.std.specs.Prelude.{◌≡◌, ◌≢◌, ℕ, [], None, map, string_bytes, IfSome, IsSomeAnd, MatchOption, OnOk, OnErr};
+ghost use Rattle.std.specs.Prelude.{◌≡◌, ◌≢◌, ℕ, List, [], None, map, string_bytes, IfSome, IsSomeAnd, MatchOption, OnOk, OnErr};
 ghost use Rattle.std.specs.Io.KnownBytes.{Appends, Keeps};
 ghost use Rattle.game_rules.specs.Text.{texts};
 ghost use Rattle.commands.specs.Doing.{PlaysSome, PlaysPart, ReplaysSome, ReplaysPart, ExplainsSome, AreRefused, AsksNoReason, IsDone, IsPartDone};
 ghost use Rattle.level_text.specs.Games.{spelled_game};
 ghost use Rattle.byte_streams.specs.Streams.{AppendsPart};
 ghost use Rattle.desync_commands.specs.Texts.{digests_text};
+ghost use Rattle.desync_commands.specs.Why.{why_text, agent_of_letter};
 ghost use Rattle.desync_commands.specs.Written.{WritesSome, WritesPart, CompletesSome, CompletesSomePart};
 ghost use Rattle.stepping.specs.StateText.{scripted_state_text};
-ghost use Rattle.words.specs.Program.{AsksToPlay, AsksToReplay, AsksToExplain, AsksToDigest, AsksForState, AsksToComplete};
+ghost use Rattle.words.specs.Program.{AsksToPlay, AsksToReplay, AsksToExplain, AsksToDigest, AsksForState, AsksWhy, AsksToComplete};
 
 use crate::checking::check_file;
 use crate::explaining::explain_files;
 use crate::playing::{play_files, play_input};
 use crate::replaying::replay_files;
-use desync_commands::{complete_files, digest_files, state_files};
+use desync_commands::{complete_files, digest_files, state_files, why_files};
 use std::alloc::Global;
 use std::io::{Read, Write};
 use std::rt::Files;
@@ -56,6 +57,12 @@ fn act_on_files<H: Files + Threads + Wait + Clock + Sync, W: Write>(
             frame,
             script,
         } => state_files(rt, alloc, level, frame, script, out),
+        Words::Why {
+            level,
+            frame,
+            agent,
+            script,
+        } => why_files(rt, alloc, level, frame, agent, script, out),
         Words::Complete {
             level,
             log,
@@ -127,6 +134,10 @@ pub fn command<H: Files + Threads + Wait + Clock + Sync, R: Read, W: Write, E: W
         → WritesSome (W.contents out.old) (W.contents out.new) (λ g. scripted_state_text g frame) }
     ensures state_part { (frame : ℕ) → AsksForState (map string_bytes words.now) frame
         → WritesPart (W.contents out.old) (W.contents out.new) (λ g. scripted_state_text g frame) }
+    ensures why { (frame : ℕ) (agent : List ℕ) → AsksWhy (map string_bytes words.now) frame agent → result ≡ 0
+        → WritesSome (W.contents out.old) (W.contents out.new) (λ g. why_text g frame (agent_of_letter agent)) }
+    ensures why_part { (frame : ℕ) (agent : List ℕ) → AsksWhy (map string_bytes words.now) frame agent
+        → WritesPart (W.contents out.old) (W.contents out.new) (λ g. why_text g frame (agent_of_letter agent)) }
     ensures completed { AsksToComplete (map string_bytes words.now) → result ≡ 0
         → CompletesSome (W.contents out.old) (W.contents out.new) }
     ensures completed_part { AsksToComplete (map string_bytes words.now)

@@ -70,7 +70,7 @@ module _ (g : Game) (p : Played) where
         next = step.stay ∙ same;
       }
 
-  position_is : (f : ℕ) → IsSteppedTo g f p → p.position ≡ play g f
+  pub position_is : (f : ℕ) → IsSteppedTo g f p → p.position ≡ play g f
   position_is f h = h.played.position ∙ scripted_position p h.by ∙ ap (λ x. play x p.frame) h.game ∙ ap (play g) h.frame
 
   made : ℕ → List Plain → List Bool → Position → State

@@ -14,7 +14,9 @@ mod write;
 mod write_nodes;
 
 pub use game_session::{Level, Script, Session};
+pub use leaves::mark_in;
 pub use level_fault::LevelFault;
 pub use read::{level_of, read_level};
 pub use script_file::{ScriptFault, read_script};
 pub use write::write_level;
+pub use write_nodes::head_of;
