@@ -54,13 +54,13 @@ told_of a f before after sts on trees =
 
 between_is : (g : Game) (a n : ℕ) (p q : Played) → IsSteppedTo g n p → IsSteppedTo g (suc n) q → text_between p q a ≡ why_text g (suc n) a
 between_is g a n p q h k =
-    let before : Position = play p.game p.frame in
-    let after : Position = play q.game q.frame in
-    let sts : List Status = statuses_at q.game q.frame in
+    let before : Position = p.position in
+    let after : Position = q.position in
+    let sts : List Status = q.answers in
     let on : List Bool = scripted_signals p in
     let next : p.frame + 1 ≡ suc n = omega (arith, h.frame) in
     let same_on : on ≡ signals g.changes (suc n) = ap (λ (x : Game). signals x.changes (p.frame + 1)) h.game ∙ ap (signals g.changes) next in
-    let same_sts : sts ≡ statuses_at g (suc n) = scripted_statuses q k.by ∙ ap (λ (x : Game). statuses_at x q.frame) k.game ∙ ap (statuses_at g) k.frame in
+    let same_sts : sts ≡ statuses_at g (suc n) = k.played.answers ∙ scripted_statuses q k.by ∙ ap (λ (x : Game). statuses_at x q.frame) k.game ∙ ap (statuses_at g) k.frame in
     ap (λ f. told_of a f before after sts on p.game.trees) k.frame
     ∙ ap (λ (x : Position). told_of a (suc n) x after sts on p.game.trees) (position_is g p n h)
     ∙ ap (λ (x : Position). told_of a (suc n) (play g n) x sts on p.game.trees) (position_is g q (suc n) k)
