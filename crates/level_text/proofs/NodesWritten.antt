@@ -12,14 +12,7 @@ use Rattle.level_text.proofs.ItemsBefore.{items_before-no_items, items_before-pu
 
 begins : (p : Plain) → form (head p) (own_before (own p) (below p)) ≡ node_data p
 begins (Composite kind children) = refl
-begins (Star kind children) = refl
-begins (Par m children) = refl
-begins (Not child) = refl
-begins (Tries n child) = refl
-begins (Ticks n child) = refl
-begins (Wait n) = refl
-begins (Move p) = refl
-begins (Does leaf) = refl
+begins _ = refl
 
 module _ (p : Plain) (first : Value) (seen : view first ≡ string (head p)) where
   pub begun_alone : None ≡ own p → array (item (view first) (below p)) ≡ node_data p
