@@ -44,8 +44,13 @@ stores_the_way : stored_after one_slot (take 6 held_once) ≡ record { next = No
 unfolding setup_of one_slot held_once
 stores_the_way = refl
 
--- while the second Logic holds: its parameters, and the first frame's slot, thought and turn
-stores_the_turn : stored_after one_slot (take 12 held_once) ≡ record { next = Some 2; slots = Some 1 ∷ []; asking = Some (asked 1 0 0 true) ∷ []; thoughts = part 1 0 ∷ []; turns = Some 1 ∷ [] }
+-- the thought, once it has ended
+stores_the_thought : (stored_after one_slot (take 8 held_once)).thoughts ≡ part 1 0 ∷ []
+unfolding setup_of one_slot held_once
+stores_the_thought = refl
+
+-- while the second Logic holds: its parameters, and the first frame's slot and turn; the thought went with its Logic
+stores_the_turn : stored_after one_slot (take 12 held_once) ≡ record { next = Some 2; slots = Some 1 ∷ []; asking = Some (asked 1 0 0 true) ∷ []; thoughts = []; turns = Some 1 ∷ [] }
 unfolding setup_of one_slot held_once
 stores_the_turn = refl
 

@@ -1,5 +1,5 @@
 -- What is stored beside the phases of a state.
-use Rattle.std.proofs.Common.{◌≡◌, ◌<◌, ℕ, zero, suc, ◌%◌, Bool, true, false, ◌&&◌, nat_lt, List, Option, Some, None, length, slice_get, refl, sym, ap, ◌∙◌, ⊎_elim, arith}
+use Rattle.std.proofs.Common.{◌≡◌, ◌<◌, ℕ, zero, suc, ◌%◌, Bool, true, false, ◌&&◌, nat_lt, List, [], Option, Some, None, length, slice_get, refl, sym, ap, ◌∙◌, ⊎_elim, arith}
 use Rattle.std.proofs.lemmas.Bool.{cases_lt}
 use Rattle.job_core.specs.declared.names.JobName.TheVariants.{Logic, Think, Path, Draw}
 use Rattle.job_core.specs.Core.{Setup, IsJob, Phase, Absent, Queued, Runs, Waits, Finished, State, Shown}
@@ -34,6 +34,24 @@ IsOpen (Waits zero) = ⊥
 IsOpen (Waits (suc k)) = Unit {0}
 IsOpen Finished = ⊥
 
+-- one that waits for its thinks
+abbrev pub IsThinking : Phase → Type 0
+IsThinking Absent = ⊥
+IsThinking Queued = ⊥
+IsThinking (Runs w k) = ⊥
+IsThinking (Waits zero) = ⊥
+IsThinking (Waits (suc k)) = Unit {0}
+IsThinking Finished = ⊥
+
+-- one that is there and doesn't wait for them
+abbrev pub IsQuiet : Phase → Type 0
+IsQuiet Absent = ⊥
+IsQuiet Queued = Unit {0}
+IsQuiet (Runs w k) = Unit {0}
+IsQuiet (Waits zero) = Unit {0}
+IsQuiet (Waits (suc k)) = ⊥
+IsQuiet Finished = ⊥
+
 abbrev pub is_over : ℕ → Bool
 is_over zero = false
 is_over (suc n) = true
@@ -53,7 +71,8 @@ turn_in st (Some f) = turn_once (ended (st.phase (Logic f))) f
 
 pub record Kept (s : Setup) (k : Stored) (st : State) : Type 0 where
   pub next : (f : ℕ) → IsBefore (st.phase (Logic f)) → k.next ≡ Some f
-  pub thoughts : (f : ℕ) → IsOpen (st.phase (Logic f)) → k.thoughts ≡ thoughts_in s st f
+  pub thoughts : (f : ℕ) → IsThinking (st.phase (Logic f)) → k.thoughts ≡ thoughts_in s st f
+  pub no_thoughts : (f : ℕ) → IsQuiet (st.phase (Logic f)) → k.thoughts ≡ []
   pub asking : (f a i : ℕ) → st.phase (Think f a) ≡ Waits (suc i) → IsAsked k f a i (is_over (ended (st.phase (Path f a i))))
   pub turns : (i : ℕ) → i < s.slots → slice_get k.turns i ≡ Some (turn_in st (at k.slots i))
   pub agents : length k.asking ≡ s.agents
@@ -67,6 +86,21 @@ before_there Queued b = (λ e. cc, λ e. cc)
 before_there (Runs w k) b = (λ e. cc, λ e. cc)
 before_there (Waits k) b = (λ e. cc, λ e. cc)
 before_there Finished b = absurd b
+
+pub quiet_there : (p : Phase) → IsQuiet p → (p ≡ Absent → ⊥) × (p ≡ Finished → ⊥)
+quiet_there Absent b = absurd b
+quiet_there Queued b = (λ e. cc, λ e. cc)
+quiet_there (Runs w k) b = (λ e. cc, λ e. cc)
+quiet_there (Waits k) b = (λ e. cc, λ e. cc)
+quiet_there Finished b = absurd b
+
+pub quiet_not_thinking : (p : Phase) → IsQuiet p → IsThinking p → ⊥
+quiet_not_thinking Absent b t = b
+quiet_not_thinking Queued b t = t
+quiet_not_thinking (Runs w k) b t = t
+quiet_not_thinking (Waits zero) b t = t
+quiet_not_thinking (Waits (suc k)) b t = b
+quiet_not_thinking Finished b t = b
 
 pub open_there : (p : Phase) → IsOpen p → (p ≡ Absent → ⊥) × (p ≡ Finished → ⊥)
 open_there (Runs w k) b = (λ e. cc, λ e. cc)
@@ -82,14 +116,22 @@ pub open_not_ended : (p : Phase) → IsOpen p → ended p ≡ 0
 open_not_ended Finished b = absurd b
 open_not_ended _ b = refl
 
-think_open : (q : ℕ) (lp p : Phase) → ThinkFits q lp p → (p ≡ Absent → ⊥) → (p ≡ Finished → ⊥) → IsOpen lp
-think_open q Absent p h a b = a h
-think_open q Queued p h a b = a h
-think_open q (Runs w zero) p h a b = a h
-think_open q (Runs w (suc k)) p h a b = tt
-think_open q (Waits zero) p h a b = a h
-think_open q (Waits (suc k)) p h a b = tt
-think_open q Finished p h a b = b h
+pub thinking_open : (p : Phase) → IsThinking p → IsOpen p
+thinking_open Absent b = absurd b
+thinking_open Queued b = absurd b
+thinking_open (Runs w k) b = absurd b
+thinking_open (Waits zero) b = absurd b
+thinking_open (Waits (suc k)) b = tt
+thinking_open Finished b = absurd b
+
+thinks : (q : ℕ) (lp p : Phase) → ThinkFits q lp p → (p ≡ Absent → ⊥) → (p ≡ Finished → ⊥) → IsThinking lp
+thinks q Absent p h a b = a h
+thinks q Queued p h a b = a h
+thinks q (Runs w zero) p h a b = a h
+thinks q (Runs w (suc k)) p h a b = b h
+thinks q (Waits zero) p h a b = a h
+thinks q (Waits (suc k)) p h a b = tt
+thinks q Finished p h a b = b h
 
 path_waited : (i : ℕ) (tp p : Phase) → PathFits i tp p → (p ≡ Absent → ⊥) → (p ≡ Finished → ⊥) → tp ≡ Waits (suc i)
 path_waited i Absent p h a b = absurd (a h)
@@ -110,11 +152,20 @@ module _ (s : Setup) (st : State) (inv : Shape s st) where
   pub open_next : (f : ℕ) → IsOpen (st.phase (Logic f)) → f ≡ suc inv.turned
   open_next f b = let n = open_there (st.phase (Logic f)) b in logic_next s st inv f n.0 n.1
 
-  -- a Think under way, and a Path, are of a Logic that is open
-  pub open_of_think : (f a : ℕ) → (st.phase (Think f a) ≡ Absent → ⊥) → (st.phase (Think f a) ≡ Finished → ⊥) → IsOpen (st.phase (Logic f))
-  open_of_think f a na nf =
+  pub quiet_next : (f : ℕ) → IsQuiet (st.phase (Logic f)) → f ≡ suc inv.turned
+  quiet_next f b = let n = quiet_there (st.phase (Logic f)) b in logic_next s st inv f n.0 n.1
+
+  pub thinking_next : (f : ℕ) → IsThinking (st.phase (Logic f)) → f ≡ suc inv.turned
+  thinking_next f b = open_next f (thinking_open (st.phase (Logic f)) b)
+
+  -- a Think under way, and a Path, are of a Logic that waits for its thinks
+  pub thinking_of_think : (f a : ℕ) → (st.phase (Think f a) ≡ Absent → ⊥) → (st.phase (Think f a) ≡ Finished → ⊥) → IsThinking (st.phase (Logic f))
+  thinking_of_think f a na nf =
       let v : IsJob s (Think f a) = there s st inv (Think f a) na in
-      think_open (s.questions f a) (st.phase (Logic f)) (st.phase (Think f a)) (inv.think f a v.0 v.1) na nf
+      thinks (s.questions f a) (st.phase (Logic f)) (st.phase (Think f a)) (inv.think f a v.0 v.1) na nf
+
+  pub open_of_think : (f a : ℕ) → (st.phase (Think f a) ≡ Absent → ⊥) → (st.phase (Think f a) ≡ Finished → ⊥) → IsOpen (st.phase (Logic f))
+  open_of_think f a na nf = thinking_open (st.phase (Logic f)) (thinking_of_think f a na nf)
 
   pub think_of_path : (f a i : ℕ) → (st.phase (Path f a i) ≡ Absent → ⊥) → (st.phase (Path f a i) ≡ Finished → ⊥) → st.phase (Think f a) ≡ Waits (suc i)
   think_of_path f a i na nf =

@@ -12,7 +12,7 @@ use Rattle.board_model.specs.Lists.{at}
 use Rattle.board_model.specs.Law.{number, SlotsFit}
 use Rattle.board_model.specs.Stored.{Stored, store}
 use Rattle.board_model.proofs.Places.{length_set, get_here, get_other, at_set, at_set_other}
-use Rattle.board_model.proofs.Kept.{Kept, IsBefore, IsOpen, thoughts_in, turn_once, turn_in, before_next, open_next, open_shown, turn_same}
+use Rattle.board_model.proofs.Kept.{Kept, IsBefore, IsOpen, IsThinking, IsQuiet, thoughts_in, turn_once, turn_in, before_next, thinking_next, open_shown, turn_same}
 
 module _ (s : Setup) (st : State) (inv : Shape s st) (k : Stored) (g : Kept s k st) (fit : SlotsFit s k.slots (number s st)) where
   -- the frame in a slot, by its place
@@ -28,11 +28,12 @@ module _ (s : Setup) (st : State) (inv : Shape s st) (k : Stored) (g : Kept s k 
         (λ d. by_eq_lt h (suc f) f s.frames (λ x. IsBefore (if x then Queued else st.phase (Logic h)) → Some (suc f) ≡ Some h)
         (λ e l b. ap Some (sym e))
         (λ e b. absurd (d (before_next s st inv h b ∙ sym now))));
-    thoughts = λ h. by_eq h f (λ x. IsOpen (if x then Finished else (if (h == suc f) && nat_lt f s.frames then Queued else st.phase (Logic h))) → k.thoughts ≡ thoughts_in s (after s st (Finish w (Logic f))) h)
+    thoughts = λ h. by_eq h f (λ x. IsThinking (if x then Finished else (if (h == suc f) && nat_lt f s.frames then Queued else st.phase (Logic h))) → k.thoughts ≡ thoughts_in s (after s st (Finish w (Logic f))) h)
         (λ d b. absurd b)
-        (λ d. by_eq_lt h (suc f) f s.frames (λ x. IsOpen (if x then Queued else st.phase (Logic h)) → k.thoughts ≡ thoughts_in s (after s st (Finish w (Logic f))) h)
+        (λ d. by_eq_lt h (suc f) f s.frames (λ x. IsThinking (if x then Queued else st.phase (Logic h)) → k.thoughts ≡ thoughts_in s (after s st (Finish w (Logic f))) h)
         (λ e l b. absurd b)
-        (λ e b. absurd (d (open_next s st inv h b ∙ sym now))));
+        (λ e b. absurd (d (thinking_next s st inv h b ∙ sym now))));
+    no_thoughts = λ h b. g.no_thoughts f (subst IsQuiet (sym runs) tt);
     asking = g.asking;
     turns = λ i l. ⊎_elim
         (λ d. ap (slice_get (slice_set k.turns (f % s.slots) (Some f))) d
@@ -64,6 +65,7 @@ module _ (s : Setup) (st : State) (inv : Shape s st) (k : Stored) (g : Kept s k 
   emits f bound = record {
     next = g.next;
     thoughts = g.thoughts;
+    no_thoughts = g.no_thoughts;
     asking = g.asking;
     turns = λ i l. ⊎_elim
         (λ d. ap (slice_get (slice_set k.turns (f % s.slots) None)) d

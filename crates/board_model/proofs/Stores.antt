@@ -23,7 +23,7 @@ use Rattle.board_model.proofs.Needs.{slot_free}
 use Rattle.board_model.proofs.Opening.{opening_fits}
 use Rattle.board_model.proofs.Places.{length_replicate, get_first, get_at}
 use Rattle.board_model.proofs.InOrder.{among, among_all, among_missing, among_short}
-use Rattle.board_model.proofs.Kept.{Kept, IsBefore, IsOpen, is_over, turn_once, turn_in, open_of_think, open_of_wait, think_of_path, logic_of_draw, unshown_of_draw, open_shown, done_shown, in_slot}
+use Rattle.board_model.proofs.Kept.{Kept, IsBefore, IsOpen, IsThinking, is_over, turn_once, turn_in, open_of_think, thinking_of_think, open_of_wait, think_of_path, logic_of_draw, unshown_of_draw, open_shown, done_shown, in_slot}
 use Rattle.board_model.proofs.Storing.{starts, resumes, holds, stops, spreads, asks, path_ends, think_ends, draw_ends}
 use Rattle.board_model.proofs.Showing.{logic_ends, emits}
 
@@ -55,7 +55,7 @@ module _ (s : Setup) (st : State) (inv : Shape s st) (k : Stored) (g : Kept s k 
   logic_there f zero q z = tt
   logic_there f (suc n) q z =
       let b : IsOpen (st.phase (Logic f)) = subst IsOpen (sym q) tt in
-      (slot_of_open f b, g.thoughts f b ∙ among_all f s.agents (λ a. ended (st.phase (Think f a))) (λ a l. ap ended (zero_finished (st.phase (Think f a)) (total_all_zero s.agents (λ a. unfinished (st.phase (Think f a))) z a l))))
+      (slot_of_open f b, g.thoughts f (subst IsThinking (sym q) tt) ∙ among_all f s.agents (λ a. ended (st.phase (Think f a))) (λ a l. ap ended (zero_finished (st.phase (Think f a)) (total_all_zero s.agents (λ a. unfinished (st.phase (Think f a))) z a l))))
 
   think_there : (f a n : ℕ) → 0 < n → st.phase (Think f a) ≡ Waits n → left s st (awaited s (Think f a) n) ≡ 0 → HasParts s k (Think f a) n
   think_there f a zero l q z = absurd (omega arith)
@@ -94,7 +94,7 @@ module _ (s : Setup) (st : State) (inv : Shape s st) (k : Stored) (g : Kept s k 
   event_there (Finish w (Think f a)) m free =
       let q : st.phase (Think f a) ≡ Runs w m.0 = m.1 in
       let v : IsJob s (Think f a) = there s st inv (Think f a) (λ y. cc) in
-      subst (λ ps. IsMissing a ps × (length ps < s.agents)) (sym (g.thoughts f (open_of_think s st inv f a (λ y. cc) (λ y. cc))))
+      subst (λ ps. IsMissing a ps × (length ps < s.agents)) (sym (g.thoughts f (thinking_of_think s st inv f a (λ y. cc) (λ y. cc))))
       (among_missing f s.agents a (λ c. ended (st.phase (Think f c))) (ap ended q), among_short f s.agents a (λ c. ended (st.phase (Think f c))) v.1 (ap ended q))
   event_there (Finish w (Path f a i)) m free =
       let q : st.phase (Path f a i) ≡ Runs w m.0 = m.1 in
@@ -110,7 +110,10 @@ module _ (s : Setup) (st : State) (inv : Shape s st) (k : Stored) (g : Kept s k 
 -- the slots are those of the machine
 same_slots : (s : Setup) (st : State) (k : Stored) (c : Core) (e : Event) → k.slots ≡ c.slots → (store s st k e).slots ≡ (core_after s c e).slots
 same_slots s st k c (Start w j) h = h
-same_slots s st k c (Resume w j) h = h
+same_slots s st k c (Resume w (Logic f)) h = h
+same_slots s st k c (Resume w (Think f a)) h = h
+same_slots s st k c (Resume w (Path f a i)) h = h
+same_slots s st k c (Resume w (Draw f b)) h = h
 same_slots s st k c (Spread w (Logic f)) h = ap (λ xs. slice_set xs (f % s.slots) (Some f)) h ∙ sym (write_is c.slots (f % s.slots) (Some f))
 same_slots s st k c (Hold w (Logic f)) h = h
 same_slots s st k c (Ask w (Think f a)) h = h
@@ -182,7 +185,8 @@ tied_first s = record {
   same = refl;
   kept = record {
     next = λ f. by_eq_lt f 1 0 s.frames (λ x. IsBefore (if x then Queued else Absent) → Some 1 ≡ Some f) (λ d l b. ap Some (sym d)) (λ n b. absurd b);
-    thoughts = λ f. by_eq_lt f 1 0 s.frames (λ x. IsOpen (if x then Queued else Absent) → [] ≡ among f s.agents (λ a. 0)) (λ d l b. absurd b) (λ n b. absurd b);
+    thoughts = λ f. by_eq_lt f 1 0 s.frames (λ x. IsThinking (if x then Queued else Absent) → [] ≡ among f s.agents (λ a. 0)) (λ d l b. absurd b) (λ n b. absurd b);
+    no_thoughts = λ f b. refl;
     asking = λ f a i e. let z : Absent ≡ Waits (suc i) = e in absurd cc;
     turns = λ i l. get_first s.slots i None l ∙ ap Some (sym (ap (turn_in (opening s)) (none_at s.slots i)));
     agents = length_replicate s.agents None;

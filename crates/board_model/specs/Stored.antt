@@ -3,7 +3,7 @@ use Rattle.std.specs.Prelude.{ℕ, suc, ◌%◌, Bool, true, false, nat_lt, List
 use Rattle.std.specs.List.{range_with_len}
 use Rattle.job_core.specs.declared.names.JobName.TheVariants.{Logic, Think, Path}
 use Rattle.job_core.specs.declared.names.Event.{Event}
-use Rattle.job_core.specs.declared.names.Event.TheVariants.{Ask, Spread, Finish, Emit}
+use Rattle.job_core.specs.declared.names.Event.TheVariants.{Resume, Ask, Spread, Finish, Emit}
 use Rattle.job_core.specs.Core.{Setup, State, step_of, after, opening}
 
 -- an agent's thought of a frame
@@ -22,7 +22,7 @@ pub record Stored : Type 0 where
   pub next : Option ℕ  -- the frame to spread next
   pub slots : List (Option ℕ)  -- the frame in each slot
   pub asking : List (Option Asked)  -- the last question of each agent
-  pub thoughts : List Part  -- of the frame that has spread last, in the order of agents
+  pub thoughts : List Part  -- of the frame whose thinks are under way, in the order of agents
   pub turns : List (Option ℕ)  -- the frame in each slot whose turn is there
 
 abbrev pub part : ℕ → ℕ → Part
@@ -40,9 +40,10 @@ abbrev pub put_in : Part → List Part → List Part
 put_in p [] = p ∷ []
 put_in p (q ∷ qs) = if nat_lt p.number q.number then (p ∷ q ∷ qs) else (q ∷ put_in p qs)
 
--- what an event puts in, and what it takes out
+-- what an event puts in, and what it takes out. A Logic that goes on takes the thoughts with it
 abbrev pub store : Setup → State → Stored → Event → Stored
-store s st k (Spread w (Logic f)) = record k { next = None; slots = slice_set k.slots (f % s.slots) (Some f); thoughts = [] }
+store s st k (Spread w (Logic f)) = record k { next = None; slots = slice_set k.slots (f % s.slots) (Some f) }
+store s st k (Resume w (Logic f)) = record k { thoughts = [] }
 store s st k (Ask w (Think f a)) = record k { asking = slice_set k.asking a (Some (asked f a (step_of (st.phase (Think f a))) false)) }
 store s st k (Finish w (Path f a i)) = record k { asking = slice_set k.asking a (Some (asked f a i true)) }
 store s st k (Finish w (Think f a)) = record k { thoughts = put_in (part f a) k.thoughts }

@@ -15,13 +15,15 @@ use Rattle.frame_parts.proofs.kept_distances.KeptDistances.TheSendSync.{the_send
 use Rattle.frame_parts.proofs.known.Known.TheSendSync.{the_send as known_send, the_sync as known_sync}
 use Rattle.game_session.specs.contracts.session.Session as Session
 use Rattle.frame_state.specs.contracts.frame_start.FrameStart as FrameStart
-use Rattle.frame_state.specs.contracts.gathered.Gathered as Gathered
+use Rattle.frame_state.specs.contracts.gathering.Gathering as Gathering
+use Rattle.frame_state.specs.contracts.next_frame.NextFrame as NextFrame
 use Rattle.frame_state.specs.contracts.way.Way as Way
 use Rattle.frame_state.specs.contracts.thought.Thought as Thought
 use Rattle.frame_state.specs.contracts.turn.Turn as Turn
 use Rattle.frame_state.specs.contracts.band_out.BandOut as BandOut
 use Rattle.frame_state.specs.contracts.band_mark.BandMark as BandMark
 use Rattle.frame_state.specs.contracts.draw_task.DrawTask as DrawTask
+use Rattle.frame_state.specs.contracts.logic_task.Spread as Spread
 use Rattle.frame_state.specs.contracts.logic_task.LogicTask as LogicTask
 use Rattle.frame_state.specs.contracts.params.FrameParams as FrameParams
 use Rattle.frame_state.specs.contracts.slots.Slots as Slots
@@ -41,8 +43,11 @@ frame_start_send κ = search (session, of_parts, sendable, crosses) depth 40
 pub frame_start_sync : (κ : NamedLft) → IsSync (FrameStart.the_row κ)
 frame_start_sync κ = search (session, of_parts, sendable, crosses) depth 40
 
-pub gathered : (κ : NamedLft) → IsSend (Gathered.the_row κ)
-gathered κ = search (of_parts, frame_start_send, frame_start_sync, sendable, crosses) depth 40
+pub params : (κ : NamedLft) → IsSend (FrameParams.the_row κ)
+params κ = search (frame_start_send, frame_start_sync, of_parts, sendable, crosses) depth 40
+
+pub slots : (κ : NamedLft) → IsSend (Slots.the_row κ)
+slots κ = search (params, sendable, crosses) depth 40
 
 -- ---- results
 
@@ -52,8 +57,18 @@ way κ = search (session, of_parts, sendable, crosses) depth 40
 pub thought : (κ : NamedLft) → IsSend (Thought.the_row κ)
 thought κ = search (session, of_parts, sendable, crosses) depth 40
 
+pub gathering : (κ : NamedLft) → IsSend (Gathering.the_row κ)
+gathering κ = search (thought, of_parts, sendable, crosses) depth 40
+
+-- as a field of another type
+pub gathering_field : (κ : NamedLft) → IsSend (Gathering.the_field κ).row
+gathering_field κ = search (thought, of_parts, sendable, crosses) depth 60 fits 20000
+
+pub next_frame : (κ : NamedLft) → IsSend (NextFrame.the_row κ)
+next_frame κ = search (params, gathering, gathering_field, sendable, crosses) depth 40
+
 pub turn : (κ : NamedLft) → IsSend (Turn.the_row κ)
-turn κ = search (session, of_parts, sendable, crosses) depth 40
+turn κ = search (session, next_frame, of_parts, sendable, crosses) depth 40
 
 pub band_out : (κ : NamedLft) → IsSend (BandOut.the_row κ)
 band_out κ = search (session, of_parts, sendable, crosses) depth 40
@@ -66,13 +81,8 @@ band_mark κ = search (session, of_parts, sendable, crosses) depth 40
 pub draw_task : (κ : NamedLft) → IsSend (DrawTask.the_row κ)
 draw_task κ = search (session, of_parts, sendable, crosses) depth 40
 
+spread : (κ : NamedLft) → IsSend (Spread.the_row κ)
+spread κ = search (frame_start_send, frame_start_sync, gathering, gathering_field, sendable, crosses) depth 40
+
 pub logic_task : (κ : NamedLft) → IsSend (LogicTask.the_row κ)
-logic_task κ = search (session, gathered, sendable, crosses) depth 40
-
--- ---- what tasks are made of
-
-pub params : (κ : NamedLft) → IsSend (FrameParams.the_row κ)
-params κ = search (frame_start_send, frame_start_sync, of_parts, sendable, crosses) depth 40
-
-pub slots : (κ : NamedLft) → IsSend (Slots.the_row κ)
-slots κ = search (params, sendable, crosses) depth 40
+logic_task κ = search (session, spread, sendable, crosses) depth 40

@@ -1,14 +1,14 @@
 -- What a frame's logic has when all agents have thought, and what comes of its work.
-use Rattle.std.specs.Prelude.{ℕ, ◌≡◌, ◌<◌, true, false, List, [], length, slice_index_or, Option, Some, None, Box, box_value}
-use Rattle.std.specs.declared.alloc.Global.{Global}
+use Rattle.std.specs.Prelude.{ℕ, ◌≡◌, ◌<◌, true, false, List, [], length, slice_index_or, vec_capacity, ◌≤◌}
 use Rattle.grid_world.specs.declared.cell.Intent.{Intent}
 use Rattle.bt_nodes.specs.declared.node.Status.{Status}
 use Rattle.bt_nodes.specs.Bounds.{Fits}
 use Rattle.game_jobs.specs.Instance.{tree_of}
-use Rattle.frame_parts.specs.Distances.{DistancesOf, AllOn}
+use Rattle.frame_parts.specs.Distances.{DistancesOf, AllOn, AllUnder}
 use Rattle.frame_parts.specs.Memories.{AllFit}
 use Rattle.frame_state.specs.Names.{FrameOf, PartOf, LogicOf, frame_of}
-use Rattle.frame_state.specs.Contents.{memories_after, intents_in, statuses_in}
+use Rattle.frame_state.specs.declared.gathering.Gathering.{Gathering}
+use Rattle.frame_state.specs.Contents.{memories_after, intents_in, statuses_in, signals_in}
 use Rattle.frame_state.specs.declared.logic_step.LogicStep.{LogicStep}
 use Rattle.frame_state.specs.declared.logic_step.LogicStep.TheVariants.{Begins, Turned}
 
@@ -20,9 +20,9 @@ pub record AreGathered (p : FrameOf) (intents : List Intent) (statuses : List St
   pub fit : AllFit p.game.trees memories
   pub found_are : AllOn p.game.world found
 
-abbrev pub AreGatheredIf : FrameOf → Option (Box FrameOf Global) → Type 0
-AreGatheredIf p None = Unit {0}
-AreGatheredIf p (Some x) = box_value x ≡ p
+-- empty room for the thoughts of a frame's agents, with distances that hold in the frame
+abbrev pub IsRoomIn : FrameOf → Gathering → Type 0
+IsRoomIn p room = (room.thoughts.items ≡ []) × (length p.game.trees ≤ vec_capacity room.thoughts) × AllUnder p.game.world (signals_in p.game p.frame) room.found.items
 
 -- each memory fits the tree of the thought at its place
 abbrev pub AllFitOwn : List PartOf → List (List ℕ) → Type 0

@@ -1,15 +1,16 @@
 ghost use Rattle.std.specs.Prelude.{◌≡◌, IfOk, map};
 ghost use Rattle.frame_state.specs.Names.{AreOfAllAgents};
-ghost use Rattle.frame_state.specs.Contents.{thought_for};
+ghost use Rattle.std.specs.Arc.{arc_value};
+ghost use Rattle.frame_parts.specs.Distances.{AllUnder};
+ghost use Rattle.frame_state.specs.Contents.{signals_in, thought_for};
 ghost use Rattle.frame_state.specs.Logic.{AllFitOwn};
 
 use crate::frame_start::FrameStart;
 use crate::kept_memory::KeptMemory;
-use crate::params::FrameParams;
 use crate::thought::Thought;
 use crate::turn::{Turn, Turned};
 use bt_nodes::Status;
-use frame_parts::{KeptDistances, resolved};
+use frame_parts::{KeptDistances, resolved, shared};
 use grid_world::Intent;
 use std::alloc::{AllocError, Global};
 use std::marker::Model;
@@ -86,23 +87,25 @@ fn memories_of(alloc: Global, thoughts: &[Thought]) -> Result<Vec<KeptMemory>, A
 }
 
 impl<'t> Gathered<'t> {
-    // The thoughts of all agents in a frame, in order; it shares their memories.
+    // The thoughts of all agents in a frame, in order, and the distances that were found there; it shares their memories.
     pub(crate) fn of(
         alloc: Global,
-        params: &FrameParams<'t>,
+        start: &Arc<FrameStart<'t>>,
         thoughts: &[Thought<'t>],
+        found: &[KeptDistances],
     ) -> Result<Gathered<'t>, AllocError>
-        requires { AreOfAllAgents params.now thoughts.now }
-        ensures { IfOk result (λ gathered. gathered ≡ params.now) }
+        requires thoughts { AreOfAllAgents (arc_value start.now) thoughts.now }
+        requires found { AllUnder (arc_value start.now).game.world (signals_in (arc_value start.now).game (arc_value start.now).frame) found.now }
+        ensures { IfOk result (λ gathered. gathered ≡ arc_value start.now) }
     {
         let memories = memories_of(alloc, thoughts)?;
         let statuses = statuses_of(alloc, thoughts)?;
         Ok(Gathered {
-            start: params.share()?,
+            start: Arc::try_clone(start)?,
             intents: intents_of(alloc, thoughts)?,
             statuses: Arc::new(alloc, statuses)?,
             memories: Arc::new(alloc, memories)?,
-            found: params.found(alloc)?,
+            found: shared(alloc, found)?,
         })
     }
 
@@ -120,14 +123,17 @@ impl<'t> Gathered<'t> {
             memories: Arc::try_clone(&self.memories)?,
             statuses: Arc::try_clone(&self.statuses)?,
             known,
+            next: None,
         })
     }
 
-    // The same as one word.
+    // The same as one word, with what it brings for the frame after it.
     pub(crate) fn turn(&self, alloc: Global) -> Result<Turn<'t>, AllocError>
         ensures { IfOk result (λ turn. turn ≡ self.now) }
     {
         let turned = self.turned(alloc)?;
-        Ok(Turn::new(alloc, turned)?)
+        let mut turn = Turn::new(alloc, turned)?;
+        turn.prepare(alloc)?;
+        Ok(turn)
     }
 }

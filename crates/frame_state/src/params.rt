@@ -171,8 +171,8 @@ impl<'t> FrameParams<'t> {
         Ok(self.params.share()?)
     }
 
-    // The distances that were found in the frame, once more; nothing is copied.
-    pub(crate) fn found(&self, alloc: Global) -> Result<Vec<KeptDistances>, AllocError>
+    /// The distances that were found in the frame, once more; nothing is copied.
+    pub fn found(&self, alloc: Global) -> Result<Vec<KeptDistances>, AllocError>
         ensures { IfOk result (λ found. AllUnder self.now.game.world (signals_in self.now.game self.now.frame) found.items) }
     {
         Ok(shared(alloc, self.params.found())?)

@@ -1,4 +1,4 @@
-ghost use Rattle.std.specs.Prelude.{◌≡◌};
+ghost use Rattle.std.specs.Prelude.{◌≡◌, IfOk};
 ghost use Rattle.bt_nodes.specs.Bounds.{Fits};
 ghost use Rattle.game_jobs.specs.Instance.{tree_of};
 ghost use Rattle.frame_state.specs.Contents.{thought_in, questions_in};
@@ -9,6 +9,7 @@ use bt_nodes::Status;
 use game_session::Session;
 use grid_world::Intent;
 use job_core::names::JobName;
+use std::alloc::AllocError;
 use std::marker::Model;
 
 /// What an agent thought in a frame: its tick's answer, its memory after it, and what it wants to do.
@@ -109,6 +110,21 @@ impl<'t> Thought<'t> {
         ensures { result ≡ questions_in self.now.game self.now.frame self.now.number }
     {
         self.questions
+    }
+
+    // The same thought once more; its memory is shared.
+    pub(crate) fn share(&self) -> Result<Thought<'t>, AllocError>
+        ensures { IfOk result (λ t. t ≡ self.now) }
+    {
+        Ok(Thought {
+            session: self.session,
+            frame: self.frame,
+            agent: self.agent,
+            questions: self.questions,
+            status: self.status,
+            memory: self.memory.share()?,
+            intent: self.intent,
+        })
     }
 
     // The tick's answer.

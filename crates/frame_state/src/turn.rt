@@ -1,7 +1,8 @@
-ghost use Rattle.std.specs.Prelude.{◌≡◌, IfOk, length};
+ghost use Rattle.std.specs.Prelude.{◌≡◌, ◌+◌, ◌^◌, ◌<◌, IfOk, IfSome, OnOk, length};
 ghost use Rattle.frame_state.specs.Contents.{world_after, statuses_in, bands_in};
 
 use crate::kept_memory::KeptMemory;
+use crate::next_frame::NextFrame;
 use bt_nodes::Status;
 use draw_list::band_count;
 use frame_parts::Known;
@@ -22,6 +23,8 @@ pub(crate) struct Turned<'t> {
     pub(crate) statuses: Arc<Vec<Status>>,
     // What was found under the signals of the frame.
     pub(crate) known: Known,
+    // Made with the turn, so that whoever keeps the turn makes nothing.
+    pub(crate) next: Option<NextFrame<'t>>,
 }
 
 impl<'t> Drop for Turned<'t> {
@@ -33,14 +36,15 @@ impl<'t> Drop for Turned<'t> {
             memories: _,
             statuses: _,
             known: _,
+            next: _,
         } = self;
     }
 }
 
 impl<'t> Model for Turned<'t> {
-    ghost use Rattle.std.specs.Prelude.{◌≡◌, ◌<◌};
+    ghost use Rattle.std.specs.Prelude.{◌≡◌, ◌<◌, ◌+◌, IfSome};
     ghost use Rattle.std.specs.Arc.{arc_value};
-    ghost use Rattle.frame_state.specs.Names.{FrameOf, frame_code};
+    ghost use Rattle.frame_state.specs.Names.{FrameOf, frame_of, frame_code};
     ghost use Rattle.frame_state.specs.Contents.{IsAfter, statuses_in};
 
     ghost Value = { FrameOf };
@@ -52,7 +56,8 @@ impl<'t> Model for Turned<'t> {
     ghost invariant = { λ t. (0 < t.frame)
         × IsAfter t.session.now t.frame (arc_value t.world) (arc_value t.memories).items
         × ((arc_value t.statuses).items ≡ statuses_in t.session.now t.frame)
-        × (t.known.ground ≡ t.session.now.world) };
+        × (t.known.ground ≡ t.session.now.world)
+        × IfSome t.next (λ n. n ≡ frame_of t.session.now (t.frame + 1)) };
 }
 
 impl<'t> Turned<'t> {
@@ -94,6 +99,21 @@ impl<'t> Turned<'t> {
     {
         &self.statuses
     }
+
+    // What it brings for the frame after it, if that wasn't taken out yet.
+    fn take_next(&mut self) -> Option<NextFrame<'t>>
+        ensures next { IfSome result (λ n. n ≡ record { game = self.old.game; frame = self.old.frame + 1 }) }
+        ensures turned { self.new ≡ self.old }
+    {
+        self.next.take()
+    }
+
+    fn set_next(&mut self, next: NextFrame<'t>)
+        requires { next ≡ record { game = self.old.game; frame = self.old.frame + 1 } }
+        ensures { self.new ≡ self.old }
+    {
+        self.next = Some(next);
+    }
 }
 
 /// What came of a frame: the world and the memories after it, and the answers of the agents' ticks.
@@ -126,6 +146,29 @@ impl<'t> Turn<'t> {
         Ok(Turn {
             turned: Box::new(alloc, turned)?,
         })
+    }
+
+    // Makes what it brings for the frame after it, where there can be one.
+    pub(crate) fn prepare(&mut self, alloc: Global) -> Result<(), AllocError>
+        ensures { OnOk result (self.new ≡ self.old) }
+    {
+        if self.frame() < u32::MAX {
+            let next = NextFrame::after(alloc, self)?;
+            self.turned.set_next(next);
+        }
+        Ok(())
+    }
+
+    /// What it brings for the frame after it. That came with it, so this takes no memory but where it was taken out before.
+    pub fn take_next(&mut self, alloc: Global) -> Result<NextFrame<'t>, AllocError>
+        requires { self.old.frame + 1 < 2 ^ 32 }
+        ensures next { IfOk result (λ n. n ≡ record { game = self.old.game; frame = self.old.frame + 1 }) }
+        ensures turn { self.new ≡ self.old }
+    {
+        match self.turned.take_next() {
+            Some(next) => Ok(next),
+            None => Ok(NextFrame::after(alloc, self)?),
+        }
     }
 
     // What it is a word for.

@@ -2,7 +2,7 @@
 use denote.Ref.{NamedLft}
 use denote.Param.Send.{IsSend, sendable}
 use Rattle.std.proofs.Crossing.{crosses}
-use Rattle.frame_state.proofs.Crossing.{session, way, thought, turn, band_mark, params, slots}
+use Rattle.frame_state.proofs.Crossing.{session, way, thought, gathering, gathering_field, turn, band_mark, params, slots}
 use Rattle.frame_params.proofs.Crossing.{parked}
 use Rattle.task_board.specs.contracts.done.Done as Done
 use Rattle.task_board.specs.contracts.shown.Shown as Shown
@@ -25,7 +25,7 @@ pub asking : (κ : NamedLft) → IsSend (Asking.the_row κ)
 asking κ = search (session, parked, way, sendable, crosses) depth 40
 
 thoughts : (κ : NamedLft) → IsSend (Thoughts.the_row κ)
-thoughts κ = search (session, thought, sendable, crosses) depth 40
+thoughts κ = search (session, thought, gathering, gathering_field, sendable, crosses) depth 40
 
 spent : (κ : NamedLft) → IsSend (Spent.the_row κ)
 spent κ = search (params, parked, sendable, crosses) depth 40

@@ -1,5 +1,5 @@
 -- What events need of a shelf and what they store there, by setups of the same sizes.
-use Rattle.std.proofs.Common.{◌≡◌, ◌<◌, ◌%◌, zero, suc, ℕ, [], Some, None, length, slice_get, slice_set, refl, ap, ◌∙◌, subst}
+use Rattle.std.proofs.Common.{◌≡◌, ◌<◌, ◌%◌, zero, suc, ℕ, Some, None, length, slice_get, slice_set, refl, ap, ◌∙◌, subst}
 use Rattle.job_core.specs.declared.names.JobName.{JobName}
 use Rattle.job_core.specs.declared.names.JobName.TheVariants.{Logic, Think, Path, Draw}
 use Rattle.job_core.specs.declared.names.Event.{Event}
@@ -17,7 +17,7 @@ same_parts s t x y z k (Path f a i) n h = (subst (λ m. slice_get k.slots (f % m
 same_parts s t x y z k (Draw f b) n h = (subst (λ m. slice_get k.turns (f % m) ≡ Some (Some f)) x h.0, subst (λ m. b < m) z h.1)
 
 pub same_store : (s t : Setup) → s.slots ≡ t.slots → (st : State) (k : Stored) (e : Event) → store s st k e ≡ store t st k e
-same_store s t x st k (Spread w (Logic f)) = ap (λ m. record k { next = None; slots = slice_set k.slots (f % m) (Some f); thoughts = [] }) x
+same_store s t x st k (Spread w (Logic f)) = ap (λ m. record k { next = None; slots = slice_set k.slots (f % m) (Some f) }) x
 same_store s t x st k (Finish w (Logic f)) = ap (λ m. record k { next = Some (suc f); turns = slice_set k.turns (f % m) (Some f) }) x
 same_store s t x st k (Finish w (Draw f b)) = refl
 same_store s t x st k (Emit f) = ap (λ m. record k { slots = slice_set k.slots (f % m) None; turns = slice_set k.turns (f % m) None }) x
@@ -25,7 +25,10 @@ same_store s t x st k (Ask w (Think f a)) = refl
 same_store s t x st k (Finish w (Think f a)) = refl
 same_store s t x st k (Finish w (Path f a i)) = refl
 same_store s t x st k (Start w j) = refl
-same_store s t x st k (Resume w j) = refl
+same_store s t x st k (Resume w (Logic f)) = refl
+same_store s t x st k (Resume w (Think f a)) = refl
+same_store s t x st k (Resume w (Path f a i)) = refl
+same_store s t x st k (Resume w (Draw f b)) = refl
 same_store s t x st k (Hold w j) = refl
 same_store s t x st k Stop = refl
 same_store s t x st k (Ask w (Logic f)) = refl

@@ -80,9 +80,13 @@ module _ (g : Game) (next : Option FrameOf) (slots : List (Option FrameOf)) (ask
       → record { game = g; stored = stored_as later slots asking thoughts (slice_set turns i x) } ≡ record shelved { stored = record shelved.stored { next = Some f; turns = slice_set shelved.stored.turns k y } }
   with_turn later f i k x y n e h = ap₂ (λ m l. record shelved { stored = record shelved.stored { next = m; turns = l } }) n (set_named frame_name turns i k x y e h)
 
-  pub with_frame : (p : FrameOf) (f i k : ℕ) (t : PartsOf) → p.frame ≡ f → i ≡ k → t.parts ≡ []
-      → record { game = g; stored = stored_as None (slice_set slots i (Some p)) asking t turns } ≡ record shelved { stored = record shelved.stored { next = None; slots = slice_set shelved.stored.slots k (Some f); thoughts = [] } }
-  with_frame p f i k t n e h = ap₂ (λ l m. record shelved { stored = record shelved.stored { next = None; slots = l; thoughts = m } }) (set_named frame_name slots i k (Some p) (Some f) e (ap Some n)) h
+  pub with_frame : (p : FrameOf) (f i k : ℕ) → p.frame ≡ f → i ≡ k
+      → record { game = g; stored = stored_as None (slice_set slots i (Some p)) asking thoughts turns } ≡ record shelved { stored = record shelved.stored { next = None; slots = slice_set shelved.stored.slots k (Some f) } }
+  with_frame p f i k n e = ap (λ l. record shelved { stored = record shelved.stored { next = None; slots = l } }) (set_named frame_name slots i k (Some p) (Some f) e (ap Some n))
+
+  pub with_no_thoughts : (t : PartsOf) → t.parts ≡ []
+      → record { game = g; stored = stored_as next slots asking t turns } ≡ record shelved { stored = record shelved.stored { thoughts = [] } }
+  with_no_thoughts t e = ap (λ l. record shelved { stored = record shelved.stored { thoughts = l } }) e
 
   pub shown : (i j k : ℕ) → i ≡ k → j ≡ k
       → record { game = g; stored = stored_as next (slice_set slots i None) asking thoughts (slice_set turns j None) } ≡ record shelved { stored = record shelved.stored { slots = slice_set shelved.stored.slots k None; turns = slice_set shelved.stored.turns k None } }

@@ -1,6 +1,8 @@
-ghost use Rattle.std.specs.Prelude.{◌≡◌, ℕ, ◌≤◌, ◌+◌, None, IfOk, IfSome, OnOk, OnErr, true, false, ◌↔◌, IsTrue};
+ghost use Rattle.std.specs.Prelude.{◌≡◌, ℕ, suc, ◌≤◌, ◌+◌, None, IfOk, IfSome, OnOk, OnErr, true, false, ◌↔◌, IsTrue};
+ghost use Rattle.job_core.specs.declared.names.JobName.TheVariants.{Logic};
 ghost use Rattle.job_core.specs.declared.names.Event.TheVariants.{Start, Resume, Emit};
 ghost use Rattle.job_core.specs.Core.{Runs, Waits, IsLegal};
+ghost use Rattle.frame_state.specs.Names.{logic_of};
 ghost use Rattle.frame_params.specs.Tasks.{IsTaskAt};
 ghost use Rattle.board_model.specs.Lists.{first_place};
 ghost use Rattle.board_model.specs.Board.{core_of, holds};
@@ -8,7 +10,7 @@ ghost use Rattle.task_board.specs.Boards.{setup_in, state_in, Happens};
 ghost use Rattle.task_board.specs.Given.{MayBeTakenUp, NothingToShow};
 
 use super::board::TaskBoard;
-use frame_params::Task;
+use frame_params::{LogicTask, Task};
 use job_core::names::JobName;
 use job_queues::is_same;
 use job_scheduler::{Fiber, Held, OutOfMemory};
@@ -92,6 +94,32 @@ impl<'t> TaskBoard<'t> {
         Ok(())
     }
 
+    /// The task of a frame's logic that has all thoughts, with which a worker goes on, on the fiber that holds it. The thoughts go
+    /// into the task. What may be refused for memory comes before the event.
+    pub(crate) fn turn(
+        &mut self,
+        worker: u32,
+        fiber: Fiber,
+        frame: u32,
+    ) -> Result<LogicTask<'t>, OutOfMemory>
+        requires legal { IsLegal (setup_in self.old) (state_in self.old) (Resume worker (Logic frame)) }
+        requires place { first_place (holds (Logic frame)) (core_of (setup_in self.old) self.old.events).seats.jobs ≡ fiber }
+        requires spread { (k : ℕ) × ((state_in self.old).phase (Logic frame) ≡ Waits (suc k)) }
+        ensures happens { OnOk result (Happens self.old self.new (Resume worker (Logic frame))) }
+        ensures task { IfOk result (λ task. task ≡ logic_of self.old.game frame true) }
+        ensures unchanged { OnErr result (self.new ≡ self.old) }
+    {
+        let Ok((start, room)) = self.shelf.ready(self.alloc, frame) else {
+            return Err(OutOfMemory);
+        };
+        let logic = JobName::Logic { frame };
+        let Ok(()) = self.jobs.resume(worker, fiber, logic) else {
+            self.shelf.keep_room(room);
+            return Err(OutOfMemory);
+        };
+        Ok(self.shelf.turn(start, room))
+    }
+
     /// A worker goes on with a job, on the fiber that holds it.
     #[inline(always)]
     pub fn go_on(&mut self, worker: u32, fiber: Fiber, job: JobName) -> Result<(), OutOfMemory>
@@ -103,6 +131,7 @@ impl<'t> TaskBoard<'t> {
         let Ok(()) = self.jobs.resume(worker, fiber, job) else {
             return Err(OutOfMemory);
         };
+        self.shelf.go_on(job);
         Ok(())
     }
 }

@@ -175,7 +175,8 @@ impl<'t> TaskBoard<'t> {
         ensures back { IfErr result (λ back. back ≡ done.entry) }
         ensures unchanged { OnErr result (self.new ≡ self.old) }
     {
-        let Ok(next) = next_of(self.alloc, &done) else {
+        let mut done = done;
+        let Ok(next) = next_of(self.alloc, &mut done) else {
             return Err(done);
         };
         let Ok(()) = self.jobs.finish(worker, done.name()) else {

@@ -1,11 +1,13 @@
-ghost use Rattle.std.specs.Prelude.{◌≡◌, ◌<◌, ◌≤◌, ◌%◌, ◌+◌, ℕ, IfOk, Some, None, true, false, length, replicate, slice_get, slice_set};
+ghost use Rattle.std.specs.Prelude.{◌≡◌, ◌<◌, ◌≤◌, ◌%◌, ◌+◌, ℕ, [], IfOk, Some, None, true, false, box_value, length, replicate, slice_get, slice_set, vec_capacity};
+ghost use Rattle.std.specs.Arc.{arc_value};
 ghost use Rattle.std.specs.Option.{IsSomeAnd};
 ghost use Rattle.job_core.specs.Core.{State};
-ghost use Rattle.job_core.specs.declared.names.Event.TheVariants.{Spread, Finish, Emit};
+ghost use Rattle.job_core.specs.declared.names.Event.TheVariants.{Resume, Spread, Finish, Emit};
 ghost use Rattle.job_core.specs.declared.names.JobName.TheVariants.{Logic, Path};
-ghost use Rattle.board_model.specs.Stored.{stored_first, asked};
+ghost use Rattle.board_model.specs.Stored.{stored_first, asked, parts};
 ghost use Rattle.board_model.specs.Needed.{HasParts, HasTurn, IsInSlot, IsAsked};
-ghost use Rattle.frame_state.specs.Names.{frame_of};
+ghost use Rattle.frame_state.specs.Names.{frame_of, logic_of};
+ghost use Rattle.frame_state.specs.Logic.{IsRoomIn};
 ghost use Rattle.frame_params.specs.Tasks.{IsTaskAt};
 ghost use Rattle.task_board.specs.Shelf.{Stores, IsWanted, IsBeforeLast, next_done, sizes};
 ghost use Rattle.task_board.specs.Dones.{game_done, job_done};
@@ -16,13 +18,15 @@ use super::shown::Shown;
 use super::spent::Spent;
 use super::thoughts::Thoughts;
 use frame_params::{
-    DrawTask, FrameParams, LogicTask, Parked, PathTask, Slots, Task, ThinkTask, Turn, Way,
+    DrawTask, FrameParams, FrameStart, Gathering, LogicTask, NextFrame, Parked, PathTask, Slots,
+    Task, ThinkTask, Turn, Way,
 };
 use game_session::Session;
 use job_core::names::JobName;
 use std::alloc::{AllocError, Global};
 use std::marker::Model;
 use std::mem;
+use std::sync::Arc;
 
 /// What the work of the frames under way came to, for the tasks that are made of it.
 /// What most events touch lies first, behind the queues and counters of the jobs.
@@ -91,14 +95,15 @@ fn no_turns<'t>(alloc: Global, slots: u32) -> Result<Vec<Option<Turn<'t>>>, Allo
     Ok(turns)
 }
 
-/// The parameters of the frame after a turn's, where a job came to a turn.
+/// What a turn brings for the frame after it, where a job came to a turn.
 #[inline(always)]
-pub fn next_of<'t>(alloc: Global, done: &Done<'t>) -> Result<Option<FrameParams<'t>>, AllocError>
-    requires { IsBeforeLast done.now }
-    ensures { IfOk result (λ next. next ≡ next_done done.now) }
+pub fn next_of<'t>(alloc: Global, done: &mut Done<'t>) -> Result<Option<NextFrame<'t>>, AllocError>
+    requires { IsBeforeLast done.old }
+    ensures next { IfOk result (λ next. next ≡ next_done done.old) }
+    ensures done { done.new ≡ done.old }
 {
     match done {
-        Done::Turned(turn) => Ok(Some(FrameParams::after(alloc, turn)?)),
+        Done::Turned(turn) => Ok(Some(turn.take_next(alloc)?)),
         Done::Thought(_) | Done::Way(_) | Done::Drawn(_) => Ok(None),
     }
 }
@@ -220,6 +225,59 @@ impl<'t> Shelf<'t> {
         }
     }
 
+    /// What the logic of a frame is made of, when all its agents have thought, beside their thoughts: what the frame starts from,
+    /// and empty room for them, with the distances that were found in the frame.
+    pub fn ready(
+        &mut self,
+        alloc: Global,
+        frame: u32,
+    ) -> Result<(Arc<FrameStart<'t>>, Box<Gathering<'t>>), AllocError>
+        requires { IsInSlot (sizes self.old) self.old.stored frame }
+        ensures start { IfOk result (λ r. arc_value r.0 ≡ frame_of self.old.game frame) }
+        ensures room { IfOk result (λ r. IsRoomIn (frame_of self.old.game frame) (box_value r.1)) }
+        ensures unchanged { self.new ≡ self.old }
+    {
+        let params = self.params(frame);
+        let start = params.share()?;
+        let found = params.found(alloc)?;
+        let mut room = self.thoughts.take_room(alloc)?;
+        room.found = found;
+        Ok((start, room))
+    }
+
+    /// Keeps room that is not wanted yet.
+    pub fn keep_room(&mut self, room: Box<Gathering<'t>>)
+        requires empty { (box_value room).thoughts.items ≡ [] }
+        requires room { length self.old.game.trees ≤ vec_capacity (box_value room).thoughts }
+        ensures { self.new ≡ self.old }
+    {
+        self.thoughts.keep_room(room);
+    }
+
+    /// The logic of a frame goes on, with all thoughts.
+    pub fn turn(&mut self, start: Arc<FrameStart<'t>>, room: Box<Gathering<'t>>) -> LogicTask<'t>
+        requires game { (arc_value start).game ≡ self.old.game }
+        requires room { IsRoomIn (arc_value start) (box_value room) }
+        requires all { self.old.stored.thoughts ≡ parts (arc_value start).frame (length self.old.game.trees) }
+        ensures task { result ≡ logic_of self.old.game (arc_value start.entry).frame true }
+        ensures stored { (st : State) (w : ℕ) → Stores self.old self.new st (Resume w (Logic (arc_value start.entry).frame)) }
+    {
+        let mut room = room;
+        self.thoughts.move_into(&mut room);
+        LogicTask::gathered(start, room)
+    }
+
+    /// A job goes on. Where it is a frame's logic, the thoughts that are kept are wanted no more.
+    #[inline(always)]
+    pub fn go_on(&mut self, job: JobName)
+        ensures { (st : State) (w : ℕ) → Stores self.old self.new st (Resume w job) }
+    {
+        match job {
+            JobName::Logic { .. } => self.thoughts.clear(),
+            JobName::Think { .. } | JobName::Path { .. } | JobName::Draw { .. } => {}
+        }
+    }
+
     /// A frame has spread: its parameters go into its slot.
     pub fn spread(&mut self)
         requires { IsSomeAnd self.old.stored.next (λ f. slice_get self.old.stored.slots (f % length self.old.stored.slots) ≡ Some None) }
@@ -229,7 +287,6 @@ impl<'t> Shelf<'t> {
             Some(params) => self.slots.fill(params),
             None => unreachable!(),
         }
-        self.thoughts.clear();
     }
 
     /// An agent's thought stands at a question.
@@ -253,7 +310,7 @@ impl<'t> Shelf<'t> {
 
     /// Keeps what a job came to, for the tasks that are made of it.
     #[inline(always)]
-    pub fn keep(&mut self, done: Done<'t>, next: Option<FrameParams<'t>>)
+    pub fn keep(&mut self, done: Done<'t>, next: Option<NextFrame<'t>>)
         requires game { game_done done ≡ self.old.game }
         requires wanted { IsWanted self.old done }
         requires next { next ≡ next_done done }
@@ -271,15 +328,18 @@ impl<'t> Shelf<'t> {
         }
     }
 
-    fn turned(&mut self, turn: Turn<'t>, next: Option<FrameParams<'t>>)
+    fn turned(&mut self, turn: Turn<'t>, next: Option<NextFrame<'t>>)
         requires game { turn.game ≡ self.old.game }
         requires free { slice_get self.old.stored.turns (turn.frame % length self.old.stored.slots) ≡ Some None }
         requires next { next ≡ Some (frame_of turn.game (turn.frame + 1)) }
         ensures { (st : State) (w : ℕ) → Stores self.old self.new st (Finish w (Logic turn.entry.frame)) }
     {
         let at = turn.frame() as usize % self.turns.len();
+        let Some(next) = next else { unreachable!() };
+        let (params, room) = next.into_parts();
         self.turns[at] = Some(turn);
-        self.next = next;
+        self.next = Some(params);
+        self.thoughts.keep_room(room);
     }
 
     // Keeps the distances that a way's search found with the parameters of its frame, for the questions that come later.

@@ -1,28 +1,36 @@
-ghost use Rattle.std.specs.Prelude.{◌≡◌, ◌<◌, ◌≤◌, length, nat_lt, vec_len, vec_capacity, [], true, IfOk};
+ghost use Rattle.std.specs.Prelude.{◌≡◌, ◌<◌, ◌≤◌, ℕ, length, nat_lt, vec_len, vec_capacity, box_value, [], true, IfOk};
 ghost use Rattle.std.specs.List.{insert, position_or_len};
 ghost use Rattle.board_model.specs.Stored.{parts, put_in};
+ghost use Rattle.frame_state.specs.Names.{AreOfAllAgents, frame_of};
 ghost use Rattle.task_board.specs.Parts.{AreInOrder};
 ghost use Rattle.task_board.specs.Shelf.{part_name};
 
-use frame_params::{FrameParams, LogicTask, Thought};
+use frame_params::{FrameParams, Gathering, LogicTask, Thought};
 use game_session::Session;
 use std::alloc::{AllocError, Global};
 use std::marker::Model;
+use std::mem;
 
 /// What the agents thought in the frame under way, by agent number. There is room for the thoughts of all agents.
 pub(crate) struct Thoughts<'t> {
     session: &'t Session,
     all: Vec<Thought<'t>>,
+    // Where they go once they are all there, if the turn before brought it already.
+    room: Option<Box<Gathering<'t>>>,
 }
 
 impl<'t> Drop for Thoughts<'t> {
     fn drop(self) {
-        let Self { session: _, all: _ } = self;
+        let Self {
+            session: _,
+            all: _,
+            room: _,
+        } = self;
     }
 }
 
 impl<'t> Model for Thoughts<'t> {
-    ghost use Rattle.std.specs.Prelude.{◌≤◌, length, map, vec_capacity};
+    ghost use Rattle.std.specs.Prelude.{◌≡◌, ◌≤◌, [], IfSome, length, map, vec_capacity, box_value};
     ghost use Rattle.task_board.specs.Parts.{AreInOrder, AreOfGame};
     ghost use Rattle.task_board.specs.Shelf.{PartsOf, part_name};
     ghost use Rattle.task_board.specs.ShelfCode.{parts_of_code};
@@ -33,7 +41,8 @@ impl<'t> Model for Thoughts<'t> {
 
     ghost view = { λ t. record { game = t.session.now; parts = map part_name t.all.items } };
 
-    ghost invariant = { λ t. AreOfGame t.session.now t.all.items × AreInOrder t.all.items × (length t.session.now.trees ≤ vec_capacity t.all) };
+    ghost invariant = { λ t. AreOfGame t.session.now t.all.items × AreInOrder t.all.items × (length t.session.now.trees ≤ vec_capacity t.all)
+        × IfSome t.room (λ r. ((box_value r).thoughts.items ≡ []) × (length t.session.now.trees ≤ vec_capacity (box_value r).thoughts)) };
 }
 
 // The place of an agent's thought: before those of later agents. Mostly agents end in their order, so it is looked for from
@@ -83,7 +92,46 @@ impl<'t> Thoughts<'t> {
         Ok(Thoughts {
             session,
             all: Vec::with_capacity(alloc, agents as usize)?,
+            room: None,
         })
+    }
+
+    /// Room that is empty, for another frame's thoughts: that which the last turn brought, or else memory is taken for it.
+    pub(crate) fn take_room(&mut self, alloc: Global) -> Result<Box<Gathering<'t>>, AllocError>
+        ensures empty { IfOk result (λ r. (box_value r).thoughts.items ≡ []) }
+        ensures room { IfOk result (λ r. length self.old.game.trees ≤ vec_capacity (box_value r).thoughts) }
+        ensures unchanged { self.new ≡ self.old }
+    {
+        match self.room.take() {
+            Some(room) => Ok(room),
+            None => Ok(Gathering::with_room(alloc, self.agents())?),
+        }
+    }
+
+    /// Keeps such room.
+    pub(crate) fn keep_room(&mut self, room: Box<Gathering<'t>>)
+        requires empty { (box_value room).thoughts.items ≡ [] }
+        requires room { length self.old.game.trees ≤ vec_capacity (box_value room).thoughts }
+        ensures { self.new ≡ self.old }
+    {
+        self.room = Some(room);
+    }
+
+    /// Moves all thoughts into such room.
+    pub(crate) fn move_into(&mut self, room: &mut Gathering<'t>)
+        requires empty { room.old.thoughts.items ≡ [] }
+        requires room { length self.old.game.trees ≤ vec_capacity room.old.thoughts }
+        ensures parts { self.new ≡ record self.old { parts = [] } }
+        ensures moved { (f : ℕ) → self.old.parts ≡ parts f (length self.old.game.trees) → AreOfAllAgents (frame_of self.old.game f) room.new.thoughts.items }
+        ensures found { room.new.found ≡ room.old.found }
+    {
+        mem::swap(&mut self.all, &mut room.thoughts);
+    }
+
+    fn agents(&self) -> usize
+        ensures { result ≡ length self.now.game.trees }
+    {
+        self.session.world().agents().len()
     }
 
     pub(crate) fn clear(&mut self)

@@ -21,7 +21,7 @@ resolved-requires c =
 
 -- what a turn keeps
 abbrev Keeps : Game → ℕ → Grid → List (List ℕ) → List Status → Grid → Type 0
-Keeps g f world memories statuses known = (0 < f) × IsAfter g f world memories × (statuses ≡ statuses_in g f) × (known ≡ g.world)
+Keeps g f world memories statuses known = (0 < f) × IsAfter g f world memories × (statuses ≡ statuses_in g f) × (known ≡ g.world) × Unit {0}
 
 pub invariant_of-result : goal.invariant_of-result
 invariant_of-result c =
@@ -41,6 +41,7 @@ invariant_of-result c =
       subst (λ (v : Vec KeptMemory Global). IsAfter p.game p.frame (arc_value c.in_ok-new.field-0) v.items) (sym c.in_ok-try_clone.ensures) after,
       ap (λ (v : Vec Status Global). v.items) c.in_ok-try_clone-2.ensures ∙ are.statuses_are,
       ap (λ (k : KnownOf). k.ground) (c.in_ok-known.ensures ∙ c.known.ensures),
+      tt,
     ) in
     subst
     (λ (g : Game). Keeps g c.frame.result (arc_value c.in_ok-new.field-0) (arc_value c.in_ok-try_clone.field-0).items (arc_value c.in_ok-try_clone-2.field-0).items c.in_ok-known.known.ground)

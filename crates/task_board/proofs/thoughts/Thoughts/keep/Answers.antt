@@ -18,7 +18,7 @@ invariant_of-self c =
     ∙ ap (position_or_len (λ (x : PartOf). nat_lt c.args.thought.number x.number)) c.deref.ensures.value in
     let put = c.put_at.ensures.items ∙ ap (λ i. insert c.self.inside.all.items i c.args.thought) at in
     let game = rw (← c.self.view_is) at c.requires.game in
-    (subst (AreOfGame c.self.inside.session.now) (sym put) (of_game_put c.self.inside.session.now c.args.thought c.self.inside.all.items _ game c.self.invariant.0), subst AreInOrder (sym put) (in_order_put c.args.thought c.self.inside.all.items c.self.invariant.1), search rules)
+    (subst (AreOfGame c.self.inside.session.now) (sym put) (of_game_put c.self.inside.session.now c.args.thought c.self.inside.all.items _ game c.self.invariant.0), subst AreInOrder (sym put) (in_order_put c.args.thought c.self.inside.all.items c.self.invariant.1), search rules, c.self.invariant.3)
 
 pub returns : goal.returns
 returns c =
