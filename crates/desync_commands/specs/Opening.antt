@@ -1,7 +1,7 @@
 -- A game that is stepped by a script, where the two are.
-use Rattle.std.specs.Prelude.{ℕ, ◌≡◌, []}
+use Rattle.std.specs.Prelude.{ℕ, ◌≡◌}
 use Rattle.game_rules.specs.Game.{Game, signals}
-use Rattle.stepping.specs.Played.{Played, played_of, next_signals, IsByScript, scripted_game}
+use Rattle.stepping.specs.Played.{Played, next_signals, IsByScript, scripted_game}
 use Rattle.stepping.specs.StateText.{handed_in}
 
 -- stepped so far by the script of this game, whose signals stay

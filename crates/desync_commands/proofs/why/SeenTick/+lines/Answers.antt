@@ -1,7 +1,7 @@
 use Rattle.std.proofs.Common.{◌≡◌, ◌∙◌, ◌+◌, ◌++◌, sym, ap, drop, arith, append-nil}
 use Rattle.std.proofs.lemmas.Result.{IfOk-weaker}
 use Rattle.bt_nodes.specs.Plain.{Forest, plain, plains, tree}
-use Rattle.bt_nodes.specs.Sizes.{size, sizes}
+use Rattle.bt_nodes.specs.Sizes.{sizes}
 use Rattle.bt_nodes.proofs.Alike.{item_smaller}
 use Rattle.bt_nodes.proofs.Below.{size-listed, size-decorated}
 use Rattle.bt_nodes.proofs.Forests.{plains-drop, plains-end}
