@@ -66,7 +66,7 @@ push_trees-nodes-preserved t c =
     let is = c.in_ok-next.ensures.next in
     record {
       text = tree_told (tick_of c.args.self.now) (plain n) rest (plains (drop i nodes)) c.nodes.next c.in_ok-next.next c.args.depth c.nodes.text.items c.push_tree.new.text.items _
-      step is c.in_ok-next.ensures.text c.nodes.invariant.text;
+          step is c.in_ok-next.ensures.text c.nodes.invariant.text;
       next = omega (arith, some, is, c.nodes.invariant.next);
       deep = omega (arith, is, c.nodes.invariant.deep);
     }
