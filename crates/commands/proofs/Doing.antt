@@ -1,7 +1,7 @@
 -- What the program has written for words that name files.
 use Rattle.std.proofs.Common.{◌≡◌, ℕ, List, [], Option, Some, None, inl, inr, refl, sym, subst, append-nil}
 use Rattle.std.specs.Prelude.{⊤, MatchOption, IsSomeAnd, Result, Ok, Err, OnOk, OnErr, string_bytes}
-use Rattle.std.specs.Io.KnownBytes.{Appends, Keeps}
+use Rattle.std.specs.Io.KnownBytes.{Keeps}
 use Rattle.byte_streams.specs.Streams.{AppendsPart}
 use Rattle.game_rules.specs.Game.{Game}
 use Rattle.game_rules.specs.Text.{texts}

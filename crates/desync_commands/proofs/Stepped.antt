@@ -1,5 +1,5 @@
 -- A game that is stepped by its script is where the script's game is.
-use Rattle.std.proofs.Common.{◌≡◌, ◌∙◌, ◌<◌, ◌+◌, ◌++◌, ℕ, suc, List, [], Bool, refl, sym, ap, subst, arith, codes}
+use Rattle.std.proofs.Common.{◌≡◌, ◌∙◌, ◌+◌, ◌++◌, ℕ, suc, List, [], Bool, refl, sym, ap, subst, arith, codes}
 use Rattle.std.specs.Prelude.{Ok, IsSomeAnd}
 use Rattle.grid_world.specs.Grid.{Grid}
 use Rattle.bt_nodes.specs.Plain.{Plain}

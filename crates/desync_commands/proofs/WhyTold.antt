@@ -46,11 +46,11 @@ abbrev told_of : ℕ → (f : ℕ) → (before after : Position) → List Status
 told_of a f before after sts on trees =
     codes "frame " ++ decimal f ++ codes "\n" ++ agent_text a (agent_of after.world a) (slice_index_or sts a Success)
     ++ node_lines (record {
-        view = sight before.world on a;
-        answers = node_answers (sight before.world on a) (slice_index_or trees a (Does Carrying)) (slice_index_or before.memories a []);
-        before = slice_index_or before.memories a [];
-        after = slice_index_or after.memories a [];
-      }) (slice_index_or trees a (Does Carrying)) 0 0
+      view = sight before.world on a;
+      answers = node_answers (sight before.world on a) (slice_index_or trees a (Does Carrying)) (slice_index_or before.memories a []);
+      before = slice_index_or before.memories a [];
+      after = slice_index_or after.memories a [];
+    }) (slice_index_or trees a (Does Carrying)) 0 0
 
 between_is : (g : Game) (a n : ℕ) (p q : Played) → IsSteppedTo g n p → IsSteppedTo g (suc n) q → text_between p q a ≡ why_text g (suc n) a
 between_is g a n p q h k =

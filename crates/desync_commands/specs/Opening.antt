@@ -1,5 +1,5 @@
 -- A game that is stepped by a script, where the two are.
-use Rattle.std.specs.Prelude.{ℕ, ◌≡◌, []}
+use Rattle.std.specs.Prelude.{ℕ, ◌≡◌}
 use Rattle.game_rules.specs.Game.{Game, signals}
 use Rattle.stepping.specs.Played.{Played, next_signals, IsByScript, IsPlayed, scripted_game}
 use Rattle.stepping.specs.StateText.{handed_in}

@@ -136,7 +136,10 @@ impl SeenTick<'_> {
         ensures before { result.0 ≡ slice_index_or (tick_of self.now).before node 0 }
         ensures after { result.1 ≡ slice_index_or (tick_of self.now).after node 0 }
     {
-        match (self.before.get(node as usize), self.after.get(node as usize)) {
+        match (
+            self.before.get(node as usize),
+            self.after.get(node as usize),
+        ) {
             (Some(before), Some(after)) => (*before, *after),
             (Some(before), None) => (*before, 0),
             (None, Some(after)) => (0, *after),
@@ -242,7 +245,11 @@ fn push_agent(text: &mut Vec<u8>, number: u32, state: &AgentState) -> Result<(),
     push_answer(text, Some(state.status))?;
     push_number(text, b" ", state.agent.x)?;
     push_number(text, b",", state.agent.y)?;
-    text.extend_from_slice(if state.agent.carrying { b" *\n" } else { b" -\n" })
+    text.extend_from_slice(if state.agent.carrying {
+        b" *\n"
+    } else {
+        b" -\n"
+    })
 }
 
 // What is told of an agent's tick by a game before a frame of its script and by the same game after it.

@@ -45,7 +45,7 @@ As P name rows =
     (choose (bytes_eq name (codes "digest")) ((level : _) × (frames : _) × (script : _) × IsNumber (first_of (codes "frames") rows) frames × P (Digest level frames script))
     (choose (bytes_eq name (codes "state")) ((level : _) × (frame : _) × (script : _) × IsNumber (first_of (codes "frame") rows) frame × P (State level frame script))
     (choose (bytes_eq name (codes "why"))
-        ((level : _) × (frame : _) × (agent : _) × (script : _) × IsNumber (first_of (codes "frame") rows) frame × IsText rows (codes "agent") agent × P (Why level frame agent script))
+    ((level : _) × (frame : _) × (agent : _) × (script : _) × IsNumber (first_of (codes "frame") rows) frame × IsText rows (codes "agent") agent × P (Why level frame agent script))
     ((level : _) × (log : _) × (whole : _) × (script : _) × P (Complete level log whole script))))))))
 
 -- words are read as those of the command that they enter

@@ -1,4 +1,4 @@
-use Rattle.std.proofs.Common.{◌≡◌, ◌∙◌, ◌+◌, ℕ, refl, subst, sym, arith}
+use Rattle.std.proofs.Common.{◌≡◌, ◌∙◌, ℕ, refl, subst, sym, arith}
 use Rattle.desync_commands.specs.Opening.{IsSteppedTo}
 use Rattle.desync_commands.proofs.states.step_all.Goals as goal
 

@@ -1,5 +1,5 @@
 use Rattle.std.proofs.Common.{arith}
-use Rattle.desync_commands.proofs.WhyTold.{none_indented, one_indented}
+use Rattle.desync_commands.proofs.WhyTold.{one_indented}
 use Rattle.desync_commands.proofs.Written.{on_ok_map}
 use Rattle.desync_commands.proofs.why.+push_indent.Goals as goal
 

@@ -1,7 +1,7 @@
 use Rattle.std.proofs.Common.{◌≡◌, ◌∙◌, ◌+◌, ◌++◌, sym, ap, drop, arith, append-nil}
 use Rattle.std.proofs.lemmas.Result.{IfOk-weaker}
 use Rattle.bt_nodes.specs.Plain.{Forest, plain, plains, tree}
-use Rattle.bt_nodes.specs.Sizes.{size, sizes}
+use Rattle.bt_nodes.specs.Sizes.{sizes}
 use Rattle.bt_nodes.proofs.Alike.{item_smaller}
 use Rattle.bt_nodes.proofs.Below.{size-listed, size-decorated}
 use Rattle.bt_nodes.proofs.Forests.{plains-drop, plains-end}
@@ -66,7 +66,7 @@ push_trees-nodes-preserved t c =
     let is = c.in_ok-next.ensures.next in
     record {
       text = tree_told (tick_of c.args.self.now) (plain n) rest (plains (drop i nodes)) c.nodes.next c.in_ok-next.next c.args.depth c.nodes.text.items c.push_tree.new.text.items _
-      step is c.in_ok-next.ensures.text c.nodes.invariant.text;
+          step is c.in_ok-next.ensures.text c.nodes.invariant.text;
       next = omega (arith, some, is, c.nodes.invariant.next);
       deep = omega (arith, is, c.nodes.invariant.deep);
     }

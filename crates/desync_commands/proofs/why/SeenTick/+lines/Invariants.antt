@@ -14,7 +14,7 @@ decreases-push_trees l = 2 * sizes (plains l.nodes.now) + 1
 abbrev pub invariant-push_trees-nodes : goal.invariant-push_trees-nodes
 invariant-push_trees-nodes l = record {
   text : l.text.items ++ forest_lines (tick_of l.self) (plains (drop l.node-index l.nodes)) l.next l.depth
-  ≡ l.initial.text.items ++ forest_lines (tick_of l.self) (plains l.nodes) l.number l.depth;
+      ≡ l.initial.text.items ++ forest_lines (tick_of l.self) (plains l.nodes) l.number l.depth;
   next : l.next + sizes (plains (drop l.node-index l.nodes)) ≡ l.number + sizes (plains l.nodes);
   deep : l.number ≤ l.next;
 }
