@@ -11,7 +11,4 @@ use Rattle.stepping.proofs.played.Stepping.node_answers.Goals as goal
 
 pub node_answers-requires-clause-ground : goal.node_answers-requires-clause-ground
 node_answers-requires-clause-ground c =
-    let x = c.self.inside in
-    let g = game_of (value_of (arc_value x.level)) x.changes.items in
-    ap (λ (k : KnownOf). emptied k.ground) c.in_ok-known.ensures ∙ ap (λ (w : Grid). emptied w) c.self.invariant.1 ∙ ground_is g.world (play g x.frame).world (play_ground g x.frame)
-    ∙ sym (ap (λ (w : Grid). emptied w) c.self.invariant.0.world_is)
+    ap (λ (k : KnownOf). emptied k.ground) c.in_ok-known.ensures ∙ ap (λ (w : Grid). emptied w) c.self.invariant.1 ∙ c.self.invariant.0.ground

@@ -1,7 +1,6 @@
-use Rattle.std.proofs.Common.{◌≡◌, ◌<◌, ◌≤◌, ◌^◌, subst, arith, length}
+use Rattle.std.proofs.Common.{◌≡◌, ◌<◌, ◌≤◌, ◌^◌, arith, length}
 use Rattle.std.specs.Prelude.{IfOk}
 use Rattle.std.proofs.lemmas.Result.{IfOk-weaker}
-use Rattle.grid_world.specs.Grid.{Grid}
 use Rattle.game_rules.specs.Text.{text}
 use Rattle.stepping.specs.Played.{most_text}
 use Rattle.stepping.proofs.TextLength.{text_length}
@@ -13,6 +12,6 @@ returns-clause-length c =
     let statuses = c.deref.result.now in
     let small : x.frame < 2 ^ 32 = omega arith in
     let bound : IfOk c.draw_frame.result (λ written. length written.items ≤ most_text x.world) = IfOk-weaker c.draw_frame.result
-    (λ written. written.items ≡ text x.frame x.world x.drawn statuses) (λ written. length written.items ≤ most_text x.world)
-    (λ written e. rw e (text_length x.frame x.world x.drawn statuses small c.height.ensures.world)) c.draw_frame.ensures in
-    rw (← c.self.view_is) (subst (λ (w : Grid). IfOk c.draw_frame.result (λ written. length written.items ≤ most_text w)) c.self.invariant.0.world_is bound)
+        (λ written. written.items ≡ text x.frame x.world x.drawn statuses) (λ written. length written.items ≤ most_text x.world)
+        (λ written e. rw e (text_length x.frame x.world x.drawn statuses small c.height.ensures.world)) c.draw_frame.ensures in
+    rw (← c.self.view_is) bound
