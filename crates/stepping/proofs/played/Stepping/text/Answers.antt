@@ -10,8 +10,7 @@ pub returns-clause-length : goal.returns-clause-length
 returns-clause-length c =
     let x = c.self.inside in
     let statuses = c.deref.result.now in
-    let small : x.frame < 2 ^ 32 = omega arith in
     let bound : IfOk c.draw_frame.result (λ written. length written.items ≤ most_text x.world) = IfOk-weaker c.draw_frame.result
-        (λ written. written.items ≡ text x.frame x.world x.drawn statuses) (λ written. length written.items ≤ most_text x.world)
-        (λ written e. rw e (text_length x.frame x.world x.drawn statuses small c.height.ensures.world)) c.draw_frame.ensures in
+    _ (λ written. length written.items ≤ most_text x.world)
+    (λ written e. rw e (text_length _ x.world x.drawn statuses (omega arith) c.height.ensures.world)) c.draw_frame.ensures in
     rw (← c.self.view_is) bound
