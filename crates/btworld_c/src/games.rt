@@ -2,7 +2,7 @@
 ghost use Rattle.std.specs.Prelude.{◌≡◌, ◌≢◌, ◌⊎◌, ◌+◌, ◌^◌, Some, None, IfOk, IsSomeAnd, []};
 ghost use Rattle.game_session.specs.Levels.{value_of};
 ghost use Rattle.game_session.specs.Sessions.{game_of};
-ghost use Rattle.stepping.specs.Played.{played_of, bits, scripted_signals, IsRefused, IsStepped};
+ghost use Rattle.stepping.specs.Played.{opened, bits, scripted_signals, IsRefused, IsStepped};
 ghost use Rattle.btworld_c.specs.Statuses.{done, closed, no_memory, taken, last_frame, IsStepStatus};
 ghost use Rattle.btworld_c.specs.Games.{IsOpened, IsOpenStatus, IsOpenedBeside, IsOpenBesideStatus, IsSteppedIn, IsSteppedByScript, IsNotStepped, IsNotSteppedByScript};
 
@@ -14,7 +14,7 @@ use std::alloc::{AllocError, Global};
 use stepping::{Stepping, signals_of, step_by, step_by_script};
 
 fn opened(alloc: Global, level: Level, script: Script) -> Result<Box<Stepping>, AllocError>
-    ensures { IfOk result (λ b. b.value ≡ played_of (game_of (value_of level) []) 0 script) }
+    ensures { IfOk result (λ b. b.value ≡ opened (game_of (value_of level) []) script) }
 {
     let game = Stepping::open(alloc, level, script)?;
     Ok(Box::new(alloc, game)?)

@@ -1,9 +1,9 @@
 // What a caller reads of a game. No reading changes it.
 ghost use Rattle.std.specs.Prelude.{◌≡◌, ◌≢◌, ◌⊎◌, ◌<◌, ◌≤◌, length, Some, None, IfSome, IsSomeAnd, IfOk, OnOk, IfErr};
 ghost use Rattle.btworld_c.specs.Statuses.{done, closed, no_memory, no_frame, short, beyond_agents, IsTextStatus, IsAgentStatus};
-ghost use Rattle.stepping.specs.Played.{most_text};
 ghost use Rattle.btworld_c.specs.Maps.{world_of};
-ghost use Rattle.btworld_c.specs.Readings.{IsText, IsTooLong, IsAgent, IsBeyondAgents, IsFrame, IsDigest, TellsSame, agent_told, status_number, text_of};
+ghost use Rattle.btworld_c.specs.Readings.{IsText, IsTooLong, IsAgent, IsBeyondAgents, IsFrame, IsDigest, TellsSame, agent_told, status_number};
+ghost use Rattle.stepping.specs.Played.{most_text, text_of};
 
 use crate::buffer::fill;
 use crate::game::{Agent, Game, put, read, take};
