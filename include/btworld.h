@@ -174,8 +174,8 @@ uint32_t btworld_load(btworld_game *game, const uint8_t *level, size_t level_len
 
 /* The next frame, in which exactly the signals are on whose bits are: bit 0 is a, bit 25 is z, and higher bits count nothing.
  * Fails with CLOSED, LAST_FRAME, NO_MEMORY. Then no frame is stepped, and the text and the agents are those of the frame before.
- * After NO_MEMORY some signals may be turned for the next frame, which btworld_same and btworld_digest notice; the next step turns
- * them all as it wants, so the step that failed may come again. */
+ * After NO_MEMORY some signals, from a on, may be turned for the next frame, which btworld_same and btworld_digest notice; the next
+ * step turns them all as it wants, so the step that failed may come again. */
 uint32_t btworld_step(btworld_game *game, uint32_t signals);
 
 /* The next frame, in which the signals are those that the game's script has in that frame; all are off where it was opened without

@@ -5,7 +5,7 @@ use Rattle.game_session.specs.Parts.{Parts}
 use Rattle.game_session.specs.Sessions.{game_of}
 use Rattle.level_text.specs.Levels.{spelled}
 use Rattle.level_text.specs.Scripts.{script_of}
-use Rattle.stepping.specs.Played.{Played, opened, bits, scripted_signals, IsOnBy, IsStepped}
+use Rattle.stepping.specs.Played.{Played, opened, bits, scripted_signals, IsRefused, IsStepped}
 use Rattle.stepping.specs.StateText.{state_text}
 use Rattle.btworld_c.specs.Statuses.{taken, IsLevelStatus, IsSessionStatus, IsStateFault}
 
@@ -57,8 +57,14 @@ abbrev pub IsSteppedByScript : Option Played → Option Played → Type 0
 IsSteppedByScript (Some before) (Some after) = IsStepped (scripted_signals before) before after
 IsSteppedByScript before after = ⊥
 
--- no frame was stepped; signals may have been handed in
-abbrev pub IsNotStepped : Option Played → Option Played → Type 0
-IsNotStepped None None = Unit {0}
-IsNotStepped (Some before) (Some after) = IsOnBy 0 before after
-IsNotStepped before after = ⊥
+-- no frame was stepped; some of the signals that a mask wants may be on or off in the next
+abbrev pub IsNotStepped : ℕ → Option Played → Option Played → Type 0
+IsNotStepped mask None None = Unit {0}
+IsNotStepped mask (Some before) (Some after) = IsRefused (bits 26 mask) before after
+IsNotStepped mask before after = ⊥
+
+-- no frame was stepped; some of the signals of its script may be on or off in the next
+abbrev pub IsNotSteppedByScript : Option Played → Option Played → Type 0
+IsNotSteppedByScript None None = Unit {0}
+IsNotSteppedByScript (Some before) (Some after) = IsRefused (scripted_signals before) before after
+IsNotSteppedByScript before after = ⊥
