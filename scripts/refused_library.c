@@ -95,22 +95,29 @@ static void look_at_scripts(size_t size, uint32_t frames) {
     LOOK(btworld_complete(level, size, script, sizeof script - 1, whole, strlen(head) + 5, shown, LOGS, &length) == BTWORLD_LOG_STOPPED);
 }
 
-/* No text that differs in a byte, or is cut, is loaded as another state: what is loaded writes the very bytes. */
+/* Some bytes are refused as a state, or loaded as the state whose text they are. */
+static void look_at_text(const uint8_t *bytes, size_t length, size_t size) {
+    btworld_game game = BTWORLD_CLOSED_GAME;
+    uint32_t status = btworld_load(&game, level, size, bytes, length);
+    size_t filled;
+    LOOK(game.is_open == (status == BTWORLD_OK));
+    LOOK(status == BTWORLD_OK || (status >= BTWORLD_STATE_TEXT && status <= BTWORLD_STATE_WORLD));
+    if (status != BTWORLD_OK) return;
+    LOOK(btworld_state(&game, text, ROOM, &filled) == BTWORLD_OK && filled == length && !memcmp(text, bytes, length));
+    btworld_close(&game);
+}
+
+/* Texts that differ from a state's in a byte, or are cut. */
 static void look_at_other_texts(const uint8_t *right, size_t length, size_t size) {
     static const uint8_t puts[] = "\n 09ABSR-*,x";
     static uint8_t changed[ROOM];
     btworld_game game = BTWORLD_CLOSED_GAME;
-    size_t filled;
-    for (size_t i = 0; i <= length; i++) {
+    for (size_t i = 0; i < length; i += 1 + length / 50) {
+        look_at_text(right, i, size);
         for (size_t k = 0; k < sizeof puts - 1; k++) {
-            uint32_t status;
             memcpy(changed, right, length);
-            if (i < length) changed[i] = puts[k];
-            status = btworld_load(&game, level, size, changed, i < length ? length : k * length / sizeof puts);
-            LOOK(status == BTWORLD_OK || (status >= BTWORLD_STATE_TEXT && status <= BTWORLD_STATE_WORLD && !game.is_open));
-            if (status != BTWORLD_OK) continue;
-            LOOK(btworld_state(&game, text, ROOM, &filled) == BTWORLD_OK && filled == length && !memcmp(text, changed, length));
-            btworld_close(&game);
+            changed[i] = puts[k];
+            look_at_text(changed, length, size);
         }
     }
     LOOK(btworld_load(&game, level, size, NULL, 0) == BTWORLD_STATE_TEXT && btworld_load(&game, NULL, 0, right, length) == BTWORLD_LEVEL_JSON);
