@@ -22,7 +22,7 @@
  *  - the name, the arguments and the meaning of each call, and the number of each status: a new status comes of new calls alone;
  *  - size, alignment and order of the structs, and what BTWORLD_CLOSED_GAME holds;
  *  - the bytes of the frames of each level and script, and the digest of each level and of each state;
- *  - that levels, scripts and logs that are read today are read, and mean the same.
+ *  - that levels, scripts, logs and states that are read today are read, and mean the same.
  */
 #ifndef BTWORLD_H
 #define BTWORLD_H
@@ -98,7 +98,12 @@ enum btworld_status {
     BTWORLD_LOG_LINE = 49,
     BTWORLD_LOG_ILLEGAL = 50,
     BTWORLD_LOG_INCOMPLETE = 51,
-    BTWORLD_LOG_STOPPED = 52
+    BTWORLD_LOG_STOPPED = 52,
+    /* STATE: no text of a state; one of another level; agents or items in walls or off the map, two agents on one cell, or a memory
+     * that doesn't fit its tree */
+    BTWORLD_STATE_TEXT = 64,
+    BTWORLD_STATE_LEVEL = 65,
+    BTWORLD_STATE_WORLD = 66
 };
 
 /* The version of this header, with which the caller was built. A shared library that it runs with may be a later 2.x. */
@@ -134,6 +139,9 @@ BTWORLD_INLINE const char *btworld_status_text(uint32_t status) {
     case BTWORLD_LOG_ILLEGAL: return "log: illegal event";
     case BTWORLD_LOG_INCOMPLETE: return "log: incomplete";
     case BTWORLD_LOG_STOPPED: return "log: stopped";
+    case BTWORLD_STATE_TEXT: return "state: no text of a state";
+    case BTWORLD_STATE_LEVEL: return "state: of another level";
+    case BTWORLD_STATE_WORLD: return "state: no world of the level";
     default: return "another status";
     }
 }
@@ -158,10 +166,16 @@ uint32_t btworld_open(btworld_game *game, const uint8_t *level, size_t length);
 uint32_t btworld_open_script(btworld_game *game, const uint8_t *level, size_t level_length, const uint8_t *script,
                              size_t script_length);
 
+/* The handle, closed before, holds the level's game in the state whose text this is, byte for byte as btworld_state writes it, with
+ * no script beside it. It goes on, and shows its frame, as a game that was in this state does. A text may tell a state to which no
+ * play leads, but none in which a call goes wrong. To join late or to save, send or keep the level and this text: it takes no steps.
+ * Fails with OPEN, NO_MEMORY, LEVEL, STATE. */
+uint32_t btworld_load(btworld_game *game, const uint8_t *level, size_t level_length, const uint8_t *state, size_t state_length);
+
 /* The next frame, in which exactly the signals are on whose bits are: bit 0 is a, bit 25 is z, and higher bits count nothing.
  * Fails with CLOSED, LAST_FRAME, NO_MEMORY. Then no frame is stepped, and the text and the agents are those of the frame before.
- * After NO_MEMORY some signals may be turned for the next frame, which btworld_same and btworld_digest notice; the next step turns
- * them all as it wants, so the step that failed may come again. */
+ * After NO_MEMORY some signals, from a on, may be turned for the next frame, which btworld_same and btworld_digest notice; the next
+ * step turns them all as it wants, so the step that failed may come again. */
 uint32_t btworld_step(btworld_game *game, uint32_t signals);
 
 /* The next frame, in which the signals are those that the game's script has in that frame; all are off where it was opened without
@@ -206,7 +220,8 @@ uint32_t btworld_signals(const btworld_game *game, uint32_t *shown, uint32_t *sc
 
 /* The signals of the frames so far as a script, at the start of a buffer, and how many bytes it has: a line for each change.
  * `btworld play LEVEL --script SCRIPT` with it shows these frames again, so level and script are a save: btworld_open_script and as
- * many calls of btworld_step_script lead to the same world, memories and text.
+ * many calls of btworld_step_script lead to the same world, memories and text; but of a game that was loaded its state is the save,
+ * for a script doesn't tell what was before.
  * Fails with CLOSED, NO_MEMORY, LONG, SHORT. */
 uint32_t btworld_script(const btworld_game *game, uint8_t *text, size_t capacity, size_t *size);
 
@@ -262,7 +277,7 @@ uint32_t btworld_replay(const uint8_t *level, size_t level_length, const uint8_t
                         size_t log_length, uint8_t *text, size_t capacity, size_t *size, uint32_t *frames);
 
 /* How many frames a log shows, as btworld_replay tells it, with no buffer for their text: a caller that wants few of them at a time
- * opens the level with the script, and steps by it. It takes as long as btworld_replay, and keeps the text while it does.
+ * opens the level with the script, and steps by it. It takes as long as btworld_replay.
  * Fails with NO_MEMORY, LEVEL, SCRIPT, LOG_HEAD, LOG_LINE, LOG_ILLEGAL, LOG_INCOMPLETE. LOG_INCOMPLETE comes with *frames written.
  * LOG_ILLEGAL, and no other status, writes *event: which event isn't legal, from 0; its line is *event + 2, counted from 1. */
 uint32_t btworld_log_frames(const uint8_t *level, size_t level_length, const uint8_t *script, size_t script_length,
@@ -295,6 +310,8 @@ BTWORLD_INLINE uint16_t *btworld_some_numbers(uint16_t *numbers) {
 #define btworld_open(game, level, length) btworld_open(game, btworld_some(level), length)
 #define btworld_open_script(game, level, level_length, script, script_length) \
     btworld_open_script(game, btworld_some(level), level_length, btworld_some(script), script_length)
+#define btworld_load(game, level, level_length, state, state_length) \
+    btworld_load(game, btworld_some(level), level_length, btworld_some(state), state_length)
 #define btworld_text(game, text, capacity, size) btworld_text(game, btworld_some_room(text), capacity, size)
 #define btworld_state(game, text, capacity, size) btworld_state(game, btworld_some_room(text), capacity, size)
 #define btworld_memory(game, agent, numbers, capacity, size) \

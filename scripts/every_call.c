@@ -16,7 +16,7 @@ uint32_t all_of(btworld_game *game, const btworld_game *other) {
     size_t size;
     found += check(btworld_some(NULL), 0) + btworld_check(NULL, 0);
     found += btworld_fault_text(NULL, 0, NULL, 0, NULL, 0, &size);
-    found += btworld_open(game, NULL, 0) + btworld_open_script(game, NULL, 0, NULL, 0);
+    found += btworld_open(game, NULL, 0) + btworld_open_script(game, NULL, 0, NULL, 0) + btworld_load(game, NULL, 0, NULL, 0);
     found += btworld_step(game, 1) + btworld_step_script(game);
     found += btworld_text(other, NULL, 0, &size);
     found += btworld_agent(other, 0, &agent) + (agent.status == BTWORLD_RUNNING);

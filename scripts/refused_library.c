@@ -95,9 +95,42 @@ static void look_at_scripts(size_t size, uint32_t frames) {
     LOOK(btworld_complete(level, size, script, sizeof script - 1, whole, strlen(head) + 5, shown, LOGS, &length) == BTWORLD_LOG_STOPPED);
 }
 
-/* A game's state, written where memory is refused and where the buffer is short; a game in the same state writes the same. */
-static void look_at_state(const btworld_game *game, const btworld_game *twin) {
+/* Some bytes are refused as a state, or loaded as the state whose text they are. */
+static void look_at_text(const uint8_t *bytes, size_t length, size_t size) {
+    btworld_game game = BTWORLD_CLOSED_GAME;
+    uint32_t status = btworld_load(&game, level, size, bytes, length);
+    size_t filled;
+    LOOK(game.is_open == (status == BTWORLD_OK));
+    LOOK(status == BTWORLD_OK || (status >= BTWORLD_STATE_TEXT && status <= BTWORLD_STATE_WORLD));
+    if (status != BTWORLD_OK) return;
+    LOOK(btworld_state(&game, text, ROOM, &filled) == BTWORLD_OK && filled == length && !memcmp(text, bytes, length));
+    btworld_close(&game);
+}
+
+/* Texts that differ from a state's in a byte, or are cut. */
+static void look_at_other_texts(const uint8_t *right, size_t length, size_t size) {
+    static const uint8_t puts[] = "\n 09ABSR-*,x";
+    static uint8_t changed[ROOM];
+    btworld_game game = BTWORLD_CLOSED_GAME;
+    for (size_t i = 0; i < length; i += 1 + length / 50) {
+        look_at_text(right, i, size);
+        for (size_t k = 0; k < sizeof puts - 1; k++) {
+            memcpy(changed, right, length);
+            changed[i] = puts[k];
+            look_at_text(changed, length, size);
+        }
+    }
+    LOOK(btworld_load(&game, level, size, NULL, 0) == BTWORLD_STATE_TEXT && btworld_load(&game, NULL, 0, right, length) == BTWORLD_LEVEL_JSON);
+    memcpy(changed, right, length);
+    changed[22] = changed[22] == '0' ? '1' : '0';
+    LOOK(btworld_load(&game, level, size, changed, length) == BTWORLD_STATE_LEVEL && !game.is_open);
+}
+
+/* A game's state, written where memory is refused and where the buffer is short; a game in the same state writes the same, and it is
+   loaded. */
+static void look_at_state(const btworld_game *game, const btworld_game *twin, size_t size) {
     static uint8_t right[ROOM];
+    btworld_game loaded = BTWORLD_CLOSED_GAME;
     uint32_t status;
     size_t length, filled = 7;
     bool same;
@@ -110,6 +143,12 @@ static void look_at_state(const btworld_game *game, const btworld_game *twin) {
     memset(text, 1, ROOM);
     LOOK(btworld_state(game, text, length - 1, &filled) == BTWORLD_SHORT && filled == length && !memcmp(text, other, ROOM));
     LOOK(btworld_same(game, twin, &same) == BTWORLD_OK && same);
+    REFUSING(status, btworld_load(&loaded, level, size, right, length)) LOOK(!loaded.is_open);
+    LOOK(status == BTWORLD_OK && btworld_same(&loaded, twin, &same) == BTWORLD_OK && same);
+    LOOK(btworld_load(&loaded, level, size, right, length) == BTWORLD_OPEN);
+    LOOK(btworld_state(&loaded, text, ROOM, &filled) == BTWORLD_OK && filled == length && !memcmp(text, right, length));
+    btworld_close(&loaded);
+    look_at_other_texts(right, length, size);
 }
 
 /* Memories, nodes, signals and the script so far, where memory is refused and where buffers are short; a game that is stepped by that
@@ -202,7 +241,7 @@ int main(int argc, char **argv) {
     length = 7;
     LOOK(btworld_state(&copy, text, ROOM, &length) == BTWORLD_CLOSED && length == 7 && text[0] == 1);
     LOOK(btworld_level_digest(&copy, &digest) == BTWORLD_CLOSED && digest == 7);
-    look_at_state(&game, &twin);
+    look_at_state(&game, &twin, size);
     look_back(&game, size, 0, agents, 0);
     look_at_late_changes();
     LOOK(btworld_script(&copy, text, ROOM, &length) == BTWORLD_CLOSED && btworld_signals(&copy, &width, &height) == BTWORLD_CLOSED);
@@ -227,7 +266,7 @@ int main(int argc, char **argv) {
         LOOK(btworld_text(&game, NULL, 0, &filled) == BTWORLD_SHORT && filled == length);
         memset(text, 1, ROOM);
         LOOK(btworld_text(&game, text, length - 1, &filled) == BTWORLD_SHORT && filled == length && !memcmp(text, other, ROOM));
-        look_at_state(&game, &twin);
+        look_at_state(&game, &twin, size);
         look_back(&game, size, f, agents, on);
         REFUSING(status, btworld_fork(&game, &copy)) LOOK(!copy.is_open && btworld_same(&game, &twin, &same) == BTWORLD_OK && same);
         LOOK(status == BTWORLD_OK && btworld_same(&game, &copy, &same) == BTWORLD_OK && same);

@@ -155,7 +155,17 @@ public:
         return digest;
     }
 
-    // The state by lines, to be compared with another machine's by diff.
+    // The game of a level in the state that `state` wrote, with no script.
+    static Game load(const Bytes &level, const std::string &state) {
+        Game game;
+        const auto *text = reinterpret_cast<const std::uint8_t *>(state.data());
+        const std::uint32_t status = btworld_load(&game.handle, level.data(), level.size(), text, state.size());
+        if (status >= BTWORLD_LEVEL_JSON && status < BTWORLD_STATE_TEXT) throw Failure(status, fault_text(level));
+        need(status);
+        return game;
+    }
+
+    // The state by lines, to be compared with another machine's by diff, or loaded.
     std::string state() const {
         return written([this](std::uint8_t *text, std::size_t capacity, std::size_t *size) {
             return btworld_state(&handle, text, capacity, size);

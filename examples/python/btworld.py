@@ -35,6 +35,7 @@ Status = IntEnum("Status", {
     "LONG": 9,
     "LEVEL_JSON": 16, "LEVEL_SHAPE": 17, "LEVEL_MAP_SIZE": 18, "LEVEL_MAP_CHAR": 19, "LEVEL_LETTERS": 20, "LEVEL_AGENT_COUNT": 21,
     "LEVEL_BAD_TREE": 22, "LEVEL_NO_TREE": 23, "LEVEL_NO_PLACE": 24, "LEVEL_NO_AGENT": 25, "SCRIPT_LINE": 32, "SCRIPT_ORDER": 33,
+    "STATE_TEXT": 64, "STATE_LEVEL": 65, "STATE_WORLD": 66,
 })  # fmt: skip
 
 
@@ -101,6 +102,7 @@ _library = _load()
 _BYTES, _SIZE, _GAME = (ctypes.c_char_p, ctypes.c_size_t), ctypes.POINTER(ctypes.c_size_t), ctypes.POINTER(_Handle)
 _fault_text = _call("fault_text", *_BYTES, *_BYTES, *_BYTES, _SIZE)
 _open_script = _call("open_script", _GAME, *_BYTES, *_BYTES)
+_load_state = _call("load", _GAME, *_BYTES, *_BYTES)
 _step = _call("step", _GAME, ctypes.c_uint32)
 _step_script = _call("step_script", _GAME)
 _text = _call("text", _GAME, *_BYTES, _SIZE)
@@ -161,8 +163,13 @@ def fault_text(level: bytes, script: bytes = b"") -> str:
     return _written(_fault_text, level, len(level), script, len(script))
 
 
+def _spelled(level: bytes | str | dict[str, Any]) -> bytes:
+    text = json.dumps(level) if isinstance(level, dict) else level
+    return text.encode() if isinstance(text, str) else text
+
+
 class Game:
-    """A game after a frame. It is opened or forked, and closed by `close`, by `with`, or as the last name of it goes."""
+    """A game after a frame. It is opened, loaded or forked, and closed by `close`, by `with`, or as the last name of it goes."""
 
     def __init__(self) -> None:
         self._handle = _Handle(None, False)
@@ -175,13 +182,33 @@ class Game:
         Traceback (most recent call last):
         btworld.Failure: level: tree t names a place that is not on the map
         """
-        text = json.dumps(level) if isinstance(level, dict) else level
-        spelled = text.encode() if isinstance(text, str) else text
+        spelled = _spelled(level)
         lines = script.encode() if isinstance(script, str) else script
         game = cls()
         status = _open_script(game._handle, spelled, len(spelled), lines, len(lines))
         if status >= Status.LEVEL_JSON:
             raise Failure(status, fault_text(spelled, lines))
+        _need(status)
+        return game
+
+    @classmethod
+    def load(cls, level: bytes | str | dict[str, Any], state: str) -> Game:
+        """The game of a level in the state that `state` wrote, with no script.
+
+        >>> level = {"map": ["A.0"], "agents": ["t"], "trees": {"t": ["move", "0"]}}
+        >>> game = Game.open(level)
+        >>> game.step()
+        >>> loaded = Game.load(level, game.state())
+        >>> loaded.is_same(game), loaded.text() == game.text()
+        (True, True)
+        >>> Game.load(level, game.state().replace("1,0", "9,0"))
+        Traceback (most recent call last):
+        btworld.Failure: state world
+        """
+        spelled, lines, game = _spelled(level), state.encode(), cls()
+        status = _load_state(game._handle, spelled, len(spelled), lines, len(lines))
+        if Status.LEVEL_JSON <= status < Status.STATE_TEXT:
+            raise Failure(status, fault_text(spelled))
         _need(status)
         return game
 
@@ -296,7 +323,7 @@ class Game:
         return digest.value
 
     def state(self) -> str:
-        """The state by lines, to be compared with another machine's by `diff`.
+        """The state by lines, to be compared with another machine's by `diff`, or loaded.
 
         >>> game = Game.open({"map": ["A*0"], "agents": ["t"], "trees": {"t": ["move", "0"]}})
         >>> print(game.state(), end="")

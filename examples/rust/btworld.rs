@@ -47,6 +47,7 @@ unsafe extern "C" {
         script: *const u8,
         script_length: usize,
     ) -> u32;
+    fn btworld_load(game: *mut Handle, level: *const u8, level_length: usize, state: *const u8, state_length: usize) -> u32;
     fn btworld_step(game: *mut Handle, signals: u32) -> u32;
     fn btworld_step_script(game: *mut Handle) -> u32;
     fn btworld_text(game: *const Handle, text: *mut u8, capacity: usize, size: *mut usize) -> u32;
@@ -134,6 +135,14 @@ fn written(call: impl FnMut(*mut u8, usize, &mut usize) -> u32) -> Result<String
     Ok(String::from_utf8(filled(call)?).expect("what btworld writes is UTF-8"))
 }
 
+/// The line of the first fault of a level or a script.
+fn fault_text(level: &[u8], script: &[u8]) -> Result<String, Fault> {
+    // SAFETY: a slice has as many bytes as it says, and is never null; `written` hands in a buffer that is as long as it says.
+    written(|text, capacity, size| unsafe {
+        btworld_fault_text(level.as_ptr(), level.len(), script.as_ptr(), script.len(), text, capacity, size)
+    })
+}
+
 /// What an agent's tree, or a node of it, answers in a frame.
 #[derive(Clone, Copy, Debug, PartialEq, Eq)]
 pub enum Answer {
@@ -191,10 +200,20 @@ impl Game {
         let game = Game::closed();
         // SAFETY: the handle is closed and lives through the call; a slice has as many bytes as it says, and is never null.
         match unsafe { btworld_open_script(game.0.get(), level.as_ptr(), level.len(), script.as_ptr(), script.len()) } {
-            16.. => Err(Fault::Refused(written(|text, capacity, size| {
-                // SAFETY: the slices as above; `written` hands in a buffer that is as long as it says.
-                unsafe { btworld_fault_text(level.as_ptr(), level.len(), script.as_ptr(), script.len(), text, capacity, size) }
-            })?)),
+            16.. => Err(Fault::Refused(fault_text(level, script)?)),
+            status => done(status).map(|()| game),
+        }
+    }
+
+    /// The game of a level in the state that `state` wrote, with no script.
+    pub fn load(level: &[u8], state: &str) -> Result<Game, Fault> {
+        let game = Game::closed();
+        // SAFETY: as in `open`.
+        match unsafe { btworld_load(game.0.get(), level.as_ptr(), level.len(), state.as_ptr(), state.len()) } {
+            64 => Err(Fault::Refused("state: no text of a state".into())),
+            65 => Err(Fault::Refused("state: of another level".into())),
+            66 => Err(Fault::Refused("state: no world of the level".into())),
+            16.. => Err(Fault::Refused(fault_text(level, &[])?)),
             status => done(status).map(|()| game),
         }
     }
@@ -297,7 +316,7 @@ impl Game {
         digest
     }
 
-    /// The state by lines, after the frame or before the first one, to be compared with another machine's by `diff`.
+    /// The state by lines, after the frame or before the first one, to be compared with another machine's by `diff`, or loaded.
     pub fn state(&self) -> Result<String, Fault> {
         // SAFETY: as in `text`.
         written(|text, capacity, size| unsafe { btworld_state(self.0.get(), text, capacity, size) })

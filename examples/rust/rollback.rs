@@ -2,6 +2,8 @@
 //! tenth frame it plays a clone on with all signals on, which the game itself never notices.
 //!
 //! Status: 0; 2 where the level or the script is refused, with the line that btworld writes; 1 for any other fault.
+// A wrapper of all calls, of which some are not used here.
+#[allow(dead_code)]
 mod btworld;
 use btworld::{Fault, Game};
 use std::error::Error;
@@ -15,6 +17,7 @@ fn play(level: &[u8], script: &[u8], frames: u32) -> Result<(), Fault> {
         print!("{}", game.text()?);
         if frame % 10 == 0 {
             look_ahead(&game)?;
+            assert!(Game::load(level, &game.state()?)? == game);
         }
     }
     Ok(())

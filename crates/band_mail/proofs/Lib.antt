@@ -4,3 +4,4 @@ pub mod Putters
 pub mod Taken
 pub mod OfWorkers
 pub mod AnyOrder
+pub mod Popped

@@ -3,21 +3,10 @@ use Rattle.std.proofs.Common.{◌≡◌, true, false, List, [], ◌∷◌, Some,
 use Rattle.job_core.specs.declared.names.JobName.TheVariants.{Logic, Think, Path, Draw}
 use Rattle.job_core.specs.declared.names.Event.{Event}
 use Rattle.job_core.specs.declared.names.Event.TheVariants.{Start, Resume, Ask, Spread, Hold, Finish, Emit}
+use Rattle.job_core.specs.Worked.{setup_of, one_slot, held_once}
 use Rattle.job_core.specs.Core.{Setup, Thinks, Way, Shown}
 use Rattle.board_model.specs.Board.{core_of}
 use Rattle.board_model.specs.Stored.{part, asked, stored_after}
-
--- two frames with one slot: the second Logic holds until the first frame is emitted (a complete list: job_core's Worked)
-abbrev tight : Setup
-tight = record { frames = 2; agents = 1; bands = 1; questions = λ f a. 1; workers = 1; small = 1; large = 2; slots = 1 }
-
-abbrev held_once : List Event
-held_once =
-    Start 0 (Logic 1) ∷ Spread 0 (Logic 1) ∷ Start 0 (Think 1 0) ∷ Ask 0 (Think 1 0) ∷ Start 0 (Path 1 0 0) ∷ Finish 0 (Path 1 0 0)
-    ∷ Resume 0 (Think 1 0) ∷ Finish 0 (Think 1 0) ∷ Resume 0 (Logic 1) ∷ Finish 0 (Logic 1) ∷ Start 0 (Logic 2) ∷ Hold 0 (Logic 2)
-    ∷ Start 0 (Draw 1 0) ∷ Finish 0 (Draw 1 0) ∷ Emit 1 ∷ Resume 0 (Logic 2) ∷ Spread 0 (Logic 2) ∷ Start 0 (Think 2 0) ∷ Ask 0 (Think 2 0)
-    ∷ Start 0 (Path 2 0 0) ∷ Finish 0 (Path 2 0 0) ∷ Resume 0 (Think 2 0) ∷ Finish 0 (Think 2 0) ∷ Resume 0 (Logic 2) ∷ Finish 0 (Logic 2)
-    ∷ Start 0 (Draw 2 0) ∷ Finish 0 (Draw 2 0) ∷ Emit 2 ∷ []
 
 -- three agents that ask nothing, and end in another order than that of their numbers
 abbrev crowd : Setup
@@ -29,16 +18,19 @@ unordered =
     ∷ Start 0 (Think 1 0) ∷ Finish 0 (Think 1 0) ∷ []
 
 -- at the end of a whole run (two frames, one slot, one Hold) nothing is kept
-ends_empty : ((core_of tight held_once).counters ≡ []) × ((core_of tight held_once).slots ≡ None ∷ []) × ((core_of tight held_once).seats.taken ≡ false ∷ false ∷ false ∷ []) × ((core_of tight held_once).emitted ≡ 2) × ((core_of tight held_once).queues.ready.high ≡ [])
+ends_empty : ((core_of one_slot held_once).counters ≡ []) × ((core_of one_slot held_once).slots ≡ None ∷ []) × ((core_of one_slot held_once).seats.taken ≡ false ∷ false ∷ false ∷ []) × ((core_of one_slot held_once).emitted ≡ 2) × ((core_of one_slot held_once).queues.ready.high ≡ [])
+unfolding setup_of one_slot held_once
 ends_empty = (refl, refl, refl, refl, refl)
 
 -- a Think that asks stands on the wait list of its question
-asks : (core_of tight (Start 0 (Logic 1) ∷ Spread 0 (Logic 1) ∷ Start 0 (Think 1 0) ∷ Ask 0 (Think 1 0) ∷ [])).counters
+asks : (core_of one_slot (Start 0 (Logic 1) ∷ Spread 0 (Logic 1) ∷ Start 0 (Think 1 0) ∷ Ask 0 (Think 1 0) ∷ [])).counters
     ≡ (record { key = Shown 1; left = 1; waiters = [] }) ∷ (record { key = Thinks 1; left = 1; waiters = 1 ∷ [] }) ∷ (record { key = Way 1 0 0; left = 1; waiters = 2 ∷ [] }) ∷ []
+unfolding setup_of one_slot
 asks = refl
 
 -- the path's end makes its fiber ready
-wakes : ((core_of tight (Start 0 (Logic 1) ∷ Spread 0 (Logic 1) ∷ Start 0 (Think 1 0) ∷ Ask 0 (Think 1 0) ∷ Start 0 (Path 1 0 0) ∷ Finish 0 (Path 1 0 0) ∷ [])).queues.ready.normal ≡ 2 ∷ [])
+wakes : ((core_of one_slot (Start 0 (Logic 1) ∷ Spread 0 (Logic 1) ∷ Start 0 (Think 1 0) ∷ Ask 0 (Think 1 0) ∷ Start 0 (Path 1 0 0) ∷ Finish 0 (Path 1 0 0) ∷ [])).queues.ready.normal ≡ 2 ∷ [])
+unfolding setup_of one_slot
 wakes = refl
 
 -- with no agents a Logic that spreads is ready at once
@@ -48,19 +40,23 @@ empty_level = refl
 -- ---- what is stored along the whole run
 
 -- the answer to the first question
-stores_the_way : stored_after tight (take 6 held_once) ≡ record { next = None; slots = Some 1 ∷ []; asking = Some (asked 1 0 0 true) ∷ []; thoughts = []; turns = None ∷ [] }
+stores_the_way : stored_after one_slot (take 6 held_once) ≡ record { next = None; slots = Some 1 ∷ []; asking = Some (asked 1 0 0 true) ∷ []; thoughts = []; turns = None ∷ [] }
+unfolding setup_of one_slot held_once
 stores_the_way = refl
 
 -- the thought, once it has ended
-stores_the_thought : (stored_after tight (take 8 held_once)).thoughts ≡ part 1 0 ∷ []
+stores_the_thought : (stored_after one_slot (take 8 held_once)).thoughts ≡ part 1 0 ∷ []
+unfolding setup_of one_slot held_once
 stores_the_thought = refl
 
 -- while the second Logic holds: its parameters, and the first frame's slot and turn; the thought went with its Logic
-stores_the_turn : stored_after tight (take 12 held_once) ≡ record { next = Some 2; slots = Some 1 ∷ []; asking = Some (asked 1 0 0 true) ∷ []; thoughts = []; turns = Some 1 ∷ [] }
+stores_the_turn : stored_after one_slot (take 12 held_once) ≡ record { next = Some 2; slots = Some 1 ∷ []; asking = Some (asked 1 0 0 true) ∷ []; thoughts = []; turns = Some 1 ∷ [] }
+unfolding setup_of one_slot held_once
 stores_the_turn = refl
 
 -- at the end its slot is free
-frees_the_slot : ((stored_after tight held_once).slots ≡ None ∷ []) × ((stored_after tight held_once).turns ≡ None ∷ [])
+frees_the_slot : ((stored_after one_slot held_once).slots ≡ None ∷ []) × ((stored_after one_slot held_once).turns ≡ None ∷ [])
+unfolding setup_of one_slot held_once
 frees_the_slot = (refl, refl)
 
 -- thoughts are kept by agent, whatever order they end in

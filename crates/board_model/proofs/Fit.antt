@@ -24,15 +24,7 @@ step_fits s c st p inv h (Finish w (Path f a i)) m = path_fits s st inv c h w f 
 step_fits s c st p inv h (Finish w (Draw f b)) m = draw_fits s st inv c h w f b m
 step_fits s c st p inv h (Emit f) m = emit_fits s st inv c h f (mod-lt f p) m
 step_fits s c st p inv h Stop m = stop_fits s st inv c h
-step_fits s c st p inv h (Spread w (Think f a)) m = absurd m
-step_fits s c st p inv h (Spread w (Path f a i)) m = absurd m
-step_fits s c st p inv h (Spread w (Draw f b)) m = absurd m
-step_fits s c st p inv h (Hold w (Think f a)) m = absurd m
-step_fits s c st p inv h (Hold w (Path f a i)) m = absurd m
-step_fits s c st p inv h (Hold w (Draw f b)) m = absurd m
-step_fits s c st p inv h (Ask w (Logic f)) m = absurd m
-step_fits s c st p inv h (Ask w (Path f a i)) m = absurd m
-step_fits s c st p inv h (Ask w (Draw f b)) m = absurd m
+step_fits s c st p inv h _ m = absurd m
 
 fits_from : (s : Setup) (c : Core) (st : State) → 0 < s.slots → Shape s st → Fits s c st → (es : List Event) → IsLegalFrom s st es → Fits s (core_from s c es) (after_all s st es)
 fits_from s c st p inv h [] l = h

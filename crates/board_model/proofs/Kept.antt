@@ -103,27 +103,18 @@ quiet_not_thinking (Waits (suc k)) b t = b
 quiet_not_thinking Finished b t = b
 
 pub open_there : (p : Phase) → IsOpen p → (p ≡ Absent → ⊥) × (p ≡ Finished → ⊥)
-open_there Absent b = absurd b
-open_there Queued b = absurd b
 open_there (Runs w k) b = (λ e. cc, λ e. cc)
 open_there (Waits k) b = (λ e. cc, λ e. cc)
-open_there Finished b = absurd b
+open_there _ b = absurd b
 
 open_spread : (p : Phase) → IsOpen p → has_spread p ≡ true
-open_spread Absent b = absurd b
-open_spread Queued b = absurd b
-open_spread (Runs w zero) b = absurd b
 open_spread (Runs w (suc k)) b = refl
-open_spread (Waits zero) b = absurd b
 open_spread (Waits (suc k)) b = refl
-open_spread Finished b = absurd b
+open_spread _ b = absurd b
 
 pub open_not_ended : (p : Phase) → IsOpen p → ended p ≡ 0
-open_not_ended Absent b = refl
-open_not_ended Queued b = refl
-open_not_ended (Runs w k) b = refl
-open_not_ended (Waits k) b = refl
 open_not_ended Finished b = absurd b
+open_not_ended _ b = refl
 
 pub thinking_open : (p : Phase) → IsThinking p → IsOpen p
 thinking_open Absent b = absurd b
@@ -150,11 +141,8 @@ path_waited i (Waits k) p h a b = ⊎_elim (λ l. absurd (b (h.0 l))) (λ l. ⊎
 path_waited i Finished p h a b = absurd (b h)
 
 draw_done : (lp p : Phase) → DrawFits lp p → (p ≡ Absent → ⊥) → lp ≡ Finished
-draw_done Absent p h a = absurd (a h)
-draw_done Queued p h a = absurd (a h)
-draw_done (Runs w k) p h a = absurd (a h)
-draw_done (Waits k) p h a = absurd (a h)
 draw_done Finished p h a = refl
+draw_done _ p h a = absurd (a h)
 
 module _ (s : Setup) (st : State) (inv : Shape s st) where
   -- a Logic before its end is that of the next frame

@@ -21,11 +21,9 @@ at_here (x ∷ xs) zero y l = refl
 at_here (x ∷ xs) (suc i) y l = at_here xs i y (omega arith)
 
 pub at_other : {X : Type 0} (xs : List (Option X)) (i k : ℕ) (y : Option X) → (k ≡ i → ⊥) → at (write xs i y) k ≡ at xs k
-at_other [] i k y n = refl
 at_other (x ∷ xs) zero zero y n = absurd (n refl)
-at_other (x ∷ xs) zero (suc k) y n = refl
-at_other (x ∷ xs) (suc i) zero y n = refl
 at_other (x ∷ xs) (suc i) (suc k) y n = at_other xs i k y (λ e. n (ap suc e))
+at_other _ _ _ y n = refl
 
 pub at_some : {X : Type 0} (xs : List (Option X)) (i : ℕ) (x : X) → at xs i ≡ Some x → i < length xs
 at_some [] i x e = absurd cc
@@ -90,23 +88,24 @@ all_add q High x t = let a = all_parts q t in let b = all_parts q (add High x t)
 all_add q Normal x t = let a = all_parts q t in let b = all_parts q (add Normal x t) in let c = tally_append q t.normal (x ∷ []) in omega arith
 all_add q Low x t = let a = all_parts q t in let b = all_parts q (add Low x t) in let c = tally_append q t.low (x ∷ []) in omega arith
 
+-- what is left of three lists, by which of the first two has what is taken
+abbrev pub taken_by : {X : Type 0} → (X → Bool) → Three X → Bool → Bool → Three X
+taken_by p t a b =
+    if a then record { high = drop_first p t.high; normal = t.normal; low = t.low }
+    else (if b then record { high = t.high; normal = drop_first p t.normal; low = t.low }
+    else record { high = t.high; normal = t.normal; low = drop_first p t.low })
+
 pub all_take : {X : Type 0} (q p : X → Bool) (x : X) → ((y : X) → p y ≡ true → y ≡ x) → (t : Three X) → 0 < tally p (all t) → tally q (all (take_from p t)) + bit (q x) ≡ tally q (all t)
 all_take {X} q p x u t l =
     let w = all_parts q t in
     let v = all_parts p t in
-    by_bool (has p t.high) (λ b. tally q (all (pick b (has p t.normal))) + bit (q x) ≡ tally q (all t))
+    by_bool (has p t.high) (λ b. tally q (all (taken_by p t b (has p t.normal))) + bit (q x) ≡ tally q (all t))
     (λ e. let d = drop_tally q p x u t.high e in let a = all_parts q (record t { high = drop_first p t.high }) in omega arith)
-    (λ e. by_bool (has p t.normal) (λ b. tally q (all (pick false b)) + bit (q x) ≡ tally q (all t))
+    (λ e. by_bool (has p t.normal) (λ b. tally q (all (taken_by p t false b)) + bit (q x) ≡ tally q (all t))
     (λ f. let d = drop_tally q p x u t.normal f in let a = all_parts q (record t { normal = drop_first p t.normal }) in omega arith)
-    (λ f. by_bool (has p t.low) (λ b. has p t.low ≡ b → tally q (all (pick false false)) + bit (q x) ≡ tally q (all t))
+    (λ f. by_bool (has p t.low) (λ b. has p t.low ≡ b → tally q (all (taken_by p t false false)) + bit (q x) ≡ tally q (all t))
     (λ g h. let d = drop_tally q p x u t.low g in let a = all_parts q (record t { low = drop_first p t.low }) in omega arith)
     (λ g h. let y = has_none p t.high e in let z = has_none p t.normal f in let n = has_none p t.low g in absurd (omega arith)) refl))
-  where
-    pick : Bool → Bool → Three X
-    pick a b =
-        if a then record { high = drop_first p t.high; normal = t.normal; low = t.low }
-        else (if b then record { high = t.high; normal = drop_first p t.normal; low = t.low }
-        else record { high = t.high; normal = t.normal; low = drop_first p t.low })
 
 pub tally_map : {X Y : Type 0} (p : Y → Bool) (f : X → Y) (xs : List X) → tally p (map f xs) ≡ tally (λ x. p (f x)) xs
 tally_map p f [] = refl

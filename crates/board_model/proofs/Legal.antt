@@ -8,6 +8,7 @@ use Rattle.job_core.specs.declared.names.Event.TheVariants.{Start, Resume, Emit}
 use Rattle.job_core.specs.Core.{Setup, IsJob, same, Phase, Absent, Queued, Runs, Waits, Finished, State, held, size_of, free, HasFiber, left, unfinished, awaited, Counter, Draws, Shown, IsIdle, IsReady, IsLegal, May}
 use Rattle.job_core.proofs.ByCases.{by_eq, by_lt, by_le}
 use Rattle.job_core.proofs.Sums.{total_same}
+use Rattle.job_core.proofs.Rank.{draw_waits}
 use Rattle.job_core.proofs.Shape.{Shape, there, logic_next, asked, ThinkFits, IsUnderWay, PathFits, DrawFits, IsSimple}
 use Rattle.board_model.specs.Lists.{bit, tally, at, first_place, all}
 use Rattle.board_model.specs.Board.{Core, Held, Row, taken_of, has_fiber, runner, holds, first_row}
@@ -22,17 +23,7 @@ use Rattle.board_model.proofs.Entries.{waiting_at, running_at, idle_at, free_of}
 
 pending_there : (p : Phase) → (p ≡ Absent → ⊥) → pending p ≡ unfinished p
 pending_there Absent n = absurd (n refl)
-pending_there Queued n = refl
-pending_there (Runs w k) n = refl
-pending_there (Waits k) n = refl
-pending_there Finished n = refl
-
-draw_waits : (lp : Phase) (n : ℕ) → DrawFits lp (Waits n) → ⊥
-draw_waits Absent n h = cc
-draw_waits Queued n h = cc
-draw_waits (Runs w k) n h = cc
-draw_waits (Waits k) n h = cc
-draw_waits Finished n h = h
+pending_there _ n = refl
 
 way_there : (q : ℕ) (p : Phase) → IsUnderWay q p → p ≡ Absent → ⊥
 way_there q p h e = subst (IsUnderWay q) e h
@@ -60,7 +51,7 @@ module _ (s : Setup) (st : State) (inv : Shape s st) (p : 0 < s.slots) where
   number_left (Path f a i) n q = ap pending q ∙ sym (ap unfinished q)
   number_left (Draw f b) n q =
       let v : IsJob s (Draw f b) = there s st inv (Draw f b) (λ y. cc) in
-      absurd (draw_waits (st.phase (Logic f)) n (subst (DrawFits (st.phase (Logic f))) q (inv.draw f b v.0 v.1)))
+      absurd (draw_waits n (st.phase (Logic f)) (st.phase (Draw f b)) (inv.draw f b v.0 v.1) q)
 
 module _ (s : Setup) (st : State) (inv : Shape s st) (c : Core) (h : Fits s c st) where
   -- ---- workers
@@ -87,11 +78,8 @@ module _ (s : Setup) (st : State) (inv : Shape s st) (c : Core) (h : Fits s c st
       by_lt 0 (tally not (taken_of c.seats (size_of j))) (λ b. (b ≡ true) ↔ HasFiber s st j) (λ l. (λ e. omega arith, λ m. refl)) (λ l. (λ e. absurd cc, λ m. absurd (omega arith)))
 
   queued_one : (q : Phase) → 0 < queued q → q ≡ Queued
-  queued_one Absent l = absurd (omega arith)
   queued_one Queued l = refl
-  queued_one (Runs w k) l = absurd (omega arith)
-  queued_one (Waits k) l = absurd (omega arith)
-  queued_one Finished l = absurd (omega arith)
+  queued_one _ l = absurd (omega arith)
 
   pub fresh_is : (j : JobName) → (0 < tally (same j) (all c.queues.fresh)) ↔ (st.phase j ≡ Queued)
   fresh_is j =

@@ -6,7 +6,7 @@ use Rattle.job_core.specs.Core.{Setup, IsJob, Phase, Absent, Queued, Runs, Waits
 use Rattle.job_core.proofs.ByCases.{by_eq, by_eq2, by_eq_lt, by_lt, by_le, by_same, frame_of, agent_of, question_of}
 use Rattle.job_core.proofs.Sums.{total_same, total_change, total_le, total_zero}
 use Rattle.job_core.proofs.Shape.{Shape, ThinkFits, PathFits, DrawFits, there, logic_next}
-use Rattle.job_core.proofs.Moves.{put_here, put_other}
+use Rattle.job_core.proofs.Moves.{put_here, put_other, one_less}
 use Rattle.board_model.specs.Lists.{bit}
 use Rattle.board_model.specs.Law.{pending, has_spread, number}
 
@@ -33,41 +33,25 @@ number_put s st j new p h = go
 
 module _ (s : Setup) (st : State) (inv : Shape s st) where
   pub number_think : (w k f a : ℕ) → st.phase (Think f a) ≡ Runs w k → number s st (Thinks f) ≡ suc (number s (with_phase st (put st.phase (Think f a) Finished)) (Thinks f))
-  number_think w k f a q =
-      let v : IsJob s (Think f a) = there s st inv (Think f a) (λ y. cc) in
-      let c = total_change s.agents a (λ b. pending (put st.phase (Think f a) Finished (Think f b))) (λ b. pending (st.phase (Think f b))) v.1 (λ b l n. ap pending (put_other st.phase (Think f a) (Think f b) Finished (λ e. n (ap agent_of e)))) in
-      let x : pending (st.phase (Think f a)) ≡ 1 = ap pending q in
-      let y : pending (put st.phase (Think f a) Finished (Think f a)) ≡ 0 = ap pending (put_here st.phase (Think f a) Finished) in
-      omega arith
+  number_think w k f a q = sym (one_less pending refl st.phase (λ b. Think f b) (λ b n e. n (ap agent_of e)) s.agents (there s st inv (Think f a) (λ y. cc)).1 (ap pending q))
 
   pub number_draw : (w k f b : ℕ) → st.phase (Draw f b) ≡ Runs w k → number s st (Draws f) ≡ suc (number s (with_phase st (put st.phase (Draw f b) Finished)) (Draws f))
-  number_draw w k f b q =
-      let v : IsJob s (Draw f b) = there s st inv (Draw f b) (λ y. cc) in
-      let c = total_change s.bands b (λ d. pending (put st.phase (Draw f b) Finished (Draw f d))) (λ d. pending (st.phase (Draw f d))) v.1 (λ d l n. ap pending (put_other st.phase (Draw f b) (Draw f d) Finished (λ e. n (ap agent_of e)))) in
-      let x : pending (st.phase (Draw f b)) ≡ 1 = ap pending q in
-      let y : pending (put st.phase (Draw f b) Finished (Draw f b)) ≡ 0 = ap pending (put_here st.phase (Draw f b) Finished) in
-      omega arith
+  number_draw w k f b q = sym (one_less pending refl st.phase (λ d. Draw f d) (λ d n e. n (ap agent_of e)) s.bands (there s st inv (Draw f b) (λ y. cc)).1 (ap pending q))
 
   pub number_path : (w k f a i : ℕ) → st.phase (Path f a i) ≡ Runs w k → number s st (Way f a i) ≡ suc (number s (with_phase st (put st.phase (Path f a i) Finished)) (Way f a i))
   number_path w k f a i q = ap pending q ∙ ap suc (sym (ap pending (put_here st.phase (Path f a i) Finished)))
 
   pub else_think : (f a : ℕ) (k : Counter) → (k ≡ Thinks f → ⊥) → number s (with_phase st (put st.phase (Think f a) Finished)) k ≡ number s st k
   else_think f a (Thinks g) n = total_same s.agents _ _ (λ b l. ap pending (put_other st.phase (Think f a) (Think g b) Finished (λ e. n (ap (λ x. Thinks (frame_of x)) e))))
-  else_think f a (Way g b i) n = refl
-  else_think f a (Draws g) n = refl
-  else_think f a (Shown g) n = refl
+  else_think f a _ n = refl
 
   pub else_draw : (f b : ℕ) (k : Counter) → (k ≡ Draws f → ⊥) → number s (with_phase st (put st.phase (Draw f b) Finished)) k ≡ number s st k
-  else_draw f b (Thinks g) n = refl
-  else_draw f b (Way g c i) n = refl
   else_draw f b (Draws g) n = total_same s.bands _ _ (λ d l. ap pending (put_other st.phase (Draw f b) (Draw g d) Finished (λ e. n (ap (λ x. Draws (frame_of x)) e))))
-  else_draw f b (Shown g) n = refl
+  else_draw f b _ n = refl
 
   pub else_path : (f a i : ℕ) (k : Counter) → (k ≡ Way f a i → ⊥) → number s (with_phase st (put st.phase (Path f a i) Finished)) k ≡ number s st k
-  else_path f a i (Thinks g) n = refl
   else_path f a i (Way g b j) n = ap pending (put_other st.phase (Path f a i) (Path g b j) Finished (λ e. n (ap (λ x. Way (frame_of x) (agent_of x) (question_of x)) e)))
-  else_path f a i (Draws g) n = refl
-  else_path f a i (Shown g) n = refl
+  else_path f a i _ n = refl
 
   -- ---- a question
 
@@ -144,13 +128,11 @@ module _ (s : Setup) (st : State) (inv : Shape s st) where
   emit_after f e q = ap (λ p. bit (has_spread p && nat_lt (suc st.emitted) f)) q ∙ by_lt (suc st.emitted) f (λ x. bit x ≡ 0) (λ l. absurd (omega arith)) (λ l. refl)
 
   pub emit_else : (f : ℕ) → f ≡ suc st.emitted → (k : Counter) → (k ≡ Shown f → ⊥) → number s (record st { emitted = suc st.emitted }) k ≡ number s st k
-  emit_else f e (Thinks g) n = refl
-  emit_else f e (Way g a i) n = refl
-  emit_else f e (Draws g) n = refl
   emit_else f e (Shown g) n = ap (λ x. bit (has_spread (st.phase (Logic g)) && x))
       (by_lt (suc st.emitted) g (λ x. x ≡ nat_lt st.emitted g)
       (λ l. by_lt st.emitted g (λ x. true ≡ x) (λ o. refl) (λ o. absurd (omega arith)))
       (λ l. by_lt st.emitted g (λ x. false ≡ x) (λ o. absurd (n (ap Shown (let d : g ≡ f = omega arith in d)))) (λ o. refl)))
+  emit_else f e _ n = refl
 
 -- ---- a number is never above what is left
 

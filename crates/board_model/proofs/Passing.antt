@@ -58,15 +58,7 @@ module _ (s : Setup) (st : State) (inv : Shape s st) (c : Core) (h : Fits s c st
       one : (first_row (Shown f) c.counters ≡ None → ⊥) → number s st (Shown f) ≡ 1
       one n = small (has_spread (st.phase (Logic f))) (nat_lt st.emitted f) (λ z. n ((stands_not s st inv c h (Shown f)).1 z))
   passes_may Stop t = tt
-  passes_may (Spread w (Think f a)) t = absurd t
-  passes_may (Spread w (Path f a i)) t = absurd t
-  passes_may (Spread w (Draw f b)) t = absurd t
-  passes_may (Hold w (Think f a)) t = absurd t
-  passes_may (Hold w (Path f a i)) t = absurd t
-  passes_may (Hold w (Draw f b)) t = absurd t
-  passes_may (Ask w (Logic f)) t = absurd t
-  passes_may (Ask w (Path f a i)) t = absurd t
-  passes_may (Ask w (Draw f b)) t = absurd t
+  passes_may _ t = absurd t
 
   pub may_passes : (e : Event) → May s st e → Passes s c e
   may_passes (Start w j) m = ((m.0, (is_idle s st inv c h w).1 m.1), (fresh_is s st inv c h j).1 m.2, (fiber_is s st inv c h j).1 m.3)
@@ -85,15 +77,7 @@ module _ (s : Setup) (st : State) (inv : Shape s st) (c : Core) (h : Fits s c st
         (stands_not s st inv c h (Draws f)).1 (let a = number_le s st (Draws f) in let b : left s st (Draws f) ≡ 0 = m.3 in omega arith),
       )
   may_passes Stop m = tt
-  may_passes (Spread w (Think f a)) m = absurd m
-  may_passes (Spread w (Path f a i)) m = absurd m
-  may_passes (Spread w (Draw f b)) m = absurd m
-  may_passes (Hold w (Think f a)) m = absurd m
-  may_passes (Hold w (Path f a i)) m = absurd m
-  may_passes (Hold w (Draw f b)) m = absurd m
-  may_passes (Ask w (Logic f)) m = absurd m
-  may_passes (Ask w (Path f a i)) m = absurd m
-  may_passes (Ask w (Draw f b)) m = absurd m
+  may_passes _ m = absurd m
 
 -- over logs
 pub test_is : (s : Setup) (log : List Event) (e : Event) → 0 < s.slots → IsLegalList s log → (((core_of s log).stopped ≡ false) × Passes s (core_of s log) e) ↔ IsLegal s (state s log) e

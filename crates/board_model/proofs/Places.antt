@@ -17,11 +17,9 @@ get_here (x ∷ xs) zero y l = refl
 get_here (x ∷ xs) (suc i) y l = get_here xs i y (omega arith)
 
 pub get_other : {X : Type 0} (xs : List X) (i k : ℕ) (y : X) → (k ≡ i → ⊥) → slice_get (slice_set xs i y) k ≡ slice_get xs k
-get_other [] i k y n = refl
 get_other (x ∷ xs) zero zero y n = absurd (n refl)
-get_other (x ∷ xs) zero (suc k) y n = refl
-get_other (x ∷ xs) (suc i) zero y n = refl
 get_other (x ∷ xs) (suc i) (suc k) y n = get_other xs i k y (λ e. n (ap suc e))
+get_other _ _ _ y n = refl
 
 pub get_first : {X : Type 0} (n i : ℕ) (x : X) → i < n → slice_get (replicate n x) i ≡ Some x
 get_first zero i x l = absurd (omega arith)

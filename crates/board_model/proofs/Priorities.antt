@@ -30,14 +30,9 @@ level_of (Draw f b) = refl
 
 level_one : (p q : Priority) → level p ≡ level q → p ≡ q
 level_one High High e = refl
-level_one High Normal e = absurd (omega arith)
-level_one High Low e = absurd (omega arith)
-level_one Normal High e = absurd (omega arith)
 level_one Normal Normal e = refl
-level_one Normal Low e = absurd (omega arith)
-level_one Low High e = absurd (omega arith)
-level_one Low Normal e = absurd (omega arith)
 level_one Low Low e = refl
+level_one _ _ e = absurd (omega arith)
 
 -- ---- what stands in which queue
 

@@ -46,21 +46,21 @@ none_less : (x : Bool) (b : ℕ) → 0 ≡ bit (x && nat_lt b 0)
 none_less false b = refl
 none_less true b = by_lt b 0 (λ y. 0 ≡ bit y) (λ l. absurd (omega arith)) (λ l. refl)
 
-pub thinks_tally : (s : Setup) (f n : ℕ) (g b : ℕ) → tally (same (Think g b)) (first n (λ a. Think f a)) ≡ bit ((g == f) && nat_lt b n)
-thinks_tally s f zero g b = none_less (g == f) b
-thinks_tally s f (suc n) g b =
-    let a = tally_append (same (Think g b)) (first n (λ a. Think f a)) (Think f n ∷ []) in
-    let h = thinks_tally s f n g b in
-    let o = one_more (g == f) b n in
+-- how often a job stands in the first of these, each of which it is where its frame and its number are
+named_tally : (x : JobName) (name : ℕ → JobName) (f : Bool) (b : ℕ) → ((k : ℕ) → same x (name k) ≡ (f && (b == k))) → (n : ℕ) → tally (same x) (first n name) ≡ bit (f && nat_lt b n)
+named_tally x name f b is zero = none_less f b
+named_tally x name f b is (suc n) =
+    let a = tally_append (same x) (first n name) (name n ∷ []) in
+    let h = named_tally x name f b is n in
+    let i = ap bit (is n) in
+    let o = one_more f b n in
     omega arith
 
+pub thinks_tally : (s : Setup) (f n : ℕ) (g b : ℕ) → tally (same (Think g b)) (first n (λ a. Think f a)) ≡ bit ((g == f) && nat_lt b n)
+thinks_tally s f n g b = named_tally (Think g b) (λ a. Think f a) (g == f) b (λ k. refl) n
+
 pub draws_tally : (s : Setup) (f n : ℕ) (g b : ℕ) → tally (same (Draw g b)) (first n (λ a. Draw f a)) ≡ bit ((g == f) && nat_lt b n)
-draws_tally s f zero g b = none_less (g == f) b
-draws_tally s f (suc n) g b =
-    let a = tally_append (same (Draw g b)) (first n (λ a. Draw f a)) (Draw f n ∷ []) in
-    let h = draws_tally s f n g b in
-    let o = one_more (g == f) b n in
-    omega arith
+draws_tally s f n g b = named_tally (Draw g b) (λ a. Draw f a) (g == f) b (λ k. refl) n
 
 pub none_of : (p : JobName → Bool) (name : ℕ → JobName) (n : ℕ) → ((k : ℕ) → p (name k) ≡ false) → tally p (first n name) ≡ 0
 none_of p name zero h = refl

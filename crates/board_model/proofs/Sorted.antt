@@ -10,7 +10,7 @@ use Rattle.job_core.proofs.Shape.{Shape, keeps, opens}
 use Rattle.board_model.specs.Lists.{bit, tally, at, write, has, drop_first, first_place, Priority, High, Normal, Low, Three, all, none, add, take_from}
 use Rattle.board_model.specs.Board.{Core, Held, Row, priority_of, priority_on, put_all, first, next_logic, first_row, raise, woken, unless_kept, wait_ready, wake, lowest, fiber_of, holds, step_on, by_worker, core_end, core_after, core_opening, core_from, core_of}
 use Rattle.board_model.specs.Law.{number, waits_of, is_ready, Fits}
-use Rattle.board_model.proofs.Kit.{by_bool, at_other, all_parts}
+use Rattle.board_model.proofs.Kit.{by_bool, at_other, all_parts, taken_by}
 use Rattle.board_model.proofs.Entries.{running_at}
 use Rattle.board_model.proofs.Opening.{opening_fits}
 use Rattle.board_model.proofs.Fit.{step_fits}
@@ -44,17 +44,11 @@ sorted_add of Normal x t e h = (h.0, only_append of Normal t.normal (x ∷ []) h
 sorted_add of Low x t e h = (h.0, h.1, only_append of Low t.low (x ∷ []) h.2 (e, tt))
 
 sorted_take : {X : Type 0} (of : X → Priority) (q : X → Bool) (t : Three X) → IsSortedBy of t → IsSortedBy of (take_from q t)
-sorted_take {X} of q t h = by_bool (has q t.high) (λ b. IsSortedBy of (left_by b (has q t.normal)))
+sorted_take {X} of q t h = by_bool (has q t.high) (λ b. IsSortedBy of (taken_by q t b (has q t.normal)))
     (λ e. (only_drop of High q t.high h.0, h.1, h.2))
-    (λ e. by_bool (has q t.normal) (λ b. IsSortedBy of (left_by false b))
+    (λ e. by_bool (has q t.normal) (λ b. IsSortedBy of (taken_by q t false b))
     (λ f. (h.0, only_drop of Normal q t.normal h.1, h.2))
     (λ f. (h.0, h.1, only_drop of Low q t.low h.2)))
-  where
-    left_by : Bool → Bool → Three X
-    left_by a b =
-        if a then record { high = drop_first q t.high; normal = t.normal; low = t.low }
-        else (if b then record { high = t.high; normal = drop_first q t.normal; low = t.low }
-        else record { high = t.high; normal = t.normal; low = drop_first q t.low })
 
 sorted_put_all : (t : Three JobName) (js : List JobName) → IsSortedBy priority_of t → IsSortedBy priority_of (put_all t js)
 sorted_put_all t [] h = h
@@ -90,11 +84,9 @@ sorted_but of new f t s z h =
 
 -- the entry keeps its priority
 priority_kept : (jobs : List (Option Held)) (f : ℕ) (o : Option Held) → priority_on o ≡ priority_on (at jobs f) → (g : ℕ) → priority_on (at (write jobs f o) g) ≡ priority_on (at jobs g)
-priority_kept [] f o e g = refl
 priority_kept (x ∷ xs) zero o e zero = e
-priority_kept (x ∷ xs) zero o e (suc g) = refl
-priority_kept (x ∷ xs) (suc f) o e zero = refl
 priority_kept (x ∷ xs) (suc f) o e (suc g) = priority_kept xs f o e g
+priority_kept _ _ o e _ = refl
 
 by_worker_kept : (w : ℕ) (o : Option Held) → priority_on (by_worker w o) ≡ priority_on o
 by_worker_kept w None = refl
@@ -171,15 +163,7 @@ module _ (s : Setup) (c : Core) (st : State) (p : 0 < s.slots) (inv : Shape s st
   sorted_step (Finish w (Draw f b)) m = sorted_end w (Draws f) (left_at_end w (Draw f b) m (waits_written s c.seats.jobs (fiber_of c.seats w) None refl))
   sorted_step (Emit f) m = record { fresh = h.fresh; ready = sorted_wake c.seats.jobs c.queues.ready (woken (Shown f) c.counters) h.ready }
   sorted_step Stop m = record { fresh = h.fresh; ready = h.ready }
-  sorted_step (Spread w (Think f a)) m = absurd m
-  sorted_step (Spread w (Path f a i)) m = absurd m
-  sorted_step (Spread w (Draw f b)) m = absurd m
-  sorted_step (Hold w (Think f a)) m = absurd m
-  sorted_step (Hold w (Path f a i)) m = absurd m
-  sorted_step (Hold w (Draw f b)) m = absurd m
-  sorted_step (Ask w (Logic f)) m = absurd m
-  sorted_step (Ask w (Path f a i)) m = absurd m
-  sorted_step (Ask w (Draw f b)) m = absurd m
+  sorted_step _ m = absurd m
 
 -- ---- by induction on the log
 

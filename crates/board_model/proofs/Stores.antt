@@ -9,6 +9,7 @@ use Rattle.job_core.specs.declared.names.Event.TheVariants.{Start, Resume, Ask, 
 use Rattle.job_core.specs.Core.{Setup, IsJob, Phase, Absent, Queued, Runs, Waits, Finished, State, left, unfinished, awaited, May, IsLegal, step_of, after, after_all, opening, state, IsLegalFrom, IsLegalList}
 use Rattle.job_core.proofs.ByCases.{by_eq_lt}
 use Rattle.job_core.proofs.Sums.{total_all_zero}
+use Rattle.job_core.proofs.Rank.{path_waits, draw_waits}
 use Rattle.job_core.proofs.Shape.{Shape, keeps, opens, there, asked, zero_finished, ThinkFits, PathFits, DrawFits}
 use Rattle.job_core.proofs.Once.{ended}
 use Rattle.board_model.specs.Lists.{at}
@@ -27,20 +28,6 @@ use Rattle.board_model.proofs.Storing.{starts, resumes, holds, stops, spreads, a
 use Rattle.board_model.proofs.Showing.{logic_ends, emits}
 
 -- ---- what an event needs
-
-path_waits : (i : ℕ) (tp : Phase) (n : ℕ) → PathFits i tp (Waits n) → ⊥
-path_waits i Absent n h = cc
-path_waits i Queued n h = cc
-path_waits i (Runs w k) n h = ⊎_elim (λ l. let e = h.0 l in cc) (λ l. let e = h.1 l in cc) (cases_lt i k)
-path_waits i (Waits k) n h = ⊎_elim (λ l. let e = h.0 l in cc) (λ l. ⊎_elim (λ m. h.1 (omega arith)) (λ m. let e = h.2 (omega arith) in cc) (cases_lt i k)) (cases_lt (suc i) k)
-path_waits i Finished n h = cc
-
-draw_waits : (lp : Phase) (n : ℕ) → DrawFits lp (Waits n) → ⊥
-draw_waits Absent n h = cc
-draw_waits Queued n h = cc
-draw_waits (Runs w k) n h = cc
-draw_waits (Waits k) n h = cc
-draw_waits Finished n h = h
 
 module _ (s : Setup) (st : State) (inv : Shape s st) (k : Stored) (g : Kept s k st) (fit : SlotsFit s k.slots (number s st)) (p : 0 < s.slots) where
   slot_of_open : (f : ℕ) → IsOpen (st.phase (Logic f)) → IsInSlot s k f
@@ -85,10 +72,10 @@ module _ (s : Setup) (st : State) (inv : Shape s st) (k : Stored) (g : Kept s k 
       think_there f a n (asked (s.questions f a) n (st.phase (Logic f)) (subst (λ x. ThinkFits (s.questions f a) (st.phase (Logic f)) x) q (inv.think f a v.0 v.1))).0 q z
   resume_there w n (Path f a i) q z =
       let v : IsJob s (Path f a i) = there s st inv (Path f a i) (λ y. cc) in
-      absurd (path_waits i (st.phase (Think f a)) n (subst (PathFits i (st.phase (Think f a))) q (inv.path f a i v.0 v.1 v.2)))
+      absurd (path_waits i n (st.phase (Think f a)) (st.phase (Path f a i)) (inv.path f a i v.0 v.1 v.2) q)
   resume_there w n (Draw f b) q z =
       let v : IsJob s (Draw f b) = there s st inv (Draw f b) (λ y. cc) in
-      absurd (draw_waits (st.phase (Logic f)) n (subst (DrawFits (st.phase (Logic f))) q (inv.draw f b v.0 v.1)))
+      absurd (draw_waits n (st.phase (Logic f)) (st.phase (Draw f b)) (inv.draw f b v.0 v.1) q)
 
   event_there : (e : Event) → May s st e → ((w f : ℕ) → e ≡ Spread w (Logic f) → at k.slots (f % s.slots) ≡ None) → IsThere s st k e
   event_there (Start w j) m free = start_there w j m.2
@@ -116,15 +103,7 @@ module _ (s : Setup) (st : State) (inv : Shape s st) (k : Stored) (g : Kept s k 
   event_there (Emit f) m free =
       let l : st.emitted < f = let e : f ≡ suc st.emitted = m.0 in omega arith in (in_slot s st inv k fit f (done_shown s st inv f m.2 l), has_turn f m.2 l)
   event_there Stop m free = tt
-  event_there (Spread w (Think f a)) m free = absurd m
-  event_there (Spread w (Path f a i)) m free = absurd m
-  event_there (Spread w (Draw f b)) m free = absurd m
-  event_there (Hold w (Think f a)) m free = absurd m
-  event_there (Hold w (Path f a i)) m free = absurd m
-  event_there (Hold w (Draw f b)) m free = absurd m
-  event_there (Ask w (Logic f)) m free = absurd m
-  event_there (Ask w (Path f a i)) m free = absurd m
-  event_there (Ask w (Draw f b)) m free = absurd m
+  event_there _ m free = absurd m
 
 -- ---- over logs
 
@@ -180,15 +159,7 @@ kept_step s k st p t (Finish w (Path f a i)) m = path_ends s st t.shape k t.kept
 kept_step s k st p t (Finish w (Draw f b)) m = draw_ends s st t.shape k t.kept w f b m
 kept_step s k st p t (Emit f) m = emits s st t.shape k t.kept (fit_of s k st t) f (mod-lt f p)
 kept_step s k st p t Stop m = stops s st t.shape k t.kept
-kept_step s k st p t (Spread w (Think f a)) m = absurd m
-kept_step s k st p t (Spread w (Path f a i)) m = absurd m
-kept_step s k st p t (Spread w (Draw f b)) m = absurd m
-kept_step s k st p t (Hold w (Think f a)) m = absurd m
-kept_step s k st p t (Hold w (Path f a i)) m = absurd m
-kept_step s k st p t (Hold w (Draw f b)) m = absurd m
-kept_step s k st p t (Ask w (Logic f)) m = absurd m
-kept_step s k st p t (Ask w (Path f a i)) m = absurd m
-kept_step s k st p t (Ask w (Draw f b)) m = absurd m
+kept_step s k st p t _ m = absurd m
 
 tied_from : (s : Setup) (k : Stored) (st : State) → 0 < s.slots → Tied s k st → (es : List Event) → IsLegalFrom s st es → Tied s (stored_from s st k es) (after_all s st es)
 tied_from s k st p t [] l = t

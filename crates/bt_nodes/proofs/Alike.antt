@@ -31,23 +31,9 @@ built kind.Give n cs c = Does (Give (unwrap_or n 0))
 
 again : (p : Plain) → built (kind_of p) (number_of p) (listed p) (decorated p) ≡ p
 again (Composite Seq cs) = refl
-again (Composite Fallback cs) = refl
 again (Star Seq cs) = refl
-again (Star Fallback cs) = refl
-again (Par m cs) = refl
-again (Not c) = refl
-again (Tries n c) = refl
-again (Ticks n c) = refl
-again (Wait n) = refl
-again (Move p) = refl
 again (Does Take) = refl
-again (Does Drop) = refl
-again (Does (At p)) = refl
-again (Does Carrying) = refl
-again (Does Item) = refl
-again (Does (Signal a)) = refl
-again (Does (Near n)) = refl
-again (Does (Give b)) = refl
+again _ = refl
 
 pub same_tree : (p q : Plain) → kind_of p ≡ kind_of q → number_of p ≡ number_of q → listed p ≡ listed q → decorated p ≡ decorated q → p ≡ q
 same_tree p q k n l d =

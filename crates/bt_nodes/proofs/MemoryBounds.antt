@@ -20,9 +20,7 @@ mutual
   length-bounds (Not child) = omega (arith, length-bounds child)
   length-bounds (Tries n child) = omega (arith, length-bounds child)
   length-bounds (Ticks n child) = omega (arith, length-bounds child)
-  length-bounds (Wait n) = refl
-  length-bounds (Move p) = refl
-  length-bounds (Does leaf) = refl
+  length-bounds _ = refl
 
   pub length-bounds_all : (children : Forest) → length (bounds_all children) ≡ sizes children
   length-bounds_all none = refl

@@ -2,7 +2,7 @@
 use Rattle.std.proofs.Common.{◌≡◌, ℕ, ◌+◌, ◌-◌, ◌<◌, ◌≤◌, List, [], ◌∷◌, ◌++◌, length, get_or, set, take, drop, Some, None, sym, ap, ◌∙◌, refl, arith, append_assoc, append-nil, length-append}
 use Rattle.std.proofs.lemmas.List.{take_more, length-take-le}
 use Rattle.std.proofs.Math.Seq.{take-set-lt, set-append_seam}
-use Rattle.bt_nodes.specs.Plain.{Plain, Composite, Star, Par, Not, Tries, Ticks, Wait, Move, Does, Forest, none, tree, plain, plains}
+use Rattle.bt_nodes.specs.Plain.{Plain, Composite, Star, Par, Not, Tries, Ticks, Forest, none, tree, plain, plains}
 use Rattle.bt_nodes.specs.Sizes.{size, sizes, subtree_sizes, subtree_sizes_all}
 use Rattle.bt_nodes.specs.declared.node.Node.{Node}
 use Rattle.bt_nodes.specs.Heads.{listed, decorated}
@@ -18,9 +18,7 @@ mutual
   length-subtree_sizes (Not child) = omega (arith, length-subtree_sizes child)
   length-subtree_sizes (Tries n child) = omega (arith, length-subtree_sizes child)
   length-subtree_sizes (Ticks n child) = omega (arith, length-subtree_sizes child)
-  length-subtree_sizes (Wait n) = refl
-  length-subtree_sizes (Move p) = refl
-  length-subtree_sizes (Does leaf) = refl
+  length-subtree_sizes _ = refl
 
   pub length-subtree_sizes_all : (children : Forest) → length (subtree_sizes_all children) ≡ sizes children
   length-subtree_sizes_all none = refl

@@ -22,12 +22,8 @@ tests : (many deep listed met counted : Bool)
     else (if listed then (if met then (if counted then None else Some Count) else Some Threshold) else Some NoChild)))
     ≡ None
     → (many ≡ false) × (deep ≡ false) × (listed ≡ true) × (met ≡ true) × (counted ≡ true)
-tests true deep listed met counted e = cc
-tests false true listed met counted e = cc
-tests false false false met counted e = cc
-tests false false true false counted e = cc
-tests false false true true false e = cc
 tests false false true true true e = (refl, refl, refl, refl, refl)
+tests _ _ _ _ _ e = cc
 
 pub within : (p : Plain) → tree_fault p ≡ None → IsWithin p
 within p e =

@@ -3,7 +3,7 @@ use Rattle.std.proofs.Common.{◌≡◌, ℕ, zero, suc, ◌<◌, List, [], ◌�
 use Rattle.std.specs.Prelude.{if◌then◌else◌, Option, Some, None, ◌↔◌, IsTrue, ◌==◌}
 use Rattle.std.proofs.lemmas.Bool.{false≢true}
 use Rattle.std.proofs.lemmas.Bool.Decides.{nat_tests}
-use Rattle.bt_nodes.specs.Plain.{Plain, Composite, Star, Par, Not, Tries, Ticks, Wait, Move, Does}
+use Rattle.bt_nodes.specs.Plain.{Plain, Not, Tries, Ticks}
 use Rattle.bt_nodes.specs.Bounds.{bounds, bounds_all, Fits}
 use Rattle.bt_tick.specs.Children.{children_of}
 use Rattle.bt_tick.specs.Fitting.{behind, root_bound}
@@ -52,15 +52,10 @@ fits_behind p m = (
 )
 
 pub root_bounds : (p : Plain) → bounds p ≡ root_bound p ∷ bounds_all (children_of p)
-root_bounds (Composite kind cs) = refl
-root_bounds (Star kind cs) = refl
-root_bounds (Par m cs) = refl
 root_bounds (Not c) = ap (λ l. 1 ∷ l) (sym (append_nil (bounds c)))
 root_bounds (Tries k c) = ap (λ l. suc k ∷ l) (sym (append_nil (bounds c)))
 root_bounds (Ticks k c) = ap (λ l. suc k ∷ l) (sym (append_nil (bounds c)))
-root_bounds (Wait k) = refl
-root_bounds (Move p) = refl
-root_bounds (Does leaf) = refl
+root_bounds _ = refl
 
 module _ (p : Plain) (m m' : List ℕ) (same : m' ≡ m) where
   -- where numbers are left, or one is not below its bound, it doesn't fit

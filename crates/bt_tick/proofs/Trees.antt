@@ -11,15 +11,10 @@ use Rattle.bt_tick.specs.Places.{Segment, Sits}
 
 -- a tree is its root and its root's children
 pub size-children : (p : Plain) → size p ≡ 1 + sizes (children_of p)
-size-children (Composite kind cs) = omega arith
-size-children (Star kind cs) = omega arith
-size-children (Par m cs) = omega arith
-size-children (Not c) = omega arith
-size-children (Tries k c) = omega arith
-size-children (Ticks k c) = omega arith
 size-children (Wait k) = refl
 size-children (Move p) = refl
 size-children (Does leaf) = refl
+size-children _ = omega arith
 
 pub from_count : (cs : Forest) (k : ℕ) → count cs ≤ k → from_child k cs ≡ none
 from_count none zero h = refl
@@ -84,15 +79,10 @@ own_bound (Does leaf) = (1, refl)
 
 -- and the sizes of its subtrees are its own and those of the children
 own_sizes : (p : Plain) → subtree_sizes p ≡ size p ∷ subtree_sizes_all (children_of p)
-own_sizes (Composite kind cs) = refl
-own_sizes (Star kind cs) = refl
-own_sizes (Par m cs) = refl
 own_sizes (Not c) = ap (λ l. suc (size c) ∷ l) (sym (append_nil (subtree_sizes c)))
 own_sizes (Tries k c) = ap (λ l. suc (size c) ∷ l) (sym (append_nil (subtree_sizes c)))
 own_sizes (Ticks k c) = ap (λ l. suc (size c) ∷ l) (sym (append_nil (subtree_sizes c)))
-own_sizes (Wait k) = refl
-own_sizes (Move p) = refl
-own_sizes (Does leaf) = refl
+own_sizes _ = refl
 
 module _ (all : List ℕ) where
   segment_behind : (n b : ℕ) (part : List ℕ) → Segment all n (b ∷ part) → Segment all (n + 1) part

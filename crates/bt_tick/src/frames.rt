@@ -3,13 +3,13 @@
 
 ghost use Rattle.std.specs.Prelude.{◌≡◌, ◌<◌, ◌≤◌, ◌+◌, ◌-◌, ◌*◌, ◌^◌, ◌∷◌, length, drop, IfOk};
 ghost use Rattle.bt_nodes.specs.Plain.{Plain, plain, plains};
-ghost use Rattle.bt_nodes.specs.Sizes.{size};
+ghost use Rattle.bt_nodes.specs.Sizes.{size, count};
 ghost use Rattle.game_rules.specs.View.{View};
-ghost use Rattle.game_rules.specs.Tick.{verdict};
+ghost use Rattle.game_rules.specs.Tick.{gives, verdict};
 ghost use Rattle.bt_tick.specs.Children.{children_of};
 ghost use Rattle.bt_tick.specs.Kinds.{HasList};
 ghost use Rattle.bt_tick.specs.Places.{Sits, Resting, weight_of, weight_all};
-ghost use Rattle.bt_tick.specs.Machine.{opened, opens, rest_of, Keeps, whole_of, Placed, weight};
+ghost use Rattle.bt_tick.specs.Machine.{opened, opens, rest_of, Keeps, KeepsLeft, whole_of, Placed, weight};
 
 use crate::machine::{Machine, Mode};
 use bt_nodes::{Node, Status};
@@ -92,6 +92,35 @@ impl<'t, T: Allocator, A: Allocator> Machine<'t, T, A> {
         Mode::Down(&children[next as usize], at)
     }
 
+    // The status of a node that lists children, none of which is left. One with memory begins anew when it is ticked again.
+    #[inline(always)]
+    fn ended(&mut self, frame: Frame<'t, T>) -> Status
+        requires list { HasList (plain frame.node.now) }
+        requires none_left { count (children_of (plain frame.node.now)) ≤ frame.next }
+        requires sits { Sits (whole_of self.old) frame.number (plain frame.node.now) }
+        ensures keeps { (v : View) → KeepsLeft self.new self.old (gives result) (rest_of v (opened frame.entry)) }
+        ensures stack { self.new.stack ≡ self.old.stack }
+        ensures wants { self.new.wants ≡ self.old.wants }
+        ensures tree { self.new.tree ≡ self.old.tree }
+    {
+        match frame.node {
+            Node::Seq(_) => Status::Success,
+            Node::Fallback(_) => Status::Failure,
+            Node::Par(least, children) => {
+                par_status(*least, children.len(), frame.successes, frame.failures)
+            }
+            Node::SeqStar(_) => {
+                self.memory.set(frame.number as u64, 0);
+                Status::Success
+            }
+            Node::FallbackStar(_) => {
+                self.memory.set(frame.number as u64, 0);
+                Status::Failure
+            }
+            _ => unreachable!(),
+        }
+    }
+
     // Goes on with the innermost open node, none of whose children is being ticked: begins the child with the number
     // `at`, or leaves the node where no child is left.
     #[inline(always)]
@@ -106,42 +135,11 @@ impl<'t, T: Allocator, A: Allocator> Machine<'t, T, A> {
             ≤ weight_of (opened frame.entry) + weight_all (opens (drop 1 self.old.stack)) }
         ensures tree { self.new.tree ≡ self.old.tree }
     {
-        match frame.node {
-            Node::Seq(children) => {
-                if (frame.next as usize) < children.len() {
-                    return self.enter(frame, children, at);
-                }
-                self.leave(Status::Success, at)
-            }
-            Node::Fallback(children) => {
-                if (frame.next as usize) < children.len() {
-                    return self.enter(frame, children, at);
-                }
-                self.leave(Status::Failure, at)
-            }
-            Node::Par(least, children) => {
-                let count = children.len();
-                if (frame.next as usize) < count {
-                    return self.enter(frame, children, at);
-                }
-                let status = par_status(*least, count, frame.successes, frame.failures);
-                self.leave(status, at)
-            }
-            Node::SeqStar(children) => {
-                if (frame.next as usize) < children.len() {
-                    return self.enter(frame, children, at);
-                }
-                self.memory.set(frame.number as u64, 0);
-                self.leave(Status::Success, at)
-            }
-            Node::FallbackStar(children) => {
-                if (frame.next as usize) < children.len() {
-                    return self.enter(frame, children, at);
-                }
-                self.memory.set(frame.number as u64, 0);
-                self.leave(Status::Failure, at)
-            }
-            _ => unreachable!(),
+        let children = frame.node.listed();
+        if (frame.next as usize) < children.len() {
+            return self.enter(frame, children, at);
         }
+        let status = self.ended(frame);
+        self.leave(status, at)
     }
 }

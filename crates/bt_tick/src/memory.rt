@@ -34,6 +34,13 @@ impl Memory {
         })
     }
 
+    /// A memory of these numbers, whatever tree it fits.
+    pub fn of(numbers: Vec<u16>) -> Memory
+        ensures { result ≡ numbers.items }
+    {
+        Memory { numbers }
+    }
+
     /// The same numbers, in memory of `alloc`. Takes time linear in the number of nodes.
     pub fn copy(&self, alloc: Global) -> Result<Memory, AllocError>
         ensures { IfOk result (λ m. m ≡ self.now) }

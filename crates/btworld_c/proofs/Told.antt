@@ -11,8 +11,8 @@ use Rattle.level_text.specs.declared.script_file.ScriptFault.{ScriptFault}
 use Rattle.level_text.specs.declared.script_file.ScriptFault.TheVariants.{OutOfMemory}
 use Rattle.game_rules.specs.declared.change.Change.{Change}
 use Rattle.stepping.specs.Played.{Played}
-use Rattle.btworld_c.specs.Statuses.{no_memory, taken, fault_status, spelled_status, script_status, session_status, IsLevelStatus, IsSessionStatus}
-use Rattle.btworld_c.specs.Games.{IsOpenStatus, IsOpenBesideStatus}
+use Rattle.btworld_c.specs.Statuses.{no_memory, taken, fault_status, spelled_status, script_status, session_status, IsLevelStatus, IsSessionStatus, IsStateFault}
+use Rattle.btworld_c.specs.Games.{IsOpenStatus, IsOpenBesideStatus, IsLoadStatus}
 
 named_told : (right : Result Parts Fault) (f : Option Fault) (status : ℕ) → Names f right → status ≡ fault_status f → (status ≡ no_memory) ⊎ (status ≡ spelled_status right)
 named_told right None status n e = inl e
@@ -60,3 +60,24 @@ pub beside_taken_told : (level script : List ℕ) (held : Option Played) (is_ope
     → IsOpenBesideStatus level script held status
 beside_taken_told level script None is_open status says open_now e = absurd (both_ways is_open says open_now)
 beside_taken_told level script (Some game) is_open status says open_now e = e
+
+-- ---- a level and a state
+
+pub load_told : (bytes : List ℕ) (held : Option Played) (is_open : Bool) (status : ℕ) → is_open ≡ is_some held → is_open ≡ false
+    → IsLevelStatus bytes status ⊎ ((level : Parts) × (spelled bytes ≡ Ok level) × IsStateFault status) → IsLoadStatus bytes held status
+load_told bytes None is_open status says closed told = told
+load_told bytes (Some game) is_open status says closed told = absurd (both_ways is_open closed says)
+
+pub load_taken_told : (bytes : List ℕ) (held : Option Played) (is_open : Bool) (status : ℕ) → is_open ≡ is_some held → is_open ≡ true → status ≡ taken → IsLoadStatus bytes held status
+load_taken_told bytes None is_open status says open_now e = absurd (both_ways is_open says open_now)
+load_taken_told bytes (Some game) is_open status says open_now e = e
+
+-- why a level's game was not loaded
+pub load_refused : (bytes : List ℕ) (level : Parts) (status : ℕ) → spelled bytes ≡ Ok level → (status ≡ no_memory) ⊎ IsStateFault status
+    → IsLevelStatus bytes status ⊎ ((level : Parts) × (spelled bytes ≡ Ok level) × IsStateFault status)
+load_refused bytes level status spells (inl e) = inl (inl e)
+load_refused bytes level status spells (inr is) = inr (level, spells, is)
+
+pub load_done : (bytes : List ℕ) (level : Parts) (status : ℕ) → spelled bytes ≡ Ok level → status ≡ 0
+    → IsLevelStatus bytes status ⊎ ((level : Parts) × (spelled bytes ≡ Ok level) × IsStateFault status)
+load_done bytes level status spells e = inl (inr (e ∙ sym (ap spelled_status spells)))

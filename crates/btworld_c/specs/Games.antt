@@ -1,18 +1,19 @@
 -- What the calls do to the game of a handle.
-use Rattle.std.specs.Prelude.{ℕ, ◌≡◌, List, [], Option, Some, None, Ok}
+use Rattle.std.specs.Prelude.{ℕ, ◌≡◌, ◌⊎◌, List, [], Option, Some, None, Ok}
 use Rattle.game_rules.specs.declared.change.Change.{Change}
 use Rattle.game_session.specs.Parts.{Parts}
 use Rattle.game_session.specs.Sessions.{game_of}
 use Rattle.level_text.specs.Levels.{spelled}
 use Rattle.level_text.specs.Scripts.{script_of}
-use Rattle.stepping.specs.Played.{Played, played_of, bits, scripted_signals, IsOnBy, IsStepped}
-use Rattle.btworld_c.specs.Statuses.{taken, IsLevelStatus, IsSessionStatus}
+use Rattle.stepping.specs.Played.{Played, opened, bits, scripted_signals, IsRefused, IsStepped}
+use Rattle.stepping.specs.StateText.{state_text}
+use Rattle.btworld_c.specs.Statuses.{taken, IsLevelStatus, IsSessionStatus, IsStateFault}
 
 -- it is the game of the level that bytes spell, before the first frame, with an empty script beside it
 pub record IsOpened (bytes : List ℕ) (held : Option Played) : Type 0 where
   pub level : Parts
   pub spells : spelled bytes ≡ Ok level
-  pub is : held ≡ Some (played_of (game_of level []) 0 [])
+  pub is : held ≡ Some (opened (game_of level []) [])
 
 -- what opening answers: that a game is there already, or how the bytes are as a level
 abbrev pub IsOpenStatus : List ℕ → Option Played → ℕ → Type 0
@@ -25,11 +26,26 @@ pub record IsOpenedBeside (bytes script : List ℕ) (held : Option Played) : Typ
   pub changes : List Change
   pub spells : spelled bytes ≡ Ok level
   pub spells_script : script_of script ≡ Ok changes
-  pub is : held ≡ Some (played_of (game_of level []) 0 changes)
+  pub is : held ≡ Some (opened (game_of level []) changes)
 
 abbrev pub IsOpenBesideStatus : (level script : List ℕ) → Option Played → ℕ → Type 0
 IsOpenBesideStatus level script None status = IsSessionStatus level script status
 IsOpenBesideStatus level script (Some game) status = status ≡ taken
+
+-- it is the game of the level that bytes spell, in the state whose text this is, with an empty script beside it
+pub record IsLoaded (bytes text : List ℕ) (held : Option Played) : Type 0 where
+  pub level : Parts
+  pub game : Played
+  pub spells : spelled bytes ≡ Ok level
+  pub plays : game.game ≡ game_of level game.game.changes
+  pub tells : state_text game ≡ text
+  pub no_script : game.script ≡ []
+  pub is : held ≡ Some game
+
+-- what loading answers: that a game is there already, or how the bytes are as a level, or why the text is not loaded
+abbrev pub IsLoadStatus : List ℕ → Option Played → ℕ → Type 0
+IsLoadStatus bytes None status = IsLevelStatus bytes status ⊎ ((level : Parts) × (spelled bytes ≡ Ok level) × IsStateFault status)
+IsLoadStatus bytes (Some game) status = status ≡ taken
 
 -- a game was held, and is a frame on, in which the signals were on whose bits are
 abbrev pub IsSteppedIn : ℕ → Option Played → Option Played → Type 0
@@ -41,8 +57,14 @@ abbrev pub IsSteppedByScript : Option Played → Option Played → Type 0
 IsSteppedByScript (Some before) (Some after) = IsStepped (scripted_signals before) before after
 IsSteppedByScript before after = ⊥
 
--- no frame was stepped; signals may have been handed in
-abbrev pub IsNotStepped : Option Played → Option Played → Type 0
-IsNotStepped None None = Unit {0}
-IsNotStepped (Some before) (Some after) = IsOnBy 0 before after
-IsNotStepped before after = ⊥
+-- no frame was stepped; some of the signals that a mask wants may be on or off in the next
+abbrev pub IsNotStepped : ℕ → Option Played → Option Played → Type 0
+IsNotStepped mask None None = Unit {0}
+IsNotStepped mask (Some before) (Some after) = IsRefused (bits 26 mask) before after
+IsNotStepped mask before after = ⊥
+
+-- no frame was stepped; some of the signals of its script may be on or off in the next
+abbrev pub IsNotSteppedByScript : Option Played → Option Played → Type 0
+IsNotSteppedByScript None None = Unit {0}
+IsNotSteppedByScript (Some before) (Some after) = IsRefused (scripted_signals before) before after
+IsNotSteppedByScript before after = ⊥

@@ -4,13 +4,12 @@ use Rattle.grid_world.specs.Grid.{Grid, Point, is_on_map, cell_at, has_item, age
 use Rattle.grid_world.specs.World.{point}
 use Rattle.grid_world.specs.declared.cell.Cell.{Cell}
 use Rattle.grid_world.specs.declared.cell.Cell.TheVariants.{Wall, Floor, Door, Spot}
-use Rattle.game_rules.specs.Play.{play}
 use Rattle.stepping.specs.Played.{Played}
 use Rattle.btworld_c.specs.declared.game.CellState.{CellState}
 
 -- the world after the frame
 abbrev pub world_of : Played → Grid
-world_of p = (play p.game p.frame).world
+world_of p = p.position.world
 
 -- the size of the held game's map, and how many agents it has
 abbrev pub IsMap : Option Played → (width height agents : ℕ) → Type 0

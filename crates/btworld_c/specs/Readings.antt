@@ -5,15 +5,10 @@ use Rattle.grid_world.specs.declared.cell.Agent.{Agent as Body}
 use Rattle.bt_nodes.specs.declared.node.Status.{Status}
 use Rattle.bt_nodes.specs.declared.node.Status.TheVariants.{Success, Failure, Running}
 use Rattle.game_rules.specs.Game.{signals}
-use Rattle.game_rules.specs.Play.{play}
-use Rattle.game_rules.specs.Text.{frame_text}
-use Rattle.stepping.specs.Played.{Played, state_of, statuses_at, scripted_signals, answers_under, bits, AreBits}
+use Rattle.stepping.specs.Played.{Played, state_of, text_of, scripted_signals, answers_under, bits, AreBits}
 use Rattle.stepping.specs.Digest.{digest_of}
 use Rattle.btworld_c.specs.Buffers.{IsFilled, IsShort}
 use Rattle.btworld_c.specs.declared.game.Agent.{Agent}
-
-abbrev pub text_of : Played → List ℕ
-text_of p = frame_text p.game p.frame
 
 -- the text of the held game's frame stands at the start of a buffer, which is kept behind it
 abbrev pub IsText : Option Played → ℕ → (old new : List ℕ) → Type 0
@@ -38,7 +33,7 @@ abbrev pub IsAgent : Option Played → ℕ → Agent → Type 0
 IsAgent None number told = ⊥
 IsAgent (Some p) number told =
     (number < length p.game.trees)
-    × (told ≡ agent_told (agent_of (play p.game p.frame).world number) (slice_index_or (statuses_at p.game p.frame) number Success))
+    × (told ≡ agent_told (agent_of p.position.world number) (slice_index_or p.answers number Success))
 
 -- there is no agent of this number
 abbrev pub IsBeyondAgents : Option Played → ℕ → Type 0
@@ -46,7 +41,7 @@ IsBeyondAgents None number = ⊥
 IsBeyondAgents (Some p) number = length p.game.trees ≤ number
 
 abbrev pub memory_of : Played → ℕ → List ℕ
-memory_of p agent = slice_index_or (play p.game p.frame).memories agent []
+memory_of p agent = slice_index_or p.position.memories agent []
 
 -- the memory of an agent of the held game stands at the start of a buffer, which is kept behind it
 abbrev pub IsMemory : Option Played → (agent size : ℕ) → (old new : List ℕ) → Type 0

@@ -9,6 +9,8 @@ use Rattle.level_text.specs.declared.script_file.ScriptFault.{ScriptFault}
 use Rattle.level_text.specs.declared.script_file.ScriptFault.TheVariants.{OutOfMemory, Line, Order}
 use Rattle.log_text.specs.declared.fault.LogFault.{LogFault}
 use Rattle.log_text.specs.declared.fault.LogFault.TheVariants as logs
+use Rattle.stepping.specs.declared.load_fault.LoadFault.{LoadFault}
+use Rattle.stepping.specs.declared.load_fault.LoadFault.TheVariants as loads
 
 -- ---- any call
 
@@ -138,3 +140,15 @@ stopped = 52
 -- it says why nothing was written
 abbrev pub IsRefusal : ℕ → Type 0
 IsRefusal status = (status ≢ done) × (status ≢ short) × (status ≢ incomplete)
+
+-- ---- states
+
+abbrev pub load_status : LoadFault → ℕ
+load_status loads.OutOfMemory = no_memory
+load_status loads.Text = 64
+load_status loads.Level = 65
+load_status loads.World = 66
+
+-- why a text is not loaded, but for want of memory
+abbrev pub IsStateFault : ℕ → Type 0
+IsStateFault status = (status ≡ 64) ⊎ ((status ≡ 65) ⊎ (status ≡ 66))

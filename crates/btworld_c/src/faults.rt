@@ -1,5 +1,5 @@
 // The line of a level's or a script's first fault.
-ghost use Rattle.std.specs.Prelude.{◌≡◌, ◌≢◌, ◌⊎◌, List, ℕ, IsOk, IfSome};
+ghost use Rattle.std.specs.Prelude.{◌≡◌, ◌≢◌, ◌⊎◌, List, ℕ, IsOk, IfSome, IfNone};
 ghost use Rattle.level_text.specs.Levels.{spelled};
 ghost use Rattle.level_text.specs.Scripts.{script_of};
 ghost use Rattle.words.specs.declared.program_fault.Fault.TheVariants.{OutOfMemory};
@@ -14,7 +14,8 @@ use words::Fault;
 
 // None where the bytes spell a level and a script.
 fn first_fault(alloc: Global, level: &[u8], script: &[u8]) -> Option<Fault>
-    ensures { IsOk (spelled level.now) → IsOk (script_of script.now) → IfSome result (λ fault. fault ≡ OutOfMemory) }
+    ensures fault { IsOk (spelled level.now) → IsOk (script_of script.now) → IfSome result (λ fault. fault ≡ OutOfMemory) }
+    ensures none { IfNone result (IsOk (spelled level.now) × IsOk (script_of script.now)) }
 {
     if let Err(fault) = read_level(alloc, level) {
         return Some(Fault::from(fault));
@@ -39,6 +40,7 @@ pub extern "C" fn btworld_fault_text(
     ensures ok { result ≡ done → (line : List ℕ) × IsFilled line size.new text.old text.new }
     ensures short { result ≡ short → (line : List ℕ) × IsShort line size.new text.old }
     ensures none { IsOk (spelled level.now) → IsOk (script_of script.now) → result ≢ no_memory → size.new ≡ 0 }
+    ensures faultless { result ≡ done → size.new ≡ 0 → IsOk (spelled level.now) × IsOk (script_of script.now) }
     ensures untouched { result ≢ done → text.new ≡ text.old }
     ensures size { result ≢ done → result ≢ short → size.new ≡ size.old }
     ensures status { (result ≡ done) ⊎ ((result ≡ short) ⊎ (result ≡ no_memory)) }
@@ -47,8 +49,9 @@ pub extern "C" fn btworld_fault_text(
         None => fill(b"", text, size),
         Some(Fault::OutOfMemory) => NO_MEMORY,
         Some(fault) => match format!(in alloc; "{fault}") {
-            Ok(line) => fill(line.as_bytes(), text, size),
-            Err(_) => NO_MEMORY,
+            Ok(line) if !line.is_empty() => fill(line.as_bytes(), text, size),
+            // No line of a fault is empty: that would tell of none.
+            _ => NO_MEMORY,
         },
     }
 }

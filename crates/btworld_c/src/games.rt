@@ -2,9 +2,9 @@
 ghost use Rattle.std.specs.Prelude.{◌≡◌, ◌≢◌, ◌⊎◌, ◌+◌, ◌^◌, Some, None, IfOk, IsSomeAnd, []};
 ghost use Rattle.game_session.specs.Levels.{value_of};
 ghost use Rattle.game_session.specs.Sessions.{game_of};
-ghost use Rattle.stepping.specs.Played.{played_of, bits, scripted_signals, IsOnBy, IsStepped};
+ghost use Rattle.stepping.specs.Played.{opened, bits, scripted_signals, IsRefused, IsStepped};
 ghost use Rattle.btworld_c.specs.Statuses.{done, closed, no_memory, taken, last_frame, IsStepStatus};
-ghost use Rattle.btworld_c.specs.Games.{IsOpened, IsOpenStatus, IsOpenedBeside, IsOpenBesideStatus, IsSteppedIn, IsSteppedByScript, IsNotStepped};
+ghost use Rattle.btworld_c.specs.Games.{IsOpened, IsOpenStatus, IsOpenedBeside, IsOpenBesideStatus, IsSteppedIn, IsSteppedByScript, IsNotStepped, IsNotSteppedByScript};
 
 use crate::game::{Game, put, read, take};
 use crate::status::{CLOSED, LAST_FRAME, NO_MEMORY, OK, OPEN, level_status, script_status};
@@ -14,7 +14,7 @@ use std::alloc::{AllocError, Global};
 use stepping::{Stepping, signals_of, step_by, step_by_script};
 
 fn opened(alloc: Global, level: Level, script: Script) -> Result<Box<Stepping>, AllocError>
-    ensures { IfOk result (λ b. b.value ≡ played_of (game_of (value_of level) []) 0 script) }
+    ensures { IfOk result (λ b. b.value ≡ opened (game_of (value_of level) []) script) }
 {
     let game = Stepping::open(alloc, level, script)?;
     Ok(Box::new(alloc, game)?)
@@ -80,7 +80,7 @@ pub extern "C" fn btworld_open_script(
 
 fn step_held(alloc: Global, held: &mut Stepping, mask: u32) -> u32
     ensures ok { result ≡ done → IsStepped (bits 26 mask) held.old held.new }
-    ensures refused { result ≢ done → IsOnBy 0 held.old held.new }
+    ensures refused { result ≢ done → IsRefused (bits 26 mask) held.old held.new }
     ensures held { result ≢ closed }
     ensures last { result ≡ last_frame → held.old.frame + 1 ≡ 2 ^ 32 }
     ensures status { IsStepStatus result }
@@ -100,7 +100,7 @@ fn step_held(alloc: Global, held: &mut Stepping, mask: u32) -> u32
 #[unsafe(no_mangle)]
 pub extern "C" fn btworld_step(alloc: Global, game: &mut Game, mask: u32) -> u32
     ensures ok { result ≡ done → IsSteppedIn mask game.old.handle.value game.new.handle.value }
-    ensures refused { result ≢ done → IsNotStepped game.old.handle.value game.new.handle.value }
+    ensures refused { result ≢ done → IsNotStepped mask game.old.handle.value game.new.handle.value }
     ensures closed { game.old.handle.value ≡ None → result ≡ closed }
     ensures held { result ≡ closed → game.old.handle.value ≡ None }
     ensures last { result ≡ last_frame → IsSomeAnd game.old.handle.value (λ p. p.frame + 1 ≡ 2 ^ 32) }
@@ -117,7 +117,7 @@ pub extern "C" fn btworld_step(alloc: Global, game: &mut Game, mask: u32) -> u32
 
 fn step_held_by_script(alloc: Global, held: &mut Stepping) -> u32
     ensures ok { result ≡ done → IsStepped (scripted_signals held.old) held.old held.new }
-    ensures refused { result ≢ done → IsOnBy 0 held.old held.new }
+    ensures refused { result ≢ done → IsRefused (scripted_signals held.old) held.old held.new }
     ensures held { result ≢ closed }
     ensures last { result ≡ last_frame → held.old.frame + 1 ≡ 2 ^ 32 }
     ensures status { IsStepStatus result }
@@ -137,7 +137,7 @@ fn step_held_by_script(alloc: Global, held: &mut Stepping) -> u32
 #[unsafe(no_mangle)]
 pub extern "C" fn btworld_step_script(alloc: Global, game: &mut Game) -> u32
     ensures ok { result ≡ done → IsSteppedByScript game.old.handle.value game.new.handle.value }
-    ensures refused { result ≢ done → IsNotStepped game.old.handle.value game.new.handle.value }
+    ensures refused { result ≢ done → IsNotSteppedByScript game.old.handle.value game.new.handle.value }
     ensures closed { game.old.handle.value ≡ None → result ≡ closed }
     ensures held { result ≡ closed → game.old.handle.value ≡ None }
     ensures last { result ≡ last_frame → IsSomeAnd game.old.handle.value (λ p. p.frame + 1 ≡ 2 ^ 32) }

@@ -3,13 +3,12 @@ ghost use Rattle.std.specs.Prelude.{◌≡◌, ◌≢◌};
 ghost use Rattle.btworld_c.specs.Statuses.{done, incomplete, illegal_event};
 ghost use Rattle.btworld_c.specs.Logs.{CountsAll, CountsFew, IsIllegalEvent, IsNotReplayed};
 
-use crate::logs::{NotShown, session_in, shown, whole_status};
+use crate::logs::{NotShown, counted, session_in, whole_status};
 use std::alloc::Global;
 
 /// The number of the frames that a log shows of the game that a level's and a script's bytes spell. 51 comes where they are
 /// fewer than the log is of, and they are counted. Any other status is that of the first fault of the level, the script or the
-/// log; with 50 comes the number of the event that isn't legal, counted from 0. It takes as long as to play the frames once,
-/// and keeps their text while it does.
+/// log; with 50 comes the number of the event that isn't legal, counted from 0. It takes as long as to play the frames once.
 #[unsafe(no_mangle)]
 pub extern "C" fn btworld_log_frames(
     alloc: Global,
@@ -30,10 +29,10 @@ pub extern "C" fn btworld_log_frames(
         Ok(session) => session,
         Err(status) => return status,
     };
-    match shown(alloc, &session, log) {
-        Ok((settings, shown)) => {
-            *frames = shown.count;
-            whole_status(settings, shown.count)
+    match counted(alloc, &session, log) {
+        Ok((settings, count)) => {
+            *frames = count;
+            whole_status(settings, count)
         }
         Err(
             NotShown {

@@ -1,7 +1,9 @@
 // What a caller reads of a game. No reading changes it.
-ghost use Rattle.std.specs.Prelude.{◌≡◌, ◌≢◌, ◌⊎◌, ◌<◌, Some, None, IfSome, IsSomeAnd, IfOk, OnOk, IfErr};
+ghost use Rattle.std.specs.Prelude.{◌≡◌, ◌≢◌, ◌⊎◌, ◌<◌, ◌≤◌, length, Some, None, IfSome, IsSomeAnd, IfOk, OnOk, IfErr};
 ghost use Rattle.btworld_c.specs.Statuses.{done, closed, no_memory, no_frame, short, beyond_agents, IsTextStatus, IsAgentStatus};
-ghost use Rattle.btworld_c.specs.Readings.{IsText, IsTooLong, IsAgent, IsBeyondAgents, IsFrame, IsDigest, TellsSame, agent_told, status_number, text_of};
+ghost use Rattle.btworld_c.specs.Maps.{world_of};
+ghost use Rattle.btworld_c.specs.Readings.{IsText, IsTooLong, IsAgent, IsBeyondAgents, IsFrame, IsDigest, TellsSame, agent_told, status_number};
+ghost use Rattle.stepping.specs.Played.{most_text, text_of};
 
 use crate::buffer::fill;
 use crate::game::{Agent, Game, put, read, take};
@@ -13,6 +15,7 @@ use stepping::{AgentState, Stepping};
 // The text of the frame, or why there is none.
 fn text_of(alloc: Global, held: &Stepping) -> Result<Vec<u8>, u32>
     ensures text { IfOk result (λ text. text.items ≡ text_of held.now) }
+    ensures length { IfOk result (λ text. length text.items ≤ most_text (world_of held.now)) }
     ensures framed { OnOk result (0 < held.now.frame) }
     ensures refused { IfErr result (λ status. ((status ≡ no_frame) × (held.now.frame ≡ 0)) ⊎ ((status ≡ no_memory) × (0 < held.now.frame))) }
 {
@@ -37,6 +40,7 @@ pub extern "C" fn btworld_text(
 ) -> u32
     ensures ok { result ≡ done → IsText game.old.handle.value size.new text.old text.new }
     ensures short { result ≡ short → IsTooLong game.old.handle.value size.new text.old }
+    ensures most { (result ≡ done) ⊎ (result ≡ short) → IfSome game.old.handle.value (λ p. size.new ≤ most_text (world_of p)) }
     ensures untouched { result ≢ done → text.new ≡ text.old }
     ensures size { result ≢ done → result ≢ short → size.new ≡ size.old }
     ensures closed { game.old.handle.value ≡ None → result ≡ closed }

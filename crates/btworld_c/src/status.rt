@@ -1,10 +1,11 @@
 // The statuses that calls answer, by their numbers in btworld.h.
-ghost use Rattle.std.specs.Prelude.{◌≡◌, ◌≢◌};
+ghost use Rattle.std.specs.Prelude.{◌≡◌, ◌≢◌, ◌⊎◌};
 ghost use Rattle.level_text.specs.Levels.{fault_view};
-ghost use Rattle.btworld_c.specs.Statuses.{fault_status, script_status, log_status, done, closed, illegal_event, IsRefusal};
+ghost use Rattle.btworld_c.specs.Statuses.{fault_status, script_status, log_status, load_status, done, closed, illegal_event, no_memory, IsRefusal, IsStateFault};
 
 use level_text::{LevelFault, ScriptFault};
 use replay_log::LogFault;
+use stepping::LoadFault;
 
 pub(crate) const OK: u32 = 0;
 
@@ -79,5 +80,18 @@ pub(crate) fn log_status(fault: LogFault) -> u32
         LogFault::OutOfMemory => NO_MEMORY,
         LogFault::Head => 48,
         LogFault::Line { n: _ } => 49,
+    }
+}
+
+// The number of a state's fault.
+pub(crate) fn load_status(fault: LoadFault) -> u32
+    ensures value { result ≡ load_status fault }
+    ensures fault { (result ≡ no_memory) ⊎ IsStateFault result }
+{
+    match fault {
+        LoadFault::OutOfMemory => NO_MEMORY,
+        LoadFault::Text => 64,
+        LoadFault::Level => 65,
+        LoadFault::World => 66,
     }
 }

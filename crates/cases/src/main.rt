@@ -29,12 +29,13 @@ use std::fs;
 use std::rt::Files;
 use std::sync::Wait;
 use std::thread::Threads;
+use std::time::Clock;
 use tallies::Tallies;
 use tally::Tally;
 use unrolling::unrolled;
 
 /// Plays all cases of a file, and counts them.
-fn play_file<H: Files + Alloc<A = Global> + Print + Threads + Wait + Sync>(
+fn play_file<H: Files + Alloc<A = Global> + Print + Threads + Wait + Clock + Sync>(
     rt: &H,
     program: Program,
     name: &str,

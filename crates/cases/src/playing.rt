@@ -13,6 +13,7 @@ use std::alloc::Global;
 use std::rt::Files;
 use std::sync::Wait;
 use std::thread::Threads;
+use std::time::Clock;
 use view_commands::view_command;
 
 /// Which program is given a case's words.
@@ -23,7 +24,7 @@ pub enum Program {
 }
 
 impl Program {
-    fn play<H: Files + Threads + Wait + Sync>(
+    fn play<H: Files + Threads + Wait + Clock + Sync>(
         self,
         rt: &H,
         alloc: Global,
@@ -39,7 +40,12 @@ impl Program {
     }
 
     /// Whether the words that come after a run write the frames that the case has to write.
-    fn repeats<H: Files + Threads + Wait + Sync>(self, rt: &H, alloc: Global, case: &Case) -> bool {
+    fn repeats<H: Files + Threads + Wait + Clock + Sync>(
+        self,
+        rt: &H,
+        alloc: Global,
+        case: &Case,
+    ) -> bool {
         let Some(words) = &case.then else {
             return true;
         };
@@ -54,7 +60,7 @@ impl Program {
         status == 0 && out.bytes.as_slice() == case.out.bytes.as_slice()
     }
 
-    fn play_run<H: Files + Alloc<A = Global> + Threads + Wait + Sync>(
+    fn play_run<H: Files + Alloc<A = Global> + Threads + Wait + Clock + Sync>(
         self,
         rt: &H,
         alloc: Global,
@@ -89,7 +95,7 @@ impl Program {
     }
 
     /// Plays each run of a case.
-    pub fn play_case<H: Files + Alloc<A = Global> + Print + Threads + Wait + Sync>(
+    pub fn play_case<H: Files + Alloc<A = Global> + Print + Threads + Wait + Clock + Sync>(
         self,
         rt: &H,
         alloc: Global,

@@ -1,19 +1,20 @@
 -- What the program has written for words that name files.
 use Rattle.std.proofs.Common.{◌≡◌, ℕ, List, [], Option, Some, None, inl, inr, refl, sym, subst, append-nil}
-use Rattle.std.specs.Prelude.{⊤, MatchOption, IsSomeAnd, Result, Ok, Err, OnOk, OnErr}
-use Rattle.std.specs.Io.KnownBytes.{Appends, Keeps}
+use Rattle.std.specs.Prelude.{⊤, MatchOption, IsSomeAnd, Result, Ok, Err, OnOk, OnErr, string_bytes}
+use Rattle.std.specs.Io.KnownBytes.{Keeps}
 use Rattle.byte_streams.specs.Streams.{AppendsPart}
 use Rattle.game_rules.specs.Game.{Game}
 use Rattle.game_rules.specs.Text.{texts}
 use Rattle.level_text.specs.Games.{spelled_game}
 use Rattle.words.specs.declared.request.Words.{Words}
-use Rattle.words.specs.declared.request.Words.TheVariants.{Piped, Play, Replay, Check, Explain, Digest, State, Complete}
-use Rattle.words.specs.Program.{IsReading, AsksToPlay, AsksToReplay, AsksToExplain, AsksToDigest, AsksForState, AsksToComplete}
-use Rattle.words.proofs.Asked.{read_as_play, read_as_replay, read_as_explain, read_as_digest, read_as_state, read_as_complete}
+use Rattle.words.specs.declared.request.Words.TheVariants.{Piped, Play, Replay, Check, Explain, Digest, State, Why, Complete}
+use Rattle.words.specs.Program.{IsReading, AsksToPlay, AsksToReplay, AsksToExplain, AsksToDigest, AsksForState, AsksWhy, AsksToComplete}
+use Rattle.words.proofs.Asked.{read_as_play, read_as_replay, read_as_explain, read_as_digest, read_as_state, read_as_why, read_as_complete}
 use Rattle.words.specs.declared.program_fault.Fault.{Fault}
 use Rattle.words.specs.Faults.{status_in}
 use Rattle.words.proofs.Statuses.{ok_at_zero}
 use Rattle.desync_commands.specs.Texts.{digests_text}
+use Rattle.desync_commands.specs.Why.{why_text, agent_of_letter}
 use Rattle.desync_commands.specs.Written.{WritesSome, WritesPart, CompletesSome, CompletesSomePart}
 use Rattle.desync_commands.proofs.Written.{some_part, writes_part, completes_part}
 use Rattle.stepping.specs.StateText.{scripted_state_text}
@@ -59,6 +60,7 @@ done_in_part old new (Check level) h = tt
 done_in_part old new (Explain level script log) h = tt
 done_in_part old new (Digest level frames script) h = writes_part (λ g. digests_text g frames) old new h
 done_in_part old new (State level frame script) h = writes_part (λ g. scripted_state_text g frame) old new h
+done_in_part old new (Why level frame agent script) h = writes_part (λ g. why_text g frame (agent_of_letter (string_bytes agent))) old new h
 done_in_part old new (Complete level log whole script) h = completes_part old new h
 
 -- done or not, it is a part
@@ -80,6 +82,7 @@ asks_no_reason (Check level) other = tt
 asks_no_reason (Explain level script log) other = other level script log refl
 asks_no_reason (Digest level frames script) other = tt
 asks_no_reason (State level frame script) other = tt
+asks_no_reason (Why level frame agent script) other = tt
 asks_no_reason (Complete level log whole script) other = tt
 
 -- ---- by the words
@@ -128,6 +131,16 @@ pub told_in_part : (old new : Option (List ℕ)) (words : List (List ℕ)) (w : 
     → WritesPart old new (λ g. scripted_state_text g n)
 told_in_part old new words w n reading asks done =
     read_as_state words w n (IsPartDone old new) (λ k. WritesPart old new (λ g. scripted_state_text g k)) reading asks (λ level frame script h. h) done
+
+pub why_told : (old new : Option (List ℕ)) (words : List (List ℕ)) (w : Words) (n : ℕ) (letter : List ℕ) → IsReading words w → AsksWhy words n letter → IsDone old new w
+    → WritesSome old new (λ g. why_text g n (agent_of_letter letter))
+why_told old new words w n letter reading asks done =
+    read_as_why words w n letter (IsDone old new) (λ k l. WritesSome old new (λ g. why_text g k (agent_of_letter l))) reading asks (λ level frame agent script h. h) done
+
+pub why_told_in_part : (old new : Option (List ℕ)) (words : List (List ℕ)) (w : Words) (n : ℕ) (letter : List ℕ) → IsReading words w → AsksWhy words n letter → IsPartDone old new w
+    → WritesPart old new (λ g. why_text g n (agent_of_letter letter))
+why_told_in_part old new words w n letter reading asks done =
+    read_as_why words w n letter (IsPartDone old new) (λ k l. WritesPart old new (λ g. why_text g k (agent_of_letter l))) reading asks (λ level frame agent script h. h) done
 
 pub completed : (old new : Option (List ℕ)) (words : List (List ℕ)) (w : Words) → IsReading words w → AsksToComplete words → IsDone old new w
     → CompletesSome old new

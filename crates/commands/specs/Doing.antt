@@ -1,5 +1,5 @@
 -- What is done for words that name files, of which no contract says what they hold.
-use Rattle.std.specs.Prelude.{ℕ, ◌⊎◌, List, Option, IsSomeAnd, codes}
+use Rattle.std.specs.Prelude.{ℕ, ◌⊎◌, List, Option, IsSomeAnd, codes, string_bytes}
 use Rattle.std.specs.Io.KnownBytes.{Appends, Keeps}
 use Rattle.byte_streams.specs.Streams.{AppendsPart}
 use Rattle.game_rules.specs.Text.{texts}
@@ -7,8 +7,9 @@ use Rattle.level_text.specs.Games.{spelled_game}
 use Rattle.words.specs.Program.{IsReading, IsNoHelp, IsAskedFor}
 use Rattle.words.specs.declared.fault.WordsFault.{WordsFault}
 use Rattle.words.specs.declared.request.Words.{Words}
-use Rattle.words.specs.declared.request.Words.TheVariants.{Piped, Play, Replay, Check, Explain, Digest, State, Complete}
+use Rattle.words.specs.declared.request.Words.TheVariants.{Piped, Play, Replay, Check, Explain, Digest, State, Why, Complete}
 use Rattle.desync_commands.specs.Texts.{digests_text}
+use Rattle.desync_commands.specs.Why.{why_text, agent_of_letter}
 use Rattle.desync_commands.specs.Written.{WritesSome, WritesPart, CompletesSome, CompletesSomePart}
 use Rattle.stepping.specs.StateText.{scripted_state_text}
 use Rattle.commands.specs.Explaining.{IsFaultless}
@@ -50,6 +51,7 @@ IsDone old new (Check level) = Unit {0}
 IsDone old new (Explain level script log) = ExplainsSome old new
 IsDone old new (Digest level frames script) = WritesSome old new (λ g. digests_text g frames)
 IsDone old new (State level frame script) = WritesSome old new (λ g. scripted_state_text g frame)
+IsDone old new (Why level frame agent script) = WritesSome old new (λ g. why_text g frame (agent_of_letter (string_bytes agent)))
 IsDone old new (Complete level log whole script) = CompletesSome old new
 
 -- words that don't ask for a reason
@@ -66,4 +68,5 @@ IsPartDone old new (Check level) = Unit {0}
 IsPartDone old new (Explain level script log) = Unit {0}
 IsPartDone old new (Digest level frames script) = WritesPart old new (λ g. digests_text g frames)
 IsPartDone old new (State level frame script) = WritesPart old new (λ g. scripted_state_text g frame)
+IsPartDone old new (Why level frame agent script) = WritesPart old new (λ g. why_text g frame (agent_of_letter (string_bytes agent)))
 IsPartDone old new (Complete level log whole script) = CompletesSomePart old new

@@ -15,12 +15,13 @@ use std::alloc::Global;
 use std::io::Write;
 use std::sync::Wait;
 use std::thread::Threads;
+use std::time::Clock;
 
 /// Writes the frames of the game that the level's and the script's bytes spell, and gives the events of the run.
 ///
 /// The level is read before the script, and a fault of either is answered before anything is written. After any
 /// other fault the writer has got a first part of the frames' text.
-pub fn play_bytes<H: Threads + Wait + Sync, W: Write>(
+pub fn play_bytes<H: Threads + Wait + Clock + Sync, W: Write>(
     rt: &H,
     alloc: Global,
     level: &[u8],

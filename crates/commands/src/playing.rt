@@ -18,10 +18,11 @@ use std::io::{Read, Write};
 use std::rt::Files;
 use std::sync::Wait;
 use std::thread::Threads;
+use std::time::Clock;
 use words::{Fault, read_file, read_optional_file, write_file};
 
 /// Plays three frames of the level that the input's bytes spell, with an empty script.
-pub fn play_input<H: Threads + Wait + Sync, R: Read, W: Write>(
+pub fn play_input<H: Threads + Wait + Clock + Sync, R: Read, W: Write>(
     rt: &H,
     alloc: Global,
     input: &mut R,
@@ -48,7 +49,7 @@ pub fn play_input<H: Threads + Wait + Sync, R: Read, W: Write>(
 
 /// Plays the level and the script that the words name; both files are read before either is parsed. The log is written once
 /// all frames are.
-pub fn play_files<H: Files + Threads + Wait + Sync, W: Write>(
+pub fn play_files<H: Files + Threads + Wait + Clock + Sync, W: Write>(
     rt: &H,
     alloc: Global,
     level: String,

@@ -1,29 +1,31 @@
 // What the program does with its words.
-ghost use Rattle.std.specs.Prelude.{◌≡◌, ◌≢◌, ℕ, [], None, map, string_bytes, IfSome, IsSomeAnd, MatchOption, OnOk, OnErr};
+ghost use Rattle.std.specs.Prelude.{◌≡◌, ◌≢◌, ℕ, List, [], None, map, string_bytes, IfSome, IsSomeAnd, MatchOption, OnOk, OnErr};
 ghost use Rattle.std.specs.Io.KnownBytes.{Appends, Keeps};
 ghost use Rattle.game_rules.specs.Text.{texts};
 ghost use Rattle.commands.specs.Doing.{PlaysSome, PlaysPart, ReplaysSome, ReplaysPart, ExplainsSome, AreRefused, AsksNoReason, IsDone, IsPartDone};
 ghost use Rattle.level_text.specs.Games.{spelled_game};
 ghost use Rattle.byte_streams.specs.Streams.{AppendsPart};
 ghost use Rattle.desync_commands.specs.Texts.{digests_text};
+ghost use Rattle.desync_commands.specs.Why.{why_text, agent_of_letter};
 ghost use Rattle.desync_commands.specs.Written.{WritesSome, WritesPart, CompletesSome, CompletesSomePart};
 ghost use Rattle.stepping.specs.StateText.{scripted_state_text};
-ghost use Rattle.words.specs.Program.{AsksToPlay, AsksToReplay, AsksToExplain, AsksToDigest, AsksForState, AsksToComplete};
+ghost use Rattle.words.specs.Program.{AsksToPlay, AsksToReplay, AsksToExplain, AsksToDigest, AsksForState, AsksWhy, AsksToComplete};
 
 use crate::checking::check_file;
 use crate::explaining::explain_files;
 use crate::playing::{play_files, play_input};
 use crate::replaying::replay_files;
-use desync_commands::{complete_files, digest_files, state_files};
+use desync_commands::{complete_files, digest_files, state_files, why_files};
 use std::alloc::Global;
 use std::io::{Read, Write};
 use std::rt::Files;
 use std::sync::Wait;
 use std::thread::Threads;
+use std::time::Clock;
 use words::{Fault, Words, end_with, read_words, refuse_words};
 
 /// Does what words ask for that name a level's file, but for a reason.
-fn act_on_files<H: Files + Threads + Wait + Sync, W: Write>(
+fn act_on_files<H: Files + Threads + Wait + Clock + Sync, W: Write>(
     rt: &H,
     alloc: Global,
     words: Words,
@@ -55,6 +57,12 @@ fn act_on_files<H: Files + Threads + Wait + Sync, W: Write>(
             frame,
             script,
         } => state_files(rt, alloc, level, frame, script, out),
+        Words::Why {
+            level,
+            frame,
+            agent,
+            script,
+        } => why_files(rt, alloc, level, frame, agent, script, out),
         Words::Complete {
             level,
             log,
@@ -66,7 +74,7 @@ fn act_on_files<H: Files + Threads + Wait + Sync, W: Write>(
 
 /// Does what words ask for that name a level's file, and gives the status with which the program ends.
 #[tactic(auto, using(crate::proofs::Doing::done_at_zero, crate::proofs::Doing::part_of, crate::proofs::Doing::asks_no_reason))]
-fn act<H: Files + Threads + Wait + Sync, W: Write, E: Write>(
+fn act<H: Files + Threads + Wait + Clock + Sync, W: Write, E: Write>(
     rt: &H,
     alloc: Global,
     words: Words,
@@ -93,7 +101,7 @@ fn act<H: Files + Threads + Wait + Sync, W: Write, E: Write>(
 ///
 /// No words: the level comes from `input`, and three of its frames are written to `out`. Of words that name files the
 /// clauses say that there are a level, a script and a log of which this is so; that they are what the files hold is tested.
-pub fn command<H: Files + Threads + Wait + Sync, R: Read, W: Write, E: Write>(
+pub fn command<H: Files + Threads + Wait + Clock + Sync, R: Read, W: Write, E: Write>(
     rt: &H,
     alloc: Global,
     words: &[String],
@@ -126,6 +134,10 @@ pub fn command<H: Files + Threads + Wait + Sync, R: Read, W: Write, E: Write>(
         → WritesSome (W.contents out.old) (W.contents out.new) (λ g. scripted_state_text g frame) }
     ensures state_part { (frame : ℕ) → AsksForState (map string_bytes words.now) frame
         → WritesPart (W.contents out.old) (W.contents out.new) (λ g. scripted_state_text g frame) }
+    ensures why { (frame : ℕ) (agent : List ℕ) → AsksWhy (map string_bytes words.now) frame agent → result ≡ 0
+        → WritesSome (W.contents out.old) (W.contents out.new) (λ g. why_text g frame (agent_of_letter agent)) }
+    ensures why_part { (frame : ℕ) (agent : List ℕ) → AsksWhy (map string_bytes words.now) frame agent
+        → WritesPart (W.contents out.old) (W.contents out.new) (λ g. why_text g frame (agent_of_letter agent)) }
     ensures completed { AsksToComplete (map string_bytes words.now) → result ≡ 0
         → CompletesSome (W.contents out.old) (W.contents out.new) }
     ensures completed_part { AsksToComplete (map string_bytes words.now)

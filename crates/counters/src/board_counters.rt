@@ -16,15 +16,10 @@ use std::marker::Model;
 
 /// The counters of a board, each at its number: it knows which of them stand, so no call looks whether its key is in
 /// use. Those that started last go first, so they are looked for from the back.
+#[derive(Drop)]
 pub struct BoardCounters {
     alloc: Global,
     all: Vec<BoardCounter>,
-}
-
-impl Drop for BoardCounters {
-    fn drop(self) {
-        let Self { alloc: _, all: _ } = self;
-    }
 }
 
 impl Model for BoardCounters {

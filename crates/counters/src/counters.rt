@@ -41,15 +41,10 @@ pub enum Waits {
 }
 
 /// The counters in use, each at its number.
+#[derive(Drop)]
 pub struct Counters {
     alloc: Global,
     all: Vec<Counter>,
-}
-
-impl Drop for Counters {
-    fn drop(self) {
-        let Self { alloc: _, all: _ } = self;
-    }
 }
 
 impl Model for Counters {

@@ -3,3 +3,5 @@ pub mod Stepped
 pub mod Compared
 pub mod Completed
 pub mod Lines
+pub mod NodeLines
+pub mod WhyTold

@@ -1,5 +1,5 @@
 -- One digest more.
-use Rattle.std.proofs.Common.{◌≡◌, ◌∙◌, ◌<◌, ◌≤◌, ◌+◌, ◌-◌, ◌++◌, ℕ, List, sym, ap, subst, arith, append-nil}
+use Rattle.std.proofs.Common.{◌≡◌, ◌∙◌, ◌<◌, ◌≤◌, ◌+◌, ◌-◌, ◌++◌, ℕ, List, ap, arith}
 use Rattle.std.specs.List.{flat_map}
 use Rattle.grid_world.specs.Map.{count_up}
 use Rattle.draw_list.proofs.Counting.{pieces_more, pieces_end}

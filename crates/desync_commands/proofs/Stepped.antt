@@ -1,5 +1,5 @@
 -- A game that is stepped by its script is where the script's game is.
-use Rattle.std.proofs.Common.{◌≡◌, ◌∙◌, ◌<◌, ◌+◌, ◌++◌, ℕ, suc, List, [], Bool, refl, sym, ap, subst, arith, codes}
+use Rattle.std.proofs.Common.{◌≡◌, ◌∙◌, ◌+◌, ◌++◌, ℕ, suc, List, [], Bool, refl, sym, ap, subst, arith, codes}
 use Rattle.std.specs.Prelude.{Ok, IsSomeAnd}
 use Rattle.grid_world.specs.Grid.{Grid}
 use Rattle.bt_nodes.specs.Plain.{Plain}
@@ -13,9 +13,9 @@ use Rattle.level_text.specs.Games.{spelled_game, of_both}
 use Rattle.level_text.specs.Levels.{spelled}
 use Rattle.level_text.specs.Scripts.{script_of}
 use Rattle.stepping.specs.LevelDigest.{level_digest_of, script_digest_of}
-use Rattle.stepping.specs.Played.{Played, State, played_of, state_of, statuses_at, next_signals, scripted_game, scripted_signals, IsStepped}
+use Rattle.stepping.specs.Played.{Played, State, opened, state_of, statuses_at, next_signals, scripted_game, scripted_signals, IsStepped}
 use Rattle.stepping.specs.StateText.{handed_in, state_head, signals_line, agent_lines, item_lines, state_text, scripted_state_text}
-use Rattle.stepping.proofs.Onward.{scripted_on, scripted_position, scripted_statuses}
+use Rattle.stepping.proofs.Onward.{played_further, scripted_on, scripted_position, scripted_statuses}
 use Rattle.desync_commands.specs.Opening.{IsSteppedTo}
 use Rattle.desync_commands.specs.Texts.{state_after}
 
@@ -24,17 +24,18 @@ pub spelled_and : (level script : List ℕ) (parts : Parts) (changes : List Chan
 spelled_and level script parts changes P e f p =
     subst (λ r. IsSomeAnd (of_both r (script_of script)) P) (sym e) (subst (λ r. IsSomeAnd (of_both (Ok parts) r) P) (sym f) p)
 
-pub begun : (parts : Parts) (changes : List Change) → IsSteppedTo (game_of parts changes) 0 (played_of (game_of parts []) 0 changes)
+pub begun : (parts : Parts) (changes : List Change) → IsSteppedTo (game_of parts changes) 0 (opened (game_of parts []) changes)
 begun parts changes = record {
   frame = refl;
   by = λ k some within. absurd (omega (arith, some, within));
+  played = record { position = refl; answers = refl };
   game = refl;
   shown = refl;
   next = refl;
 }
 
 module _ (level script : List ℕ) (parts : Parts) (changes : List Change) (e : spelled level ≡ Ok parts) (f : script_of script ≡ Ok changes) where
-  pub opened_game : (p : Played) → p ≡ played_of (game_of parts []) 0 changes → IsSomeAnd (spelled_game level script) (λ g. IsSteppedTo g 0 p)
+  pub opened_game : (p : Played) → p ≡ opened (game_of parts []) changes → IsSomeAnd (spelled_game level script) (λ g. IsSteppedTo g 0 p)
   opened_game p is = spelled_and level script parts changes (λ g. IsSteppedTo g 0 p) e f (subst (λ q. IsSteppedTo (game_of parts changes) 0 q) (sym is) (begun parts changes))
 
   pub opened_level : (digest : ℕ) → digest ≡ level_digest_of (game_of parts []) → IsSomeAnd (spelled_game level script) (λ g. digest ≡ level_digest_of g)
@@ -61,6 +62,7 @@ module _ (g : Game) (p : Played) where
       record {
         frame = step.on.frame;
         by = scripted_on p h.by q step;
+        played = played_further (scripted_signals p) p q h.played step;
         game =
             as_game q ∙ ap (λ w. game_as w q.game.trees q.script) step.on.world ∙ ap (λ ts. game_as p.game.world ts q.script) step.on.trees
             ∙ ap (λ cs. game_as p.game.world p.game.trees cs) step.on.script ∙ sym (as_game p) ∙ h.game;
@@ -68,8 +70,8 @@ module _ (g : Game) (p : Played) where
         next = step.stay ∙ same;
       }
 
-  position_is : (f : ℕ) → IsSteppedTo g f p → play p.game p.frame ≡ play g f
-  position_is f h = scripted_position p h.by ∙ ap (λ x. play x p.frame) h.game ∙ ap (play g) h.frame
+  pub position_is : (f : ℕ) → IsSteppedTo g f p → p.position ≡ play g f
+  position_is f h = h.played.position ∙ scripted_position p h.by ∙ ap (λ x. play x p.frame) h.game ∙ ap (play g) h.frame
 
   made : ℕ → List Plain → List Bool → Position → State
   made f trees on at = record { frame = f; world = at.world; trees = trees; memories = at.memories; signals = on }
@@ -77,9 +79,9 @@ module _ (g : Game) (p : Played) where
   pub state_is : (n : ℕ) → IsSteppedTo g (n + 1) p → state_of p ≡ state_after g (n + 1)
   unfolding made
   state_is n h =
-      ap (λ f. made f p.game.trees (next_signals p) (play p.game p.frame)) h.frame
-      ∙ ap (λ ts. made (n + 1) ts (next_signals p) (play p.game p.frame)) (ap (λ (x : Game). x.trees) h.game)
-      ∙ ap (λ on. made (n + 1) g.trees on (play p.game p.frame)) (h.next ∙ sym (handed_more g.changes n))
+      ap (λ f. made f p.game.trees (next_signals p) p.position) h.frame
+      ∙ ap (λ ts. made (n + 1) ts (next_signals p) p.position) (ap (λ (x : Game). x.trees) h.game)
+      ∙ ap (λ on. made (n + 1) g.trees on p.position) (h.next ∙ sym (handed_more g.changes n))
       ∙ ap (made (n + 1) g.trees (signals g.changes (n + 1))) (position_is (n + 1) h)
 
   text_of : ℕ → ℕ → List Bool → List Bool → Position → List Status → List ℕ
@@ -91,12 +93,12 @@ module _ (g : Game) (p : Played) where
   text_is f h =
       let digest : ℕ = level_digest_of p.game in
       let shown : List Bool = signals p.game.changes p.frame in
-      let at : Position = play p.game p.frame in
-      let sts : List Status = statuses_at p.game p.frame in
+      let at : Position = p.position in
+      let sts : List Status = p.answers in
       ap (λ (x : Game). text_of (level_digest_of x) p.frame shown (next_signals p) at sts) h.game
       ∙ ap (λ k. text_of (level_digest_of g) k shown (next_signals p) at sts) h.frame
       ∙ ap (λ on. text_of (level_digest_of g) f on (next_signals p) at sts) h.shown
       ∙ ap (λ on. text_of (level_digest_of g) f (handed_in g.changes f) on at sts) h.next
       ∙ ap (λ l. text_of (level_digest_of g) f (handed_in g.changes f) (handed_in g.changes f) l sts) (position_is f h)
       ∙ ap (text_of (level_digest_of g) f (handed_in g.changes f) (handed_in g.changes f) (play g f))
-      (scripted_statuses p h.by ∙ ap (λ x. statuses_at x p.frame) h.game ∙ ap (statuses_at g) h.frame)
+      (h.played.answers ∙ scripted_statuses p h.by ∙ ap (λ x. statuses_at x p.frame) h.game ∙ ap (statuses_at g) h.frame)

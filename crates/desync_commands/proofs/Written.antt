@@ -4,9 +4,7 @@ use Rattle.std.specs.Prelude.{MatchOption, IsSomeAnd, Result, Ok, Err, OnOk}
 use Rattle.std.specs.Io.KnownBytes.{Appends, Keeps}
 use Rattle.byte_streams.specs.Streams.{AppendsPart}
 use Rattle.game_rules.specs.Game.{Game}
-use Rattle.game_rules.specs.Text.{texts}
 use Rattle.level_text.specs.Games.{spelled_game}
-use Rattle.replay_log.specs.Completing.{IsGoneOn, whole_lines}
 use Rattle.desync_commands.specs.Completing.{Completes, CompletesPart}
 use Rattle.desync_commands.specs.Written.{WritesSome, WritesPart, CompletesSome, CompletesSomePart}
 

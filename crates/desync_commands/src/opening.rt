@@ -53,6 +53,7 @@ pub(crate) fn step(alloc: Global, game: &mut Stepping) -> Result<(), Fault>
     requires { game.old.frame + 1 < 2 ^ 32 }
     ensures ok { OnOk result ((g : Game) → IsSteppedTo g game.old.frame game.old → IsSteppedTo g (game.old.frame + 1) game.new) }
     ensures frame { OnOk result (game.new.frame ≡ game.old.frame + 1) }
+    ensures trees { OnOk result (game.new.game.trees ≡ game.old.game.trees) }
     ensures fault { IfErr result (λ fault. fault ≡ Fault.OutOfMemory) }
 {
     match step_by_script(game, alloc) {

@@ -11,22 +11,12 @@ use std::marker::Model;
 use std::sync::Arc;
 
 // The distances to a place on the ground of a game while the doors of these signals are open.
+#[derive(Drop)]
 struct Found {
     ground: Arc<World>,
     signals: Signals,
     place: Place,
     table: Distances,
-}
-
-impl Drop for Found {
-    fn drop(self) {
-        let Self {
-            ground: _,
-            signals: _,
-            place: _,
-            table: _,
-        } = self;
-    }
 }
 
 impl Model for Found {

@@ -17,20 +17,11 @@ const MOST: usize = 40;
 
 /// The distances that were found on the ground of a game: under the signals of now for a place once at most, and behind
 /// them those under the states before, the latest first.
+#[derive(Drop)]
 pub struct Known {
     ground: Arc<World>,
     signals: Signals,
     all: Arc<Vec<KeptDistances>>,
-}
-
-impl Drop for Known {
-    fn drop(self) {
-        let Self {
-            ground: _,
-            signals: _,
-            all: _,
-        } = self;
-    }
 }
 
 impl Model for Known {

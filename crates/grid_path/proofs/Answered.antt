@@ -19,21 +19,10 @@ use Rattle.grid_path.proofs.Numbered.{forth, back, reaches_of, walk_of}
 module _ (g : Grid) (on : List Bool) (a b : Point) where
   one_order : (d e : Dir) → order d ≡ order e → d ≡ e
   one_order North North h = refl
-  one_order North East h = absurd (omega (arith, h))
-  one_order North South h = absurd (omega (arith, h))
-  one_order North West h = absurd (omega (arith, h))
-  one_order East North h = absurd (omega (arith, h))
   one_order East East h = refl
-  one_order East South h = absurd (omega (arith, h))
-  one_order East West h = absurd (omega (arith, h))
-  one_order South North h = absurd (omega (arith, h))
-  one_order South East h = absurd (omega (arith, h))
   one_order South South h = refl
-  one_order South West h = absurd (omega (arith, h))
-  one_order West North h = absurd (omega (arith, h))
-  one_order West East h = absurd (omega (arith, h))
-  one_order West South h = absurd (omega (arith, h))
   one_order West West h = refl
+  one_order _ _ h = absurd (omega (arith, h))
 
   one_distance : (m n : ℕ) → HasDistance (is_open g on) a b m → HasDistance (is_open g on) a b n → m ≡ n
   one_distance m n far far' =

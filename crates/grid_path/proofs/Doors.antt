@@ -6,7 +6,7 @@ use Rattle.std.proofs.lemmas.List.{ext_get_or, get_or-map, length-map}
 use Rattle.std.proofs.lemmas.Nat.{div-add-mod', div-mul-add, mod-mul-add, mul-add-lt, mul-le}
 use Rattle.std.proofs.lemmas.Grind.{get_or_default_zero}
 use Rattle.grid_world.specs.declared.cell.Cell.{Cell}
-use Rattle.grid_world.specs.declared.cell.Cell.TheVariants.{Wall, Floor, Door, Spot}
+use Rattle.grid_world.specs.declared.cell.Cell.TheVariants.{Wall, Door}
 use Rattle.grid_world.specs.Grid.{Grid, Point, is_on_map, index_of, point_at, cell_at}
 use Rattle.grid_world.specs.Open.{is_open, is_passable}
 use Rattle.grid_world.specs.Ground.{is_door, no_signals, ListsDoors}
@@ -76,10 +76,8 @@ pub record HasOpened (g : Grid) (on : List Bool) (doors : List ℕ) (k : ℕ) (t
   pub each : (i : ℕ) → i < length t → IsRightOrLeft g on doors k t i
 
 passable_or_door : (on : List Bool) (cell : Cell) → (is_passable no_signals cell ≡ is_passable on cell) ⊎ (is_door cell ≡ true)
-passable_or_door on Wall = inl refl
-passable_or_door on Floor = inl refl
 passable_or_door on (Door a) = inr refl
-passable_or_door on (Spot p) = inl refl
+passable_or_door on _ = inl refl
 
 record IsDoorAt (g : Grid) (x y : ℕ) : Type 0 where
   p : Point

@@ -24,7 +24,7 @@ eqb-sym a b = elim (cases_eq a b) [
 same_point-sym : (p q : Point) → same_point p q ≡ same_point q p
 same_point-sym p q = rw (eqb-sym p.x q.x, eqb-sym p.y q.y) refl
 
-position-None : {X : Type 0} (p : X → Bool) (xs : List X) (k : ℕ) (d : X) → position p xs ≡ None
+pub position-None : {X : Type 0} (p : X → Bool) (xs : List X) (k : ℕ) (d : X) → position p xs ≡ None
     → k < length xs → p (get_or xs k d) ≡ false
 position-None p xs k d none within =
     let none_passes : length xs ≤ position_or_len p xs = grind (arith, common_steps) in

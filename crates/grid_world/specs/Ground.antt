@@ -1,5 +1,5 @@
 -- How a world is kept: its ground, which never changes, its items and its agents.
-use Rattle.std.specs.Prelude.{ℕ, ◌≡◌, ◌<◌, Bool, true, false, List, [], All, Contains, length, map, replicate, position, Option, None, slice_index_or}
+use Rattle.std.specs.Prelude.{ℕ, ◌≡◌, ◌≢◌, ◌<◌, Bool, true, false, List, [], All, Contains, length, map, replicate, position, Option, None, slice_index_or}
 use Rattle.grid_world.specs.declared.cell.Agent.{Agent}
 use Rattle.grid_world.specs.declared.cell.Cell.{Cell}
 use Rattle.grid_world.specs.declared.cell.Cell.TheVariants.{Wall, Floor, Door, Spot}
@@ -47,3 +47,7 @@ pub record IsGround (g : Grid) (floor : List Bool) (doors : List ℕ) (spots : L
 abbrev pub furnished : Grid → List Bool → List Agent → Grid
 furnished g items agents =
     record { width = g.width; height = g.height; cells = g.cells; items = items; agents = agents }
+
+-- no item, told for each cell, lies in a wall
+abbrev pub AreOffWalls : List Cell → List Bool → Type 0
+AreOffWalls cells items = (i : ℕ) → slice_index_or items i false ≡ true → slice_index_or cells i Wall ≢ Wall

@@ -21,6 +21,7 @@ use std::sync::Arc;
 
 mod changes;
 mod draw;
+mod furnish;
 mod same;
 
 pub use changes::resolve;

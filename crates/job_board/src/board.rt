@@ -136,10 +136,7 @@ impl<'t> Board<'t> {
         ensures refused { IfErr result (IsRefused self.old.run worker NoOther (Spread worker)) }
         ensures unchanged { OnErr result (self.new ≡ self.old) }
     {
-        match self.run.spread(worker) {
-            Ok(()) => {}
-            Err(fault) => return Err(fault),
-        }
+        self.run.spread(worker)?;
         self.works.clear(worker);
         Ok(())
     }
@@ -151,10 +148,7 @@ impl<'t> Board<'t> {
         ensures refused { IfErr result (IsRefused self.old.run worker NoOther (Hold worker)) }
         ensures unchanged { OnErr result (self.new ≡ self.old) }
     {
-        match self.run.hold(worker) {
-            Ok(()) => {}
-            Err(fault) => return Err(fault),
-        }
+        self.run.hold(worker)?;
         self.works.clear(worker);
         Ok(())
     }
@@ -169,10 +163,7 @@ impl<'t> Board<'t> {
         ensures back { IfErr result (λ r. r.value ≡ parked.entry) }
         ensures unchanged { OnErr result (self.new ≡ self.old) }
     {
-        match self.run.ask(worker, parked) {
-            Ok(()) => {}
-            Err(refused) => return Err(refused),
-        }
+        self.run.ask(worker, parked)?;
         self.works.clear(worker);
         Ok(())
     }
@@ -187,10 +178,7 @@ impl<'t> Board<'t> {
         ensures back { IfErr result (λ r. r.value ≡ parked.entry) }
         ensures unchanged { OnErr result (self.new ≡ self.old) }
     {
-        match self.run.ask_own(worker, parked) {
-            Ok(()) => {}
-            Err(refused) => return Err(refused),
-        }
+        self.run.ask_own(worker, parked)?;
         self.works.clear(worker);
         Ok(())
     }
@@ -204,10 +192,7 @@ impl<'t> Board<'t> {
         ensures back { IfErr result (λ r. r.value ≡ done.entry) }
         ensures unchanged { OnErr result (self.new ≡ self.old) }
     {
-        match self.run.finish(worker, done) {
-            Ok(()) => {}
-            Err(refused) => return Err(refused),
-        }
+        self.run.finish(worker, done)?;
         self.works.clear(worker);
         Ok(())
     }
@@ -221,10 +206,7 @@ impl<'t> Board<'t> {
         ensures back { IfErr result (λ r. r.value ≡ done.entry) }
         ensures unchanged { OnErr result (self.new ≡ self.old) }
     {
-        match self.run.finish_own(worker, done) {
-            Ok(()) => {}
-            Err(refused) => return Err(refused),
-        }
+        self.run.finish_own(worker, done)?;
         self.works.clear(worker);
         Ok(())
     }
@@ -244,10 +226,7 @@ impl<'t> Board<'t> {
         ensures back { IfErr result (λ r. r.value ≡ step.entry) }
         ensures unchanged { OnErr result (self.new ≡ self.old) }
     {
-        match self.run.hand_in(worker, step) {
-            Ok(()) => {}
-            Err(refused) => return Err(refused),
-        }
+        self.run.hand_in(worker, step)?;
         self.works.clear(worker);
         Ok(())
     }

@@ -13,22 +13,12 @@ use std::marker::Model;
 use task_board::Done;
 
 /// What the work of a job came to, kept for the job's next event. Of a Draw it is the mark of its band.
+#[derive(Drop)]
 pub(crate) struct Work<'t> {
     session: &'t Session,
     job: JobName,
     step: u32,
     result: BoardStep<'t>,
-}
-
-impl<'t> Drop for Work<'t> {
-    fn drop(self) {
-        let Self {
-            session: _,
-            job: _,
-            step: _,
-            result: _,
-        } = self;
-    }
 }
 
 impl<'t> Model for Work<'t> {

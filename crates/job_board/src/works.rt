@@ -5,14 +5,9 @@ use std::alloc::{AllocError, Global};
 use std::marker::Model;
 
 /// A place for each worker: the work of the job that it runs, where that is done.
+#[derive(Drop)]
 pub(crate) struct Works<'t> {
     places: Vec<Option<Work<'t>>>,
-}
-
-impl<'t> Drop for Works<'t> {
-    fn drop(self) {
-        let Self { places: _ } = self;
-    }
 }
 
 impl<'t> Model for Works<'t> {

@@ -16,33 +16,25 @@ use Rattle.job_core.proofs.Keeping.{own, held_none, held_own, held_moves, live, 
 -- ---- phases beside those of the jobs that made them
 
 think_made : (q : ℕ) (lp : Phase) → ThinkFits q lp Queued → (k : ℕ) × (lp ≡ Waits (suc k))
-think_made q Absent h = absurd cc
-think_made q Queued h = absurd cc
 think_made q (Runs w zero) h = absurd cc
 think_made q (Runs w (suc k)) h = absurd cc
-think_made q (Waits zero) h = absurd cc
 think_made q (Waits (suc k)) h = (k, refl)
-think_made q Finished h = absurd cc
+think_made q _ h = absurd cc
 
 logic_waits : (room f k : ℕ) → LogicFits room f (Waits (suc k)) → k ≡ 0
 logic_waits room f zero h = refl
 logic_waits room f (suc k) h = absurd h
 
 path_made : (i : ℕ) (tp : Phase) → PathFits i tp Queued → tp ≡ Waits (suc i)
-path_made i Absent h = absurd cc
-path_made i Queued h = absurd cc
 path_made i (Runs w k) h =
     absurd (⊎_elim (λ e. let q = h.1 (omega arith) in cc) (λ o. ⊎_elim (λ l. let q = h.0 l in cc) (λ l. let q = h.1 (omega arith) in cc) o) (cases_order i k))
 path_made i (Waits k) h =
     ⊎_elim (λ e. ap Waits (sym e)) (λ o. ⊎_elim (λ l. let q = h.0 l in absurd cc) (λ l. let q = h.2 (omega arith) in absurd cc) o) (cases_order (suc i) k)
-path_made i Finished h = absurd cc
+path_made i _ h = absurd cc
 
 draw_made : (lp : Phase) → DrawFits lp Queued → lp ≡ Finished
-draw_made Absent h = absurd cc
-draw_made Queued h = absurd cc
-draw_made (Runs w k) h = absurd cc
-draw_made (Waits k) h = absurd cc
 draw_made Finished h = refl
+draw_made _ h = absurd cc
 
 module _ (s : Setup) (st : State) (inv : Shape s st) where
   pub logic_after : (w f : ℕ) → 0 < f → May s st (Start w (Logic (suc f))) → st.phase (Logic f) ≡ Finished
@@ -103,15 +95,7 @@ module _ (s : Setup) (st : State) (inv : Shape s st) where
   kept_step z (Hold w (Logic g)) m l = let e = goes_on z (Hold w (Logic g)) m tt (ap held m.0) (ap held (put_here st.phase (Logic g) (Waits 0))) in omega arith
   kept_step z (Emit f) m l = l
   kept_step z Stop m l = l
-  kept_step z (Spread w (Think g a)) m l = absurd m
-  kept_step z (Spread w (Path g a i)) m l = absurd m
-  kept_step z (Spread w (Draw g b)) m l = absurd m
-  kept_step z (Hold w (Think g a)) m l = absurd m
-  kept_step z (Hold w (Path g a i)) m l = absurd m
-  kept_step z (Hold w (Draw g b)) m l = absurd m
-  kept_step z (Ask w (Logic g)) m l = absurd m
-  kept_step z (Ask w (Path g a i)) m l = absurd m
-  kept_step z (Ask w (Draw g b)) m l = absurd m
+  kept_step z _ m l = absurd m
 
 kept_list : (s : Setup) (z : Size) (es : List Event) (st : State) → Shape s st → live s st z ≤ pool s z → IsLegalFrom s st es → live s (after_all s st es) z ≤ pool s z
 kept_list s z [] st inv l h = l

@@ -15,10 +15,8 @@ use Rattle.job_core.specs.Draws.{ends_draw}
 
 -- of the jobs the Draws alone
 abbrev of_draws : JobName → ℕ → ℕ
-of_draws (Logic f) n = 0
-of_draws (Think f a) n = 0
-of_draws (Path f a i) n = 0
 of_draws (Draw f b) n = n
+of_draws _ n = 0
 
 -- the Draws that are ended
 abbrev drawn : Setup → State → ℕ

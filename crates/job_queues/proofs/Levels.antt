@@ -11,13 +11,6 @@ use Rattle.job_queues.specs.Names.{level}
 pub level_of : (p : Priority) (job : JobName) → rank p ≡ priority job → level p ≡ priority_of job
 level_of High (Logic f) e = refl
 level_of High (Path f a i) e = refl
-level_of High (Think f a) e = absurd (omega (arith, e))
-level_of High (Draw f b) e = absurd (omega (arith, e))
-level_of Normal (Logic f) e = absurd (omega (arith, e))
-level_of Normal (Path f a i) e = absurd (omega (arith, e))
 level_of Normal (Think f a) e = refl
-level_of Normal (Draw f b) e = absurd (omega (arith, e))
-level_of Low (Logic f) e = absurd (omega (arith, e))
-level_of Low (Path f a i) e = absurd (omega (arith, e))
-level_of Low (Think f a) e = absurd (omega (arith, e))
 level_of Low (Draw f b) e = refl
+level_of _ _ e = absurd (omega (arith, e))

@@ -1,24 +1,14 @@
 -- The queues after a job or a fiber was looked for in one priority after another.
-use Rattle.std.proofs.Common.{◌≡◌, ℕ, Bool, true, false, ◌==◌, refl, sym, ap, ◌∙◌}
+use Rattle.std.proofs.Common.{◌≡◌, ℕ, true, false, ◌==◌, refl, sym, ap, ◌∙◌}
 use Rattle.job_core.specs.declared.names.JobName.{JobName}
 use Rattle.job_core.specs.Core.{same}
-use Rattle.board_model.specs.Lists.{has, drop_first, all}
+use Rattle.board_model.specs.Lists.{has, all}
 use Rattle.job_queues.specs.declared.lane.Lane.{Lane}
+use Rattle.job_queues.specs.Taken.{IsJobTaken, IsFiberTaken}
 use Rattle.job_queues.specs.Waiting.{with_fresh, with_ready, without_job, without_fiber}
 use Rattle.job_queues.proofs.Places.{drop_first_none}
 use Rattle.job_queues.proofs.Threes.{taken_high, taken_normal, taken_low, absent_all}
 use Rattle.job_queues.proofs.AfterPick.{queues_of}
-
--- what the lane's calls of `take_out` and `take_ready` ensure
-pub record IsJobTaken (job : JobName) (old new : Lane) (answer : Bool) : Type 0 where
-  pub found : answer ≡ has (same job) old.fresh.items
-  pub fresh : new.fresh.items ≡ drop_first (same job) old.fresh.items
-  pub ready : new.ready ≡ old.ready
-
-pub record IsFiberTaken (fiber : ℕ) (old new : Lane) (answer : Bool) : Type 0 where
-  pub found : answer ≡ has (λ other. fiber == other) old.ready.items
-  pub ready : new.ready.items ≡ drop_first (λ other. fiber == other) old.ready.items
-  pub fresh : new.fresh ≡ old.fresh
 
 module _ (job : JobName) where
   same_fresh : (old new : Lane) → IsJobTaken job old new false → new.fresh.items ≡ old.fresh.items

@@ -3,5 +3,6 @@ pub mod Waiting
 pub mod Lines
 pub mod Places
 pub mod Lanes
+pub mod Taken
 pub mod Pool
 pub mod Picks

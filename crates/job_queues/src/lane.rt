@@ -1,6 +1,6 @@
 ghost use Rattle.std.specs.Prelude.{◌≡◌, ◌<◌, ◌≤◌, ◌+◌, ◌++◌, ◌∷◌, [], ◌==◌, true, false, length, position, option_map, IfOk, OnOk, OnErr, None};
 ghost use Rattle.job_core.specs.Core.{same};
-ghost use Rattle.board_model.specs.Lists.{has, drop_first};
+ghost use Rattle.board_model.specs.Lists.{has};
 ghost use Rattle.board_model.specs.Pick.{lane};
 ghost use Rattle.job_queues.specs.Names.{picked};
 ghost use Rattle.job_queues.specs.Places.{IsFirstPlace};
@@ -58,6 +58,8 @@ fn first_of_fiber(fibers: &[Fiber], fiber: Fiber) -> Option<usize>
 }
 
 impl Lane {
+    ghost use Rattle.job_queues.specs.Taken.{IsJobTaken, IsFiberTaken};
+
     pub(crate) fn new(alloc: Global, fibers: u32) -> Result<Lane, AllocError>
         ensures ready { IfOk result (λ l. l.ready.items ≡ []) }
         ensures fresh { IfOk result (λ l. l.fresh.items ≡ []) }
@@ -164,9 +166,7 @@ impl Lane {
     /// Takes the first entry of a new job out, and says whether there was one.
     #[inline(always)]
     pub(crate) fn take_out(&mut self, job: JobName) -> bool
-        ensures found { result ≡ has (same job) self.old.fresh.items }
-        ensures fresh { self.new.fresh.items ≡ drop_first (same job) self.old.fresh.items }
-        ensures ready { self.new.ready ≡ self.old.ready }
+        ensures { IsJobTaken job self.old self.new result }
     {
         // Mostly no job is there, or it is the first one.
         let Some(first) = self.fresh.first() else {
@@ -186,9 +186,7 @@ impl Lane {
     /// Takes the first entry of a ready fiber out, and says whether there was one.
     #[inline(always)]
     pub(crate) fn take_ready(&mut self, fiber: Fiber) -> bool
-        ensures found { result ≡ has (λ other. fiber == other) self.old.ready.items }
-        ensures ready { self.new.ready.items ≡ drop_first (λ other. fiber == other) self.old.ready.items }
-        ensures fresh { self.new.fresh ≡ self.old.fresh }
+        ensures taken { IsFiberTaken fiber self.old self.new result }
         ensures room { self.new.ready.room ≡ self.old.ready.room }
     {
         let Some(first) = self.ready.first() else {

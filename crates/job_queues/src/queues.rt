@@ -26,22 +26,12 @@ pub enum QueueFault {
 }
 
 /// For each priority the jobs that may start and the fibers that may go on, in the order in which they came.
+#[derive(Drop)]
 pub struct Queues {
     fibers: u32,
     low: Lane,
     normal: Lane,
     high: Lane,
-}
-
-impl Drop for Queues {
-    fn drop(self) {
-        let Self {
-            high: _,
-            normal: _,
-            low: _,
-            fibers: _,
-        } = self;
-    }
 }
 
 impl Model for Queues {

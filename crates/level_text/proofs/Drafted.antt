@@ -7,6 +7,12 @@ use Rattle.game_session.specs.Parts.{Parts, NamedPlain}
 use Rattle.game_session.specs.Faults.{row_fault, count_fault, agent_fault, place_fault, crew_fault, world_of, agent_count}
 
 module _ (parts : Parts) where
+  -- the map is read, and there are as many names as agents on it
+  pub record IsCounted (w : Grid) : Type 0 where
+    pub rows : row_fault parts.rows ≡ None
+    pub world : w ≡ world_of parts
+    pub count : count_fault parts ≡ None
+
   pub no_row_fault : (rows : List (List ℕ)) → rows ≡ parts.rows → row_fault rows ≡ None → row_fault parts.rows ≡ None
   no_row_fault rows same h = ap row_fault (sym same) ∙ h
 
@@ -23,6 +29,12 @@ module _ (parts : Parts) where
 
   pub is_count_fault : (length parts.names == length (world_of parts).agents) ≡ false → count_fault parts ≡ Some agent_count
   is_count_fault h = rw h refl
+
+  pub counted : (rows names : List (List ℕ)) (w : Grid) (b : Bool) → rows ≡ parts.rows → (row_fault rows ≡ None) × (w ≡ grid_of (map chars rows)) → names ≡ parts.names
+      → b ≡ (length names == length w.agents) → b ≡ true → IsCounted w
+  counted rows names w b same read named is all =
+      let world = world_is rows w same read.1 in
+      record { rows = no_row_fault rows same read.0; world = world; count = no_count_fault (count_is names w b named world is ∙ all) }
 
   pub agent_fault-same : (names : List (List ℕ)) (ts : List NamedPlain) → names ≡ parts.names → ts ≡ parts.trees → agent_fault 0 names ts ≡ agent_fault 0 parts.names parts.trees
   agent_fault-same names ts n t = ap (λ ns. agent_fault 0 ns ts) n ∙ ap (agent_fault 0 parts.names) t

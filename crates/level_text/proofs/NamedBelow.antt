@@ -3,47 +3,34 @@ use Rattle.std.proofs.Common.{◌≡◌, ℕ, Bool, true, false, ◌&&◌, ◌�
 use Rattle.std.specs.List.{list_all}
 use Rattle.bt_nodes.specs.Plain.{Plain, Not, Tries, Ticks, Move, Does}
 use Rattle.bt_nodes.specs.Heads.{listed, decorated}
-use Rattle.game_session.specs.Places.{places, places_in, leaf_places}
-use Rattle.game_session.specs.Agents.{agents, agents_in, leaf_agents}
-use Rattle.level_text.specs.Named.{own_places, own_agents}
+use Rattle.game_session.specs.Places.{leaf_places}
+use Rattle.game_session.specs.Agents.{leaf_agents}
+use Rattle.level_text.specs.declared.named.Named.{Named}
+use Rattle.level_text.specs.declared.named.Named.TheVariants.{Places, Agents}
+use Rattle.level_text.specs.Named.{own, named, named_in}
 
 and_true : (b : Bool) → b ≡ (b && true)
 and_true true = refl
 and_true false = refl
 
 module _ (f : ℕ → Bool) where
-  pub places-listed : (p : Plain) → None ≡ decorated p → list_all f (places p) ≡ (list_all f (own_places p) && list_all f (places_in (listed p)))
-  places-listed (Not c) e = absurd (cc)
-  places-listed (Tries n c) e = absurd (cc)
-  places-listed (Ticks n c) e = absurd (cc)
-  places-listed (Move p) e = and_true (list_all f (p ∷ []))
-  places-listed (Does leaf) e = and_true (list_all f (leaf_places leaf))
-  places-listed _ e = refl
+  pub named-listed : (what : Named) (p : Plain) → None ≡ decorated p → list_all f (named what p) ≡ (list_all f (own what p) && list_all f (named_in what (listed p)))
+  named-listed Places (Move p) e = and_true (list_all f (p ∷ []))
+  named-listed Places (Does leaf) e = and_true (list_all f (leaf_places leaf))
+  named-listed Agents (Does leaf) e = and_true (list_all f (leaf_agents leaf))
+  named-listed _ (Not c) e = absurd (cc)
+  named-listed _ (Tries n c) e = absurd (cc)
+  named-listed _ (Ticks n c) e = absurd (cc)
+  named-listed _ _ e = refl
 
-  pub places-decorated : (p c : Plain) → Some c ≡ decorated p → list_all f (places p) ≡ (list_all f (own_places p) && list_all f (places c))
-  places-decorated (Not d) c e = let s : d ≡ c = cc in ap (λ c. list_all f (places c)) s
-  places-decorated (Tries n d) c e = let s : d ≡ c = cc in ap (λ c. list_all f (places c)) s
-  places-decorated (Ticks n d) c e = let s : d ≡ c = cc in ap (λ c. list_all f (places c)) s
-  places-decorated _ c e = absurd (cc)
+  pub named-decorated : (what : Named) (p c : Plain) → Some c ≡ decorated p → list_all f (named what p) ≡ (list_all f (own what p) && list_all f (named what c))
+  named-decorated Places (Not d) c e = let s : d ≡ c = cc in ap (λ c. list_all f (named Places c)) s
+  named-decorated what (Not d) c e = let s : d ≡ c = cc in ap (λ c. list_all f (named what c)) s
+  named-decorated what (Tries n d) c e = let s : d ≡ c = cc in ap (λ c. list_all f (named what c)) s
+  named-decorated what (Ticks n d) c e = let s : d ≡ c = cc in ap (λ c. list_all f (named what c)) s
+  named-decorated _ _ c e = absurd (cc)
 
-  pub no-place : (p : Plain) → list_all f (own_places p) ≡ false → list_all f (places p) ≡ false
-  no-place (Move p) h = h
-  no-place (Does leaf) h = h
-  no-place _ h = absurd (cc)
-
-  pub agents-listed : (p : Plain) → None ≡ decorated p → list_all f (agents p) ≡ (list_all f (own_agents p) && list_all f (agents_in (listed p)))
-  agents-listed (Not c) e = absurd (cc)
-  agents-listed (Tries n c) e = absurd (cc)
-  agents-listed (Ticks n c) e = absurd (cc)
-  agents-listed (Does leaf) e = and_true (list_all f (leaf_agents leaf))
-  agents-listed _ e = refl
-
-  pub agents-decorated : (p c : Plain) → Some c ≡ decorated p → list_all f (agents p) ≡ (list_all f (own_agents p) && list_all f (agents c))
-  agents-decorated (Not d) c e = let s : d ≡ c = cc in ap (λ c. list_all f (agents c)) s
-  agents-decorated (Tries n d) c e = let s : d ≡ c = cc in ap (λ c. list_all f (agents c)) s
-  agents-decorated (Ticks n d) c e = let s : d ≡ c = cc in ap (λ c. list_all f (agents c)) s
-  agents-decorated _ c e = absurd (cc)
-
-  pub no-agent : (p : Plain) → list_all f (own_agents p) ≡ false → list_all f (agents p) ≡ false
-  no-agent (Does leaf) h = h
-  no-agent _ h = absurd (cc)
+  pub none-named : (what : Named) (p : Plain) → list_all f (own what p) ≡ false → list_all f (named what p) ≡ false
+  none-named Places (Move p) h = h
+  none-named _ (Does leaf) h = h
+  none-named _ _ h = absurd (cc)

@@ -12,14 +12,7 @@ use Rattle.level_text.proofs.ItemsBefore.{items_before-no_items, items_before-pu
 
 begins : (p : Plain) → form (head p) (own_before (own p) (below p)) ≡ node_data p
 begins (Composite kind children) = refl
-begins (Star kind children) = refl
-begins (Par m children) = refl
-begins (Not child) = refl
-begins (Tries n child) = refl
-begins (Ticks n child) = refl
-begins (Wait n) = refl
-begins (Move p) = refl
-begins (Does leaf) = refl
+begins _ = refl
 
 module _ (p : Plain) (first : Value) (seen : view first ≡ string (head p)) where
   pub begun_alone : None ≡ own p → array (item (view first) (below p)) ≡ node_data p
@@ -30,49 +23,32 @@ module _ (p : Plain) (first : Value) (seen : view first ≡ string (head p)) whe
 
 -- what lies below a node that decorates a child
 pub below_decorated : (p c : Plain) → Some c ≡ decorated p → item (node_data c) no_items ≡ below p
-below_decorated (Composite kind cs) c e = absurd (cc)
-below_decorated (Star kind cs) c e = absurd (cc)
-below_decorated (Par m cs) c e = absurd (cc)
 below_decorated (Not d) c e = let same : c ≡ d = cc in ap (λ c. item (node_data c) no_items) same
 below_decorated (Tries n d) c e = let same : c ≡ d = cc in ap (λ c. item (node_data c) no_items) same
 below_decorated (Ticks n d) c e = let same : c ≡ d = cc in ap (λ c. item (node_data c) no_items) same
-below_decorated (Wait n) c e = absurd (cc)
-below_decorated (Move place) c e = absurd (cc)
-below_decorated (Does leaf) c e = absurd (cc)
+below_decorated _ c e = absurd (cc)
 
 pub below_listed : (p : Plain) → None ≡ decorated p → forest_data (listed p) ≡ below p
-below_listed (Composite kind cs) e = refl
-below_listed (Star kind cs) e = refl
-below_listed (Par m cs) e = refl
 below_listed (Not d) e = absurd (cc)
 below_listed (Tries n d) e = absurd (cc)
 below_listed (Ticks n d) e = absurd (cc)
-below_listed (Wait n) e = refl
-below_listed (Move place) e = refl
-below_listed (Does leaf) e = refl
+below_listed _ e = refl
 
 -- marks of a node, from its own and those below
 pub marks_decorated : (p c : Plain) → Some c ≡ decorated p → has_marks c ≡ true → has_marks p ≡ true
-marks_decorated (Composite kind cs) c e h = absurd (cc)
-marks_decorated (Star kind cs) c e h = absurd (cc)
-marks_decorated (Par m cs) c e h = absurd (cc)
 marks_decorated (Not d) c e h = let same : d ≡ c = cc in ap has_marks same ∙ h
 marks_decorated (Tries n d) c e h = let same : d ≡ c = cc in ap has_marks same ∙ h
 marks_decorated (Ticks n d) c e h = let same : d ≡ c = cc in ap has_marks same ∙ h
-marks_decorated (Wait n) c e h = absurd (cc)
-marks_decorated (Move place) c e h = absurd (cc)
-marks_decorated (Does leaf) c e h = absurd (cc)
+marks_decorated _ c e h = absurd (cc)
 
 pub marks_listed : (p : Plain) → None ≡ decorated p → has_own_mark p ≡ true → all_have_marks (listed p) ≡ true → has_marks p ≡ true
 marks_listed (Composite kind cs) e own h = h
 marks_listed (Star kind cs) e own h = h
 marks_listed (Par m cs) e own h = h
-marks_listed (Not d) e own h = absurd (cc)
-marks_listed (Tries n d) e own h = absurd (cc)
-marks_listed (Ticks n d) e own h = absurd (cc)
 marks_listed (Wait n) e own h = own
 marks_listed (Move place) e own h = own
 marks_listed (Does leaf) e own h = own
+marks_listed _ e own h = absurd (cc)
 
 -- what was begun, with what lies below
 pub closed_decorated : (vs : List Value) (v : Value) (p c : Plain) → Some c ≡ decorated p → view v ≡ node_data c → items_view (vs ++ v ∷ []) ≡ items_before vs (below p)

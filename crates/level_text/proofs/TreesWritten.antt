@@ -1,7 +1,7 @@
 -- Writing the trees of a level into an object, one after another.
-use Rattle.std.proofs.Common.{◌≡◌, ℕ, zero, suc, ◌+◌, ◌<◌, ◌≤◌, List, [], ◌∷◌, ◌++◌, length, get_or, take, drop, Bool, true, ◌&&◌, Ordering, Less, Equal, Greater, refl, sym, ap, ◌∙◌, arith}
+use Rattle.std.proofs.Common.{◌≡◌, ℕ, ◌+◌, ◌<◌, ◌≤◌, List, [], ◌∷◌, ◌++◌, length, get_or, take, drop, Bool, true, ◌&&◌, Ordering, Less, Equal, Greater, refl, sym, ap, ◌∙◌}
 use Rattle.std.proofs.lemmas.Cmp.{nat_list_cmp_total}
-use Rattle.std.proofs.lemmas.List.{map-append, take_more}
+use Rattle.std.proofs.lemmas.List.{map-append, take_more, take_all, take-append-drop}
 use Rattle.std.specs.Cmp.Lexicographic.{slice_cmp}
 use Rattle.std.specs.List.{list_all}
 use Rattle.std.specs.Ordering.{nat_cmp, is_lt, ordering_reverse}
@@ -38,23 +38,11 @@ put-last (s ∷ done) t more h =
     let above : slice_cmp nat_cmp t.name s.name ≡ Greater = is_above s.name t.name (is_before-middle s.name done t more order.0) in
     rw above (ap (member s.name (node_data s.tree)) (put-last done t more order.1))
 
-take-drop : {A : Type 0} (xs : List A) (i : ℕ) → take i xs ++ drop i xs ≡ xs
-take-drop [] zero = refl
-take-drop [] (suc i) = refl
-take-drop (x ∷ xs) zero = refl
-take-drop (x ∷ xs) (suc i) = ap (λ ys. x ∷ ys) (take-drop xs i)
-
-take-all : {A : Type 0} (xs : List A) (i : ℕ) → length xs ≤ i → take i xs ≡ xs
-take-all [] zero h = refl
-take-all [] (suc i) h = refl
-take-all (x ∷ xs) zero h = absurd (omega arith)
-take-all (x ∷ xs) (suc i) h = ap (λ ys. x ∷ ys) (take-all xs i (omega arith))
-
 module _ (trees : List NamedTree) (i : ℕ) (t : NamedTree) (h : i < length trees) (read : t ≡ get_or trees i t) where
   split : trees_view (take i trees) ++ tree_view t ∷ trees_view (drop (i + 1) trees) ≡ trees_view trees
   split =
       sym (map-append tree_view (take i trees) (t ∷ drop (i + 1) trees)) ∙ ap (λ ts. trees_view (take i trees ++ ts)) (sym (drop-read trees i t h read))
-      ∙ ap trees_view (take-drop trees i)
+      ∙ ap trees_view (take-append-drop i trees)
 
   taken : trees_view (take (i + 1) trees) ≡ trees_view (take i trees) ++ tree_view t ∷ []
   taken =
@@ -72,4 +60,4 @@ module _ (trees : List NamedTree) (i : ℕ) (t : NamedTree) (h : i < length tree
       sym (ap (λ ts. list_all p (trees_view ts)) (drop-read trees i t h read) ∙ ap (λ b. b && list_all p (trees_view (drop (i + 1) trees))) here) ∙ rest
 
 pub put_all : (trees : List NamedTree) (i : ℕ) → length trees ≤ i → trees_data (trees_view (take i trees)) ≡ trees_data (trees_view trees)
-put_all trees i h = ap (λ ts. trees_data (trees_view ts)) (take-all trees i h)
+put_all trees i h = ap (λ ts. trees_data (trees_view ts)) (take_all i trees h)

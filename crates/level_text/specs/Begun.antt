@@ -21,15 +21,13 @@ head (Does leaf) = leaf_head leaf
 
 -- the argument that stands in the node itself
 abbrev pub own : Plain → Option Data
-own (Composite kind children) = None
-own (Star kind children) = None
 own (Par m children) = count m
-own (Not child) = None
 own (Tries n child) = count n
 own (Ticks n child) = count n
 own (Wait n) = count n
 own (Move p) = mark (48 + p)
 own (Does leaf) = leaf_own leaf
+own _ = None
 
 -- the arguments that are nodes
 abbrev pub below : Plain → Items
@@ -39,21 +37,13 @@ below (Par m children) = forest_data children
 below (Not child) = item (node_data child) no_items
 below (Tries n child) = item (node_data child) no_items
 below (Ticks n child) = item (node_data child) no_items
-below (Wait n) = no_items
-below (Move p) = no_items
-below (Does leaf) = no_items
+below _ = no_items
 
 -- the place that stands in the node itself is a digit, and the signal or the agent a letter
 abbrev pub has_own_mark : Plain → Bool
-has_own_mark (Composite kind children) = true
-has_own_mark (Star kind children) = true
-has_own_mark (Par m children) = true
-has_own_mark (Not child) = true
-has_own_mark (Tries n child) = true
-has_own_mark (Ticks n child) = true
-has_own_mark (Wait n) = true
 has_own_mark (Move p) = nat_lt p 10
 has_own_mark (Does leaf) = leaf_has_marks leaf
+has_own_mark _ = true
 
 -- values, before items that are left
 abbrev pub items_before : List Value → Items → Items

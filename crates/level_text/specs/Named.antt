@@ -1,8 +1,11 @@
--- The places and the agents that stand in a node itself.
-use Rattle.std.specs.Prelude.{ℕ, List, [], ◌∷◌}
-use Rattle.bt_nodes.specs.Plain.{Plain, Move, Does}
-use Rattle.game_session.specs.Places.{leaf_places}
-use Rattle.game_session.specs.Agents.{leaf_agents}
+-- The places and the agents that trees name, and those that stand in a node itself.
+use Rattle.std.specs.Prelude.{ℕ, Bool, List, [], ◌∷◌}
+use Rattle.grid_world.specs.Grid.{Grid}
+use Rattle.bt_nodes.specs.Plain.{Plain, Move, Does, Forest}
+use Rattle.game_session.specs.Places.{places, places_in, leaf_places, has_place}
+use Rattle.game_session.specs.Agents.{agents, agents_in, leaf_agents, has_agent}
+use Rattle.level_text.specs.declared.named.Named.{Named}
+use Rattle.level_text.specs.declared.named.Named.TheVariants.{Places, Agents}
 
 abbrev pub own_places : Plain → List ℕ
 own_places (Move p) = p ∷ []
@@ -12,3 +15,20 @@ own_places _ = []
 abbrev pub own_agents : Plain → List ℕ
 own_agents (Does leaf) = leaf_agents leaf
 own_agents _ = []
+
+abbrev pub own : Named → Plain → List ℕ
+own Places p = own_places p
+own Agents p = own_agents p
+
+abbrev pub named : Named → Plain → List ℕ
+named Places p = places p
+named Agents p = agents p
+
+abbrev pub named_in : Named → Forest → List ℕ
+named_in Places cs = places_in cs
+named_in Agents cs = agents_in cs
+
+-- whether it is on the map
+abbrev pub is_found : Named → Grid → ℕ → Bool
+is_found Places g = has_place g
+is_found Agents g = has_agent g

@@ -82,7 +82,7 @@ fn letter_of(arguments: &[Value]) -> Option<Letter>
 }
 
 /// The number, from 0, of a text's one character between two.
-fn mark_in(text: &str, low: u8, high: u8) -> Option<u32>
+pub fn mark_in(text: &str, low: u8, high: u8) -> Option<u32>
     ensures { result ≡ mark_of low high text.now }
 {
     match text.as_bytes() {

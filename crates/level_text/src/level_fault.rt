@@ -1,3 +1,6 @@
+ghost use Rattle.std.specs.Prelude.{◌≡◌};
+ghost use Rattle.level_text.specs.declared.level_fault.LevelFault.TheVariants.{OutOfMemory};
+
 use bt_nodes::TreeFault;
 use std::alloc::{AllocError, AllocFailed};
 
@@ -30,9 +33,6 @@ pub enum LevelFault {
 }
 
 impl From<AllocError> for LevelFault {
-    ghost use Rattle.std.specs.Prelude.{◌≡◌};
-    ghost use Rattle.level_text.specs.declared.level_fault.LevelFault.TheVariants.{OutOfMemory};
-
     ghost from_gives = { λ _ e. e ≡ OutOfMemory };
 
     fn from(_: AllocError) -> LevelFault {
@@ -41,9 +41,6 @@ impl From<AllocError> for LevelFault {
 }
 
 impl<T: Drop> From<AllocFailed<T>> for LevelFault {
-    ghost use Rattle.std.specs.Prelude.{◌≡◌};
-    ghost use Rattle.level_text.specs.declared.level_fault.LevelFault.TheVariants.{OutOfMemory};
-
     ghost from_gives = { λ _ e. e ≡ OutOfMemory };
 
     fn from(_: AllocFailed<T>) -> LevelFault {

@@ -12,11 +12,10 @@ ghost use Rattle.game_session.specs.Levels.{value_of};
 ghost use Rattle.level_text.specs.Levels.{of_parts, spelled, level_of as spelled_level, IsFaultOf, IsFirstOf};
 ghost use Rattle.game_session.specs.declared.named_tree.NamedTree.{NamedTree};
 
-use crate::crewed::is_crewed;
 use crate::draft::{Draft, NamedNode};
 use crate::level_fault::LevelFault;
+use crate::named::{Named, has_named};
 use crate::parts::parts_of;
-use crate::placed::is_placed;
 use bt_nodes::Tree;
 use game_session::{Level, NamedTree};
 use grid_world::{MapFault, World};
@@ -97,7 +96,7 @@ fn first_unplaced(trees: &[NamedTree], world: &World) -> Option<usize>
         → place_fault world.now (trees_view trees.now) ≡ Some (no_place (string_bytes (slice_index_or trees.now i t).name)))) }
 {
     'trees: for (i, named) in trees.iter().enumerate() {
-        if !is_placed(named.tree.root(), world) {
+        if !has_named(named.tree.root(), Named::Places, world) {
             return Some(i);
         }
     }
@@ -111,7 +110,7 @@ fn first_uncrewed(trees: &[NamedTree], world: &World) -> Option<usize>
         → crew_fault world.now (trees_view trees.now) ≡ Some (no_agent (string_bytes (slice_index_or trees.now i t).name)))) }
 {
     'trees: for (i, named) in trees.iter().enumerate() {
-        if !is_crewed(named.tree.root(), world) {
+        if !has_named(named.tree.root(), Named::Agents, world) {
             return Some(i);
         }
     }

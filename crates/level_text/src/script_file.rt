@@ -1,4 +1,5 @@
 ghost use Rattle.std.specs.Prelude.{◌≡◌, ◌==◌, ◌+◌, ◌<◌, [], ◌∷◌, ◌++◌, length, All, IfOk, IfErr, IfSome, IfNone, ◌⊎◌, Ok, Err, false};
+ghost use Rattle.level_text.specs.declared.script_file.ScriptFault.TheVariants.{OutOfMemory};
 ghost use Rattle.level_text.specs.Scripts.{lines_of, frame_of, switch_of, letter_of, change_of, script_of};
 
 use game_rules::Change;
@@ -17,9 +18,6 @@ pub enum ScriptFault {
 }
 
 impl From<AllocError> for ScriptFault {
-    ghost use Rattle.std.specs.Prelude.{◌≡◌};
-    ghost use Rattle.level_text.specs.declared.script_file.ScriptFault.TheVariants.{OutOfMemory};
-
     ghost from_gives = { λ _ fault. fault ≡ OutOfMemory };
 
     fn from(_: AllocError) -> Self {

@@ -55,7 +55,8 @@ fn begun(alloc: Global, node: &Node<Global>) -> Result<Vec<Value>, AllocError>
     Ok(values)
 }
 
-fn head_of(node: &Node<Global>) -> &'static str
+/// The word that names a node's kind.
+pub fn head_of(node: &Node<Global>) -> &'static str
     ensures { result.now ≡ head (plain node.now) }
 {
     match node {

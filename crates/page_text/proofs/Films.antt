@@ -1,5 +1,5 @@
 -- The film of a game: it grows frame by frame, and unrolls to the game's text.
-use Rattle.std.proofs.Common.{◌≡◌, ◌≢◌, ◌<◌, ◌≤◌, ◌+◌, ◌*◌, ◌∙◌, ◌⊎◌, ℕ, zero, suc, Bool, List, [], ◌∷◌, ◌++◌, length, inl, inr, refl, sym, ap, ap₂, subst, arith, append_assoc, append-nil}
+use Rattle.std.proofs.Common.{◌≡◌, ◌≢◌, ◌≤◌, ◌+◌, ◌*◌, ◌∙◌, ◌⊎◌, ℕ, zero, suc, List, [], ◌∷◌, ◌++◌, length, inl, inr, refl, sym, ap, ap₂, subst, arith, append_assoc, append-nil}
 use Rattle.std.specs.List.{All}
 use Rattle.std.proofs.Math.Nat.{mul-le-mul}
 use Rattle.std.proofs.lemmas.List.{length-append}
@@ -9,7 +9,7 @@ use Rattle.grid_world.specs.World.{IsSized}
 use Rattle.grid_world.proofs.Lined.{length-lines}
 use Rattle.game_rules.specs.Game.{Game}
 use Rattle.game_rules.specs.Text.{texts}
-use Rattle.page_text.specs.Films.{Frame, HasNoMark, IsFrameOf, IsWithoutMark, feeds_of, film_after, film_of, frames_in, kept_frame}
+use Rattle.page_text.specs.Films.{Frame, HasNoMark, IsFrameOf, IsWithoutMark, film_after, film_of, frames_in, kept_frame}
 use Rattle.page_text.proofs.Unrolled.{back, feeds_length}
 use Rattle.page_text.proofs.NoMark.{no_mark}
 use Rattle.page_text.specs.Frames.{IsPlayable, frame_at, frames_to, last_rows, rows_at, size_of, texts_from, told}

@@ -1,7 +1,7 @@
 -- The rows and the lines of a frame's text.
-use Rattle.std.proofs.Common.{◌≡◌, ◌<◌, ◌≤◌, ◌+◌, ◌*◌, ◌∙◌, ◌⊎◌, inl, inr, ℕ, zero, suc, List, [], ◌∷◌, ◌++◌, length, take, drop, refl, sym, ap, ap₂, arith, append_assoc, codes, decimal}
+use Rattle.std.proofs.Common.{◌≡◌, ◌<◌, ◌≤◌, ◌+◌, ◌*◌, ◌∙◌, ◌⊎◌, inl, inr, ℕ, zero, suc, List, [], ◌++◌, length, take, drop, sym, ap, ap₂, arith, append_assoc, codes, decimal}
 use Rattle.std.proofs.Math.Nat.{mul_comm}
-use Rattle.std.proofs.lemmas.List.{length-append}
+use Rattle.std.proofs.lemmas.List.{length-append, take_at, drop_at}
 use Rattle.grid_world.specs.Grid.{Grid}
 use Rattle.game_rules.specs.Game.{Game}
 use Rattle.game_rules.specs.Text.{frame_text}
@@ -9,14 +9,6 @@ use Rattle.frame_state.specs.Contents.{world_after}
 use Rattle.game_rules.proofs.Ground.{play_ground}
 use Rattle.page_text.specs.Frames.{lines_at, rows_at, size_of}
 use Rattle.page_text.proofs.Rows.{length-rows}
-
-take_front : (front rest : List ℕ) (n : ℕ) → n ≡ length front → take n (front ++ rest) ≡ front
-take_front [] rest n e = ap (λ k. take k rest) e
-take_front (c ∷ front) rest n e = ap (λ k. take k (c ∷ front ++ rest)) e ∙ ap (λ l. c ∷ l) (take_front front rest (length front) refl)
-
-drop_front : (front rest : List ℕ) (n : ℕ) → n ≡ length front → drop n (front ++ rest) ≡ rest
-drop_front [] rest n e = ap (λ k. drop k rest) e
-drop_front (c ∷ front) rest n e = ap (λ k. drop k (c ∷ front ++ rest)) e ∙ drop_front front rest (length front) refl
 
 abbrev head_line : ℕ → List ℕ
 head_line f = codes "frame " ++ decimal f ++ codes "\n"
@@ -41,13 +33,13 @@ module _ (g : Game) (f : ℕ) (later : 0 < f) (text : List ℕ) (is : text ≡ f
   whole = is ∙ in_parts g f later
 
   pub behind : drop head text ≡ rows_at g f ++ lines_at g f
-  behind = ap (drop head) whole ∙ drop_front (head_line f) (rows_at g f ++ lines_at g f) head (front ∙ sym (length_head f))
+  behind = ap (drop head) whole ∙ drop_at (head_line f) (rows_at g f ++ lines_at g f) head (sym (front ∙ sym (length_head f)))
 
   pub rows_are : take size (drop head text) ≡ rows_at g f
-  rows_are = ap (take size) behind ∙ take_front (rows_at g f) (lines_at g f) size (rows ∙ sym (length-rows g f))
+  rows_are = ap (take size) behind ∙ take_at (rows_at g f) (lines_at g f) size (sym (rows ∙ sym (length-rows g f)))
 
   pub lines_are : drop size (drop head text) ≡ lines_at g f
-  lines_are = ap (drop size) behind ∙ drop_front (rows_at g f) (lines_at g f) size (rows ∙ sym (length-rows g f))
+  lines_are = ap (drop size) behind ∙ drop_at (rows_at g f) (lines_at g f) size (sym (rows ∙ sym (length-rows g f)))
 
   pub inside : head + size ≤ length text
   inside =

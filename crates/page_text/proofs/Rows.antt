@@ -1,9 +1,9 @@
 -- The rows of frames: their bytes, and where their line feeds stand.
-use Rattle.std.proofs.Common.{◌≡◌, ◌≢◌, ◌<◌, ◌≤◌, ◌+◌, ◌*◌, ◌∙◌, ◌==◌, ℕ, zero, suc, Bool, true, false, if◌then◌else◌, List, [], ◌∷◌, ◌++◌, map, length, get_or, Option, Some, None, refl, sym, ap, ap₂, subst, arith, inl, inr, ⊎_elim}
-use Rattle.std.specs.List.{All, flat_map}
+use Rattle.std.proofs.Common.{◌≡◌, ◌≢◌, ◌+◌, ◌*◌, ◌∙◌, ◌==◌, ℕ, zero, suc, Bool, true, false, if◌then◌else◌, List, [], ◌∷◌, ◌++◌, map, length, Option, Some, None, refl, sym, ap, ap₂, subst, arith, ⊎_elim}
+use Rattle.std.specs.List.{All}
 use Rattle.std.proofs.lemmas.Bool.{ne_eqb, cases_lt}
 use Rattle.std.proofs.lemmas.List.{map-append, get_or_past}
-use Rattle.std.proofs.lemmas.List.Elements.{All-nil, All-cons, All-append, All-get_or, All-map}
+use Rattle.std.proofs.lemmas.List.Elements.{All-nil, All-cons, All-append, All-get_or}
 use Rattle.grid_world.specs.declared.cell.Cell.{Cell}
 use Rattle.grid_world.specs.declared.cell.Cell.TheVariants.{Wall, Floor, Door, Spot}
 use Rattle.grid_world.specs.Grid.{Grid, Point, agent_on, cell_at, has_item, index_of}
@@ -11,7 +11,7 @@ use Rattle.grid_world.specs.Glyphs.{base_glyph, content_glyph, glyph, glyph_of}
 use Rattle.grid_world.specs.Map.{count_up}
 use Rattle.grid_world.specs.Open.{is_on}
 use Rattle.grid_world.specs.Rows.{IsPlaced, line, lines}
-use Rattle.grid_world.specs.World.{IsSized, point, row_glyphs}
+use Rattle.grid_world.specs.World.{point, row_glyphs}
 use Rattle.grid_world.proofs.Lined.{length-lines, lines-next, lines-none}
 use Rattle.game_rules.specs.Game.{Game, signals}
 use Rattle.game_rules.specs.Play.{play}

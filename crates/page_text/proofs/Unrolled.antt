@@ -2,6 +2,7 @@
 use Rattle.std.proofs.Common.{◌≡◌, ◌≢◌, ◌<◌, ◌≤◌, ◌^◌, ◌+◌, ◌∙◌, ◌==◌, ℕ, suc, Bool, true, false, if◌then◌else◌, List, [], ◌∷◌, ◌++◌, length, take, drop, None, refl, sym, ap, subst, arith, append_assoc, eqb-true}
 use Rattle.std.specs.List.{All}
 use Rattle.std.proofs.lemmas.Bool.{true≢false, eq-eqb}
+use Rattle.std.proofs.lemmas.List.{take_at, drop_at}
 use Rattle.std.proofs.lemmas.List.Elements.{All-nil, All-cons}
 use Rattle.page_text.specs.declared.change.Change.{Change}
 use Rattle.page_text.specs.Changes.{changed, changes_from, changes_text}
@@ -77,14 +78,6 @@ after feeds agents (c ∷ old) (frame ∷ frames) some few before are =
 
 -- ---- all frames
 
-take_front : (front rest : List ℕ) (n : ℕ) → n ≡ length front → take n (front ++ rest) ≡ front
-take_front [] rest n e = ap (λ k. take k rest) e
-take_front (c ∷ front) rest n e = ap (λ k. take k (c ∷ front ++ rest)) e ∙ ap (λ l. c ∷ l) (take_front front rest (length front) refl)
-
-drop_front : (front rest : List ℕ) (n : ℕ) → n ≡ length front → drop n (front ++ rest) ≡ rest
-drop_front [] rest n e = ap (λ k. drop k rest) e
-drop_front (c ∷ front) rest n e = ap (λ k. drop k (c ∷ front ++ rest)) e ∙ drop_front front rest (length front) refl
-
 abbrev first_read : (agents n : ℕ) → List ℕ → List ℕ → List Frame
 first_read agents n rows text = lines_read agents n rows (lines_of agents text)
 
@@ -97,7 +90,7 @@ back feeds agents (frame ∷ frames) some few are =
     let rest = film_after frame.rows frames in
     let text = (frame.rows ++ frame.lines) ++ rest in
     let parts = append_assoc frame.rows frame.lines rest in
-    ap (λ rows. first_read agents (length frames) rows (drop (length feeds) text)) (ap (take (length feeds)) parts ∙ take_front frame.rows (frame.lines ++ rest) (length feeds) size)
-    ∙ ap (first_read agents (length frames) frame.rows) (ap (drop (length feeds)) parts ∙ drop_front frame.rows (frame.lines ++ rest) (length feeds) size)
+    ap (λ rows. first_read agents (length frames) rows (drop (length feeds) text)) (ap (take (length feeds)) parts ∙ take_at frame.rows (frame.lines ++ rest) (length feeds) (sym size))
+    ∙ ap (first_read agents (length frames) frame.rows) (ap (drop (length feeds)) parts ∙ drop_at frame.rows (frame.lines ++ rest) (length feeds) (sym size))
     ∙ ap (lines_read agents (length frames) frame.rows) (is.lines rest)
     ∙ ap (λ more. frame ∷ more) (after feeds agents frame.rows frames some few is.rows (λ k d l. are (suc k) d (omega (arith, l))))

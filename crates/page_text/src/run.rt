@@ -3,7 +3,7 @@ ghost use Rattle.std.specs.Prelude.{◌≡◌, ◌≤◌, ◌++◌, drop, length
 ghost use Rattle.page_text.specs.Pages.{counts_text, run_text};
 
 use crate::escaped::push_held;
-use crate::numbers::push_number;
+use byte_streams::push_number;
 use job_core::names::Event;
 use job_scheduler::Settings;
 use log_text::write_log;

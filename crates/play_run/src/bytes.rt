@@ -12,11 +12,12 @@ use std::alloc::Global;
 use std::io::Write;
 use std::sync::Wait;
 use std::thread::Threads;
+use std::time::Clock;
 use task_board::Settings;
 
 /// Plays the game that the level's and the script's bytes spell. The level is read before the script, and a fault of either
 /// is answered before anything is written.
-pub fn run_bytes<W: Write, G: Gate, R: Threads + Wait + Sync>(
+pub fn run_bytes<W: Write, G: Gate, R: Threads + Wait + Clock + Sync>(
     rt: &R,
     alloc: Global,
     level: &[u8],

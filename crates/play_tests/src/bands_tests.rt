@@ -5,9 +5,10 @@ use std::alloc::Global;
 use std::sync::Wait;
 use std::test::Fail;
 use std::thread::Threads;
+use std::time::Clock;
 use task_board::Settings;
 
-fn report_of<R: Threads + Wait + Sync>(
+fn report_of<R: Threads + Wait + Clock + Sync>(
     rt: &R,
     alloc: Global,
     level: &[u8],

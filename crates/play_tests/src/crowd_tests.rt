@@ -9,6 +9,7 @@ use std::io::Write;
 use std::sync::Wait;
 use std::test::Fail;
 use std::thread::Threads;
+use std::time::Clock;
 use task_board::{Event, JobName, Settings};
 
 // The bytes of each frame's text.
@@ -39,7 +40,7 @@ impl Write for Follower {
     }
 }
 
-fn played<R: Threads + Wait + Sync>(
+fn played<R: Threads + Wait + Clock + Sync>(
     rt: &R,
     alloc: Global,
     out: &mut Follower,

@@ -10,6 +10,7 @@ use std::sync::Wait;
 use std::sync::atomic::AtomicU64;
 use std::test::Fail;
 use std::thread::Threads;
+use std::time::Clock;
 use task_board::{JobName, Settings};
 
 // How often a held job looks for others that come.
@@ -84,7 +85,7 @@ impl Meeting {
 }
 
 // What a run of a level writes, where it comes to its end, and none where its gate closes at once.
-fn written<G: Gate, R: Threads + Wait + Sync>(
+fn written<G: Gate, R: Threads + Wait + Clock + Sync>(
     rt: &R,
     alloc: Global,
     level: &[u8],

@@ -4,6 +4,7 @@ use std::alloc::Global;
 use std::sync::Wait;
 use std::test::Fail;
 use std::thread::Threads;
+use std::time::Clock;
 use task_board::Settings;
 
 const FRAMES: u32 = 100;
@@ -27,7 +28,11 @@ fn long_ticks(alloc: Global) -> Result<String, Fail> {
 }
 
 // The steps of each of two workers.
-fn steps<R: Threads + Wait + Sync>(rt: &R, alloc: Global, level: &str) -> Result<[u64; 2], Fail> {
+fn steps<R: Threads + Wait + Clock + Sync>(
+    rt: &R,
+    alloc: Global,
+    level: &str,
+) -> Result<[u64; 2], Fail> {
     let settings = Settings::new(FRAMES, 2, 8, 8, 3)?;
     let mut out: Vec<u8> = Vec::new(alloc);
     let Ok(report) = run_bytes(

@@ -7,6 +7,7 @@ use std::io::Write;
 use std::sync::Wait;
 use std::test::Fail;
 use std::thread::Threads;
+use std::time::Clock;
 use task_board::Settings;
 
 /// Takes one byte a call, so many in all. A call too many fails, or takes none.
@@ -53,7 +54,7 @@ impl Write for Narrow {
 }
 
 // After how many frames a run of a walk fails to write.
-fn failed_after<R: Threads + Wait + Sync>(
+fn failed_after<R: Threads + Wait + Clock + Sync>(
     rt: &R,
     alloc: Global,
     workers: u32,

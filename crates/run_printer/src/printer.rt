@@ -11,11 +11,12 @@ use crate::inbox::Inbox;
 use byte_streams::write_whole;
 use draw_list::{Band, band_count, frame_text};
 use game_session::Session;
-use run_shared::{Cause, Rest, RunFault, RunLedger, Shared, ShownFrame};
+use run_shared::{Cause, Rest, RunFault, RunLedger, Shared, ShownFrame, Trials};
 use std::alloc::{AllocError, Global};
 use std::io::Write;
 use std::sync::Wait;
 use std::sync::ledger::{Ledger, Share};
+use std::time::Clock;
 use task_board::{BoardFault, Settings, Shown};
 
 // How many bands each frame has.
@@ -179,7 +180,7 @@ impl<'t, L: RunLedger> Printer<'t, L> {
 }
 
 /// Shows and writes all frames in order, and flushes. At a fault it stops the board.
-pub fn print<'t, W: Write, L: RunLedger, M: Ledger, D: Ledger, R: Wait>(
+pub fn print<'t, W: Write, L: RunLedger, M: Ledger, D: Ledger, R: Wait + Clock>(
     rt: &R,
     alloc: Global,
     session: &Session,
@@ -200,6 +201,7 @@ pub fn print<'t, W: Write, L: RunLedger, M: Ledger, D: Ledger, R: Wait>(
 {
     let last = settings.frames();
     let mut rest = Rest::new();
+    let mut trials = Trials::new();
     for done in 0..last {
         let text = match printer.next_text(rt, alloc, session, shared, done + 1, &mut rest, emits) {
             Ok(text) => text,
@@ -211,6 +213,7 @@ pub fn print<'t, W: Write, L: RunLedger, M: Ledger, D: Ledger, R: Wait>(
                 });
             }
         };
+        trials.count_frame(rt, &shared.waiting);
         match write_whole(out, &text) {
             Ok(()) => {}
             Err(_) => {

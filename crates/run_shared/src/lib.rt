@@ -2,7 +2,6 @@
 #![tactic(auto)]
 
 mod board;
-mod crowd;
 mod fault;
 mod given;
 mod handed_in;
@@ -16,11 +15,11 @@ mod run_band;
 mod run_task;
 mod shared;
 mod shown_frame;
+mod trials;
 mod waiting;
 mod worked;
 
 pub use board::{SharedBoard, draws_in};
-pub use crowd::Crowd;
 pub use fault::{Cause, RunFault};
 pub use given::Given;
 pub use handed_in::HandedIn;
@@ -33,5 +32,6 @@ pub use run_band::RunBand;
 pub use run_task::RunTask;
 pub use shared::Shared;
 pub use shown_frame::ShownFrame;
+pub use trials::Trials;
 pub use waiting::Waiting;
 pub use worked::Worked;

@@ -8,13 +8,13 @@ const TRIES: u32 = 64;
 // Behind how many tries it lets other threads run in between: the holder may have lost its processor to this one.
 const YIELDS: u32 = 32;
 
-/// Takes a lock that is held for less than a microsecond at a time, and says whether it was held. Whoever sleeps for a lock
-/// makes the holder wake it, which takes longer than many holds, so a thread tries for a while first.
-pub fn lock_soon<'m, T, R: Wait>(rt: &R, lock: &'m Mutex<T>) -> (MutexGuard<'m, T>, bool) {
+/// Takes a lock that is held for less than a microsecond at a time. Whoever sleeps for a lock makes the holder wake it, which takes
+/// longer than many holds, so a thread tries for a while first.
+pub fn lock_soon<'m, T, R: Wait>(rt: &R, lock: &'m Mutex<T>) -> MutexGuard<'m, T> {
     let backoff = Backoff::new();
     for number in 0..TRIES {
         if let Some(guard) = lock.try_lock() {
-            return (guard, number != 0);
+            return guard;
         }
         if number < YIELDS {
             backoff.spin();
@@ -22,5 +22,5 @@ pub fn lock_soon<'m, T, R: Wait>(rt: &R, lock: &'m Mutex<T>) -> (MutexGuard<'m, 
             thread::yield_now();
         }
     }
-    (lock.lock(rt), true)
+    lock.lock(rt)
 }

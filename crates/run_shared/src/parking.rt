@@ -87,17 +87,16 @@ impl Parking {
             }
             hint::spin_loop();
         }
-        self.asleep.fetch_add(1, Ordering::SeqCst);
-        self.call.park_timeout(rt, NONE as u32, rest.length());
-        self.asleep.fetch_sub(1, Ordering::SeqCst);
-        rest.learn(self.take_call());
+        let is_called = self.sleep(rt, rest.length());
+        rest.learn(is_called);
     }
 
-    /// Waits for a while, or until all are called for good.
-    pub fn rest<R: Wait>(&self, rt: &R, length: Duration) {
-        if !self.is_over() {
-            self.call.park_timeout(rt, NONE as u32, length);
-        }
+    /// Sleeps until the thread is called, or for a while. Whether it was called.
+    pub fn sleep<R: Wait>(&self, rt: &R, length: Duration) -> bool {
+        self.asleep.fetch_add(1, Ordering::SeqCst);
+        self.call.park_timeout(rt, NONE as u32, length);
+        self.asleep.fetch_sub(1, Ordering::SeqCst);
+        self.take_call()
     }
 
     /// Calls one thread. It wakes one where one sleeps, which is a call of the system, so it is made with no lock held.

@@ -2,7 +2,6 @@ ghost use Rattle.std.specs.Prelude.{◌≡◌, length, vec_len};
 ghost use Rattle.band_mail.specs.Mails.{ArePuttersOf, IsAllDelivered, put_by};
 
 use crate::board::SharedBoard;
-use crate::crowd::Crowd;
 use crate::hold::Hold;
 use crate::ledger::RunLedger;
 use crate::lock::lock_soon;
@@ -58,15 +57,7 @@ impl<'t, L: RunLedger, M: Ledger, D: Ledger> Shared<'t, L, M, D> {
 
     /// Takes the board's lock, for one event or one look.
     pub fn lock<R: Wait>(&self, rt: &R) -> Hold<'_, 't, L, M, D> {
-        let (board, _) = lock_soon(rt, &self.board);
-        Hold::new(board)
-    }
-
-    /// The same for a worker, which learns how crowded the lock is.
-    pub fn lock_in_turn<R: Wait>(&self, rt: &R, crowd: &mut Crowd) -> Hold<'_, 't, L, M, D> {
-        let (board, was_held) = lock_soon(rt, &self.board);
-        crowd.learn(was_held);
-        Hold::new(board)
+        Hold::new(lock_soon(rt, &self.board))
     }
 
     /// Stops the board, so that all threads end.

@@ -15,7 +15,7 @@ use band_mail::Putter;
 use frame_params::{BoardStep, Step, Task};
 use game_session::Session;
 use run_shared::{
-    Cause, Crowd, Given, HandedIn, Rest, RunBand, RunLedger, RunTask, Shared, Worked, draws_in,
+    Cause, Given, HandedIn, Rest, RunBand, RunLedger, RunTask, Shared, Worked, draws_in,
 };
 use std::alloc::Global;
 use std::hint;
@@ -47,56 +47,63 @@ struct Worker<'h, 't, L: RunLedger, M: Ledger, D: Ledger, G: Gate, R: Wait> {
 }
 
 impl<'h, 't, L: RunLedger, M: Ledger, D: Ledger, G: Gate, R: Wait> Worker<'h, 't, L, M, D, G, R> {
-    // Looks for a task once. Where there is one and another could be taken, calls a worker for that.
+    // Looks for a task once.
     #[inline(always)]
     fn look(&self, share: &mut Share<L>) -> Result<Given<'t, L>, Cause>
         requires part { 0 < share.old.parts }
         ensures part { share.new.parts ≡ share.old.parts }
     {
-        let hold = self.shared.lock(self.rt);
-        match hold.take(self.number, share) {
-            Ok(given) => {
-                if let Given::Task(_, true) = &given {
-                    self.shared.waiting.call_worker();
-                }
-                Ok(given)
-            }
+        match self.shared.lock(self.rt).take(self.number, share) {
+            Ok(given) => Ok(given),
             Err(fault) => Err(cause_of(fault)),
         }
     }
 
     // Waits until there is a task, or none any more. Whoever waits counts as idle before it looks, so that a call for what it
-    // doesn't see reaches it.
+    // doesn't see reaches it. Before that it rests, where enough others are awake.
     fn wait_for_task(&self, share: &mut Share<L>) -> Result<Given<'t, L>, Cause>
         requires part { 0 < share.old.parts }
         ensures part { share.new.parts ≡ share.old.parts }
     {
-        let idle = &self.shared.waiting.workers;
+        let waiting = &self.shared.waiting;
         let mut rest = Rest::new();
-        idle.enter();
         for _ in self.rt.forever() {
-            match self.look(share) {
-                Ok(Given::Nothing) => idle.wait(self.rt, &mut rest),
-                given => {
-                    idle.leave();
-                    return given;
-                }
+            waiting.rest(self.rt);
+            waiting.workers.enter();
+            let given = self.look(share);
+            if let Ok(Given::Nothing) = &given {
+                waiting.workers.wait(self.rt, &mut rest);
+            }
+            waiting.workers.leave();
+            match given {
+                Ok(Given::Nothing) => {}
+                given => return given,
             }
         }
         unreachable!()
     }
 
-    // The next task. None where the board is done or stopped.
+    // The next task. None where the board is done or stopped. Where another could be taken, calls a worker for that.
     fn next_task(&self, share: &mut Share<L>) -> Result<Option<RunTask<'t, L>>, Cause>
         requires part { 0 < share.old.parts }
         ensures part { share.new.parts ≡ share.old.parts }
     {
-        let given = match self.look(share) {
-            Ok(Given::Nothing) => self.wait_for_task(share),
-            given => given,
+        let waiting = &self.shared.waiting;
+        let given = if waiting.are_too_many() {
+            self.wait_for_task(share)
+        } else {
+            match self.look(share) {
+                Ok(Given::Nothing) => self.wait_for_task(share),
+                given => given,
+            }
         };
         match given {
-            Ok(Given::Task(task, _)) => Ok(Some(task)),
+            Ok(Given::Task(task, is_more)) => {
+                if is_more {
+                    waiting.call_worker();
+                }
+                Ok(Some(task))
+            }
             Ok(_) => Ok(None),
             Err(cause) => Err(cause),
         }
@@ -211,7 +218,6 @@ impl<'h, 't, L: RunLedger, M: Ledger, D: Ledger, G: Gate, R: Wait> Worker<'h, 't
     fn tell(
         &self,
         told: BoardStep<'t>,
-        crowd: &mut Crowd,
         share: &mut Share<L>,
         draws: &mut Share<D>,
     ) -> Result<(Delivered, Option<Spent<'t>>), Cause>
@@ -223,7 +229,7 @@ impl<'h, 't, L: RunLedger, M: Ledger, D: Ledger, G: Gate, R: Wait> Worker<'h, 't
         ensures drawn { OnOk result (draws.new.amount ≡ draws.old.amount + draws_ended told.entry) }
     {
         let ended = draws_in(&told);
-        let hold = self.shared.lock_in_turn(self.rt, crowd);
+        let hold = self.shared.lock(self.rt);
         match hold.hand_in(self.number, told, share, draws) {
             Ok(HandedIn { shows, spent }) => {
                 if shows {
@@ -247,7 +253,6 @@ impl<'h, 't, L: RunLedger, M: Ledger, D: Ledger, G: Gate, R: Wait> Worker<'h, 't
         &self,
         step: Step<'t>,
         putter: &mut Putter<RunBand<'t, L>>,
-        crowd: &mut Crowd,
         share: &mut Share<L>,
         draws: &mut Share<D>,
     ) -> Result<(Delivered, Option<Spent<'t>>), Cause>
@@ -265,7 +270,7 @@ impl<'h, 't, L: RunLedger, M: Ledger, D: Ledger, G: Gate, R: Wait> Worker<'h, 't
         let Some(told) = self.put_drawn(step, putter) else {
             return Ok((Delivered::Stopped, None));
         };
-        self.tell(told, crowd, share, draws)
+        self.tell(told, share, draws)
     }
 
     // Works on tasks until the board is done or stopped.
@@ -284,7 +289,6 @@ impl<'h, 't, L: RunLedger, M: Ledger, D: Ledger, G: Gate, R: Wait> Worker<'h, 't
         ensures part { (share.new.parts ≡ share.old.parts) × (draws.new.parts ≡ draws.old.parts) }
         ensures told { OnOk result (length putter.new.put ≤ draws.new.amount) }
     {
-        let mut crowd = Crowd::new();
         let mut next = self.next_task(share)?;
         for _ in self.rt.forever() {
             let Some(task) = next else {
@@ -292,12 +296,9 @@ impl<'h, 't, L: RunLedger, M: Ledger, D: Ledger, G: Gate, R: Wait> Worker<'h, 't
             };
             let step = self.work_of(scratch, &task.task)?;
             drop(task);
-            let (delivered, spent) = self.deliver(step, putter, &mut crowd, share, draws)?;
+            let (delivered, spent) = self.deliver(step, putter, share, draws)?;
             if delivered == Delivered::Stopped {
                 return Ok(());
-            }
-            if crowd.is_too_much() {
-                self.shared.waiting.rest(self.rt);
             }
             next = self.next_task(share)?;
             drop(spent);

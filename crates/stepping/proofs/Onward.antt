@@ -10,9 +10,9 @@ use Rattle.bt_nodes.specs.Bounds.{zero_memory}
 use Rattle.bt_nodes.specs.declared.node.Status.{Status}
 use Rattle.game_rules.specs.declared.change.Change.{Change}
 use Rattle.game_rules.specs.Game.{Game, signals, changed_by}
-use Rattle.game_rules.specs.Play.{Position, play, thoughts_from}
+use Rattle.game_rules.specs.Play.{Position, play, thoughts, thoughts_from, turn}
 use Rattle.game_rules.specs.Text.{text, texts, frame_text}
-use Rattle.stepping.specs.Played.{Played, played_of, statuses_at, changed_game, next_signals, IsOnBy, IsStepped, State, state_of, IsByScript, scripted_game, scripted_signals}
+use Rattle.stepping.specs.Played.{Played, statuses_at, changed_game, next_frame, next_signals, text_of, IsOnBy, IsPlayed, IsStepped, State, state_of, IsByScript, scripted_game, scripted_signals}
 
 -- ---- changes that come later
 
@@ -37,6 +37,10 @@ pub play_suc : (g : Game) (f : ℕ) → play g (suc f) ≡ turn_by g.trees (sign
 unfolding turn_by
 play_suc g f = refl
 
+turn_is : (g : Game) (f : ℕ) (at : Position) → turn g f at ≡ turn_by g.trees (signals g.changes f) at
+unfolding turn_by
+turn_is g f at = refl
+
 text_by : ℕ → List Plain → List Bool → Position → List ℕ
 text_by f trees on before = text f (turn_by trees on before).world on (map (λ t. t.status) (thoughts_from before.world on 0 trees before.memories))
 
@@ -50,6 +54,10 @@ statuses_by trees on before = map (λ t. t.status) (thoughts_from before.world o
 statuses_suc : (g : Game) (f : ℕ) → statuses_at g (suc f) ≡ statuses_by g.trees (signals g.changes (suc f)) (play g f)
 unfolding statuses_by
 statuses_suc g f = refl
+
+answers_are : (g : Game) (f : ℕ) (at : Position) → map (λ t. t.status) (thoughts g f at) ≡ statuses_by g.trees (signals g.changes f) at
+unfolding statuses_by
+answers_are g f at = refl
 
 begun : Grid → List Plain → Position
 begun w trees = record { world = w; memories = map zero_memory trees }
@@ -108,9 +116,10 @@ stays_on p = record {
   added = [];
   changes = sym (append-nil p.game.changes);
   now = λ k d l. absurd (omega (arith, l));
+  still = λ _. (refl, refl);
 }
 
-pub handed_on : (p : Played) (c : Change) → c.frame ≡ p.frame + 1 → IsOnBy 0 p (played_of (changed_game p.game c) p.frame p.script)
+pub handed_on : (p : Played) (c : Change) → c.frame ≡ p.frame + 1 → IsOnBy 0 p (record p { game = changed_game p.game c })
 handed_on p c e = record {
   world = refl;
   trees = refl;
@@ -119,6 +128,7 @@ handed_on p c e = record {
   added = c ∷ [];
   changes = refl;
   now = one;
+  still = λ _. (refl, refl);
 }
   where
     one : All (λ (d : Change). d.frame ≡ p.frame + 1) (c ∷ [])
@@ -137,9 +147,10 @@ on_again p q r n a b =
       added = a.added ++ b.added;
       changes = b.changes ∙ ap (λ l. l ++ b.added) a.changes ∙ append_assoc p.game.changes a.added b.added;
       now = All-append (λ (c : Change). c.frame ≡ p.frame + 1) a.added b.added a.now later;
+      still = λ none. ((b.still none).0 ∙ (a.still refl).0, (b.still none).1 ∙ (a.still refl).1);
     }
 
-pub one_on : (p : Played) → IsOnBy 1 p (played_of p.game (p.frame + 1) p.script)
+one_on : (p : Played) → IsOnBy 1 p (next_frame p)
 one_on p = record {
   world = refl;
   trees = refl;
@@ -148,7 +159,17 @@ one_on p = record {
   added = [];
   changes = sym (append-nil p.game.changes);
   now = λ k d l. absurd (omega (arith, l));
+  still = λ e. absurd (omega (arith, e));
 }
+
+pub one_stepped : (on : List Bool) (p q r : Played) → IsOnBy 0 p q → next_signals q ≡ on → r ≡ next_frame q → next_signals r ≡ next_signals q → IsStepped on p r
+one_stepped on p q r a are is stay = subst (IsStepped on p) (sym is) (record {
+  on = on_again p q (next_frame q) 1 a (one_on q);
+  signals_are = are;
+  stay = ap (λ (x : Played). next_signals x) (sym is) ∙ stay ∙ are;
+  position = ap (turn q.game (q.frame + 1)) (a.still refl).0;
+  answers = ap (λ (at : Position). map (λ t. t.status) (thoughts q.game (q.frame + 1) at)) (a.still refl).0;
+})
 
 -- ---- states
 
@@ -156,14 +177,14 @@ abbrev pub state_as : ℕ → List Plain → List Bool → Position → State
 state_as f trees on at = record { frame = f; world = at.world; trees = trees; memories = at.memories; signals = on }
 
 module _ (p q : Played) where
-  pub all_same : p.frame ≡ q.frame → next_signals p ≡ next_signals q → (play p.game p.frame).world ≡ (play q.game q.frame).world → p.game.trees ≡ q.game.trees
-      → (play p.game p.frame).memories ≡ (play q.game q.frame).memories → state_of p ≡ state_of q
+  pub all_same : p.frame ≡ q.frame → next_signals p ≡ next_signals q → p.position.world ≡ q.position.world → p.game.trees ≡ q.game.trees
+      → p.position.memories ≡ q.position.memories → state_of p ≡ state_of q
   all_same f on w ts ms =
-      ap (λ n. state_as n p.game.trees (next_signals p) (play p.game p.frame)) f
-      ∙ ap (λ l. state_as q.frame l (next_signals p) (play p.game p.frame)) ts
-      ∙ ap (λ l. state_as q.frame q.game.trees l (play p.game p.frame)) on
-      ∙ ap (λ g. state_as q.frame q.game.trees (next_signals q) (record { world = g; memories = (play p.game p.frame).memories })) w
-      ∙ ap (λ m. state_as q.frame q.game.trees (next_signals q) (record { world = (play q.game q.frame).world; memories = m })) ms
+      ap (λ n. state_as n p.game.trees (next_signals p) p.position) f
+      ∙ ap (λ l. state_as q.frame l (next_signals p) p.position) ts
+      ∙ ap (λ l. state_as q.frame q.game.trees l p.position) on
+      ∙ ap (λ g. state_as q.frame q.game.trees (next_signals q) (record { world = g; memories = p.position.memories })) w
+      ∙ ap (λ m. state_as q.frame q.game.trees (next_signals q) (record { world = q.position.world; memories = m })) ms
 
   pub same_frame : state_of p ≡ state_of q → p.frame ≡ q.frame
   same_frame e = ap (λ (s : State). s.frame) e
@@ -171,16 +192,25 @@ module _ (p q : Played) where
   pub same_signals : state_of p ≡ state_of q → next_signals p ≡ next_signals q
   same_signals e = ap (λ (s : State). s.signals) e
 
-  pub same_world : state_of p ≡ state_of q → (play p.game p.frame).world ≡ (play q.game q.frame).world
+  pub same_world : state_of p ≡ state_of q → p.position.world ≡ q.position.world
   same_world e = ap (λ (s : State). s.world) e
 
   pub same_trees : state_of p ≡ state_of q → p.game.trees ≡ q.game.trees
   same_trees e = ap (λ (s : State). s.trees) e
 
-  pub same_memories : state_of p ≡ state_of q → (play p.game p.frame).memories ≡ (play q.game q.frame).memories
+  pub same_memories : state_of p ≡ state_of q → p.position.memories ≡ q.position.memories
   same_memories e = ap (λ (s : State). s.memories) e
 
 -- ---- steps
+
+-- what is handed in for a frame changes nothing before it
+same_before : (n : ℕ) (p q : Played) → IsOnBy n p q → IsSameBy p.game q.game p.frame
+same_before n p q on = record {
+  world = on.world;
+  trees = on.trees;
+  signals_are = λ k l. ap (λ cs. signals cs (suc k)) on.changes
+      ∙ none_more p.game.changes on.added (suc k) (replicate 26 false) (λ i d h. let e = on.now i d h in omega (arith, e, l));
+}
 
 abbrev position_of : State → Position
 position_of s = record { world = s.world; memories = s.memories }
@@ -196,38 +226,35 @@ module _ (signals_now : List Bool) (p q : Played) (step : IsStepped signals_now 
   number = let e = step.on.frame in omega (arith, e)
 
   before : IsSameBy p.game q.game p.frame
-  before = record {
-    world = step.on.world;
-    trees = step.on.trees;
-    signals_are = λ k l. ap (λ cs. signals cs (suc k)) step.on.changes
-        ∙ none_more p.game.changes step.on.added (suc k) (replicate 26 false) (λ i d h. let e = step.on.now i d h in omega (arith, e, l));
-  }
+  before = same_before 1 p q step.on
 
-  signals_then : signals q.game.changes (suc p.frame) ≡ signals_now
-  signals_then = ap (signals q.game.changes) (sym number) ∙ step.signals_are
-
-  played_on : play q.game q.frame ≡ turn_by p.game.trees signals_now (play p.game p.frame)
+  played_on : q.position ≡ turn_by p.game.trees signals_now p.position
   played_on =
-      ap (play q.game) number ∙ play_suc q.game p.frame
-      ∙ ap (λ ts. turn_by ts (signals q.game.changes (suc p.frame)) (play q.game p.frame)) step.on.trees
-      ∙ ap (λ on. turn_by p.game.trees on (play q.game p.frame)) signals_then
-      ∙ ap (turn_by p.game.trees signals_now) (play_by p.game q.game p.frame before p.frame (omega arith))
+      step.position ∙ turn_is q.game q.frame p.position
+      ∙ ap (λ ts. turn_by ts (signals q.game.changes q.frame) p.position) step.on.trees
+      ∙ ap (λ on. turn_by p.game.trees on p.position) step.signals_are
+
+  answered_on : q.answers ≡ statuses_by p.game.trees signals_now p.position
+  answered_on =
+      step.answers ∙ answers_are q.game q.frame p.position
+      ∙ ap (λ ts. statuses_by ts (signals q.game.changes q.frame) p.position) step.on.trees
+      ∙ ap (λ on. statuses_by p.game.trees on p.position) step.signals_are
 
   stepped_state : state_of q ≡ next_state signals_now (state_of p)
   unfolding next_state
   stepped_state =
-      ap (λ f. state_as f q.game.trees (next_signals q) (play q.game q.frame)) number
-      ∙ ap (λ ts. state_as (suc p.frame) ts (next_signals q) (play q.game q.frame)) step.on.trees
-      ∙ ap (λ on. state_as (suc p.frame) p.game.trees on (play q.game q.frame)) step.stay
+      ap (λ f. state_as f q.game.trees (next_signals q) q.position) number
+      ∙ ap (λ ts. state_as (suc p.frame) ts (next_signals q) q.position) step.on.trees
+      ∙ ap (λ on. state_as (suc p.frame) p.game.trees on q.position) step.stay
       ∙ ap (state_as (suc p.frame) p.game.trees signals_now) played_on
 
-  stepped_text : frame_text q.game q.frame ≡ next_text signals_now (state_of p)
-  unfolding next_text
+  stepped_text : text_of q ≡ next_text signals_now (state_of p)
+  unfolding next_text text_by statuses_by
   stepped_text =
-      ap (frame_text q.game) number ∙ text_suc q.game p.frame
-      ∙ ap (λ ts. text_by (suc p.frame) ts (signals q.game.changes (suc p.frame)) (play q.game p.frame)) step.on.trees
-      ∙ ap (λ on. text_by (suc p.frame) p.game.trees on (play q.game p.frame)) signals_then
-      ∙ ap (text_by (suc p.frame) p.game.trees signals_now) (play_by p.game q.game p.frame before p.frame (omega arith))
+      ap (λ f. text f q.position.world (signals q.game.changes q.frame) q.answers) number
+      ∙ ap (λ (at : Position). text (suc p.frame) at.world (signals q.game.changes q.frame) q.answers) played_on
+      ∙ ap (λ on. text (suc p.frame) (turn_by p.game.trees signals_now p.position).world on q.answers) step.signals_are
+      ∙ ap (text (suc p.frame) (turn_by p.game.trees signals_now p.position).world signals_now) answered_on
 
   pub texts_more : texts q.game q.frame ≡ texts p.game p.frame ++ frame_text q.game q.frame
   texts_more =
@@ -236,11 +263,46 @@ module _ (signals_now : List Bool) (p q : Played) (step : IsStepped signals_now 
       ∙ ap (λ k. texts p.game p.frame ++ frame_text q.game k) (sym number)
 
 pub alike : (on : List Bool) (p q next_p next_q : Played) → state_of p ≡ state_of q → IsStepped on p next_p → IsStepped on q next_q
-    → (state_of next_p ≡ state_of next_q) × (frame_text next_p.game next_p.frame ≡ frame_text next_q.game next_q.frame)
+    → (state_of next_p ≡ state_of next_q) × (text_of next_p ≡ text_of next_q)
 alike on p q next_p next_q same a b = (
   stepped_state on p next_p a ∙ ap (next_state on) same ∙ sym (stepped_state on q next_q b),
   stepped_text on p next_p a ∙ ap (next_text on) same ∙ sym (stepped_text on q next_q b),
 )
+
+-- ---- play
+
+pub played_still : (p q : Played) → IsPlayed p → IsOnBy 0 p q → IsPlayed q
+played_still p q is on =
+    let same = same_before 0 p q on in
+    let number : p.frame ≡ q.frame = let e = on.frame in omega (arith, e) in
+    record {
+      position = (on.still refl).0 ∙ is.position ∙ sym (play_by p.game q.game p.frame same p.frame (omega arith)) ∙ ap (play q.game) number;
+      answers = (on.still refl).1 ∙ is.answers ∙ sym (statuses_as p.game q.game p.frame same p.frame (omega arith)) ∙ ap (statuses_at q.game) number;
+    }
+
+pub played_further : (on : List Bool) (p q : Played) → IsPlayed p → IsStepped on p q → IsPlayed q
+played_further on p q is step =
+    let same = same_before 1 p q step.on in
+    let number : q.frame ≡ suc p.frame = let e = step.on.frame in omega (arith, e) in
+    let there : p.position ≡ play q.game p.frame = is.position ∙ sym (play_by p.game q.game p.frame same p.frame (omega arith)) in
+    record {
+      position =
+          step.position ∙ turn_is q.game q.frame p.position ∙ ap (turn_by q.game.trees (signals q.game.changes q.frame)) there
+          ∙ ap (λ f. turn_by q.game.trees (signals q.game.changes f) (play q.game p.frame)) number ∙ sym (play_suc q.game p.frame) ∙ ap (play q.game) (sym number);
+      answers =
+          step.answers ∙ answers_are q.game q.frame p.position ∙ ap (statuses_by q.game.trees (signals q.game.changes q.frame)) there
+          ∙ ap (λ f. statuses_by q.game.trees (signals q.game.changes f) (play q.game p.frame)) number ∙ sym (statuses_suc q.game p.frame)
+          ∙ ap (statuses_at q.game) (sym number);
+    }
+
+text_at : (g : Game) (f : ℕ) → 0 < f → text f (play g f).world (signals g.changes f) (statuses_at g f) ≡ frame_text g f
+text_at g zero h = absurd (omega (arith, h))
+text_at g (suc f) h = refl
+
+pub played_text : (p : Played) → IsPlayed p → 0 < p.frame → text_of p ≡ frame_text p.game p.frame
+played_text p is some =
+    ap (λ (at : Position). text p.frame at.world (signals p.game.changes p.frame) p.answers) is.position
+    ∙ ap (text p.frame (play p.game p.frame).world (signals p.game.changes p.frame)) is.answers ∙ text_at p.game p.frame some
 
 -- ---- scripts
 

@@ -9,7 +9,7 @@ use Rattle.game_rules.specs.declared.change.Change.{Change}
 use Rattle.game_rules.specs.Game.{changed_by}
 use Rattle.game_session.specs.Changes.{last_frame}
 use Rattle.game_session.proofs.Rising.{last_frame-at}
-use Rattle.stepping.specs.Played.{Played, played_of, changes_by, changes_so_far, AreInOrder, IsByScript}
+use Rattle.stepping.specs.Played.{Played, changes_by, changes_so_far, AreInOrder, IsByScript}
 
 -- those behind it change nothing up to it
 changed_so_far : (cs : List Change) (f k : ℕ) (on : List Bool) → k ≤ f → changed_by cs k on ≡ changed_by (changes_by f cs) k on
@@ -26,7 +26,7 @@ changed_so_far (c ∷ cs) f k on h = one (nat_le c.frame f) refl (λ l. changed_
         let no : nat_le c.frame k ≡ false = grind (arith, common_steps, e, h) in
         ap (λ b. changed_by cs k (if b then slice_set on c.signal c.on else on)) no ∙ more on
 
-pub by_changes_so_far : (p : Played) → IsByScript (played_of p.game p.frame (changes_so_far p))
+pub by_changes_so_far : (p : Played) → IsByScript (record p { script = changes_so_far p })
 by_changes_so_far p k some within = changed_so_far p.game.changes p.frame k (replicate 26 false) within
 
 -- one change more, where it is up to the frame and where it isn't

@@ -61,13 +61,12 @@ abbrev pub state_head : (digest frame : ℕ) → List ℕ
 state_head digest frame = codes "btworld state 1 level " ++ hex 16 digest ++ codes " frame " ++ decimal frame ++ codes "\n"
 
 -- a frame under the signals that are shown, with those of the next
-abbrev pub state_text_at : Game → ℕ → (shown next : List Bool) → List ℕ
-state_text_at g f shown next =
-    state_head (level_digest_of g) f ++ signals_line (codes "shown") shown ++ signals_line (codes "next") next
-    ++ agent_lines (play g f) (statuses_at g f) ++ item_lines (play g f).world
+abbrev pub state_text_at : Game → ℕ → (shown next : List Bool) → Position → List Status → List ℕ
+state_text_at g f shown next at answers =
+    state_head (level_digest_of g) f ++ signals_line (codes "shown") shown ++ signals_line (codes "next") next ++ agent_lines at answers ++ item_lines at.world
 
 abbrev pub state_text : Played → List ℕ
-state_text p = state_text_at p.game p.frame (signals p.game.changes p.frame) (next_signals p)
+state_text p = state_text_at p.game p.frame (signals p.game.changes p.frame) (next_signals p) p.position p.answers
 
 -- ---- by a script
 
@@ -78,4 +77,4 @@ handed_in script (suc f) = signals script (suc f)
 
 -- the state after a frame of the script's game
 abbrev pub scripted_state_text : Game → ℕ → List ℕ
-scripted_state_text g f = state_text_at g f (handed_in g.changes f) (handed_in g.changes f)
+scripted_state_text g f = state_text_at g f (handed_in g.changes f) (handed_in g.changes f) (play g f) (statuses_at g f)

@@ -2,7 +2,6 @@
 ghost use Rattle.std.specs.Prelude.{◌≡◌, ◌<◌, [], IfOk, length, slice_index_or};
 ghost use Rattle.bt_nodes.specs.Bounds.{Fits};
 ghost use Rattle.bt_nodes.specs.Trees.{plain_of};
-ghost use Rattle.game_rules.specs.Play.{play};
 
 use crate::played::Stepping;
 use bt_nodes::Tree;
@@ -28,7 +27,7 @@ impl Stepping {
     /// The memory of an agent after the frame: a number for each node of its tree, in preorder.
     pub fn memory_of(&self, alloc: Global, agent: u32) -> Result<Vec<u16>, AllocError>
         requires { agent < length self.now.game.trees }
-        ensures { IfOk result (λ numbers. numbers.items ≡ slice_index_or (play self.now.game self.now.frame).memories agent []) }
+        ensures { IfOk result (λ numbers. numbers.items ≡ slice_index_or self.now.position.memories agent []) }
     {
         let tree = self.level().tree_of(agent);
         let memory = &self.memories()[agent as usize];

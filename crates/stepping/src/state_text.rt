@@ -4,8 +4,6 @@ ghost use Rattle.std.specs.List.{flat_map};
 ghost use Rattle.grid_world.specs.Grid.{agent_of, has_item};
 ghost use Rattle.grid_world.specs.Map.{count_up};
 ghost use Rattle.grid_world.specs.World.{point};
-ghost use Rattle.game_rules.specs.Play.{play};
-ghost use Rattle.stepping.specs.Played.{statuses_at};
 ghost use Rattle.stepping.specs.StateText.{letters, signals_line, answer_text, memory_text, agent_line, agent_lines, item_line, item_lines, state_head, state_text};
 
 use crate::played::Stepping;
@@ -112,7 +110,7 @@ fn answer_of(answers: &[Status], agent: usize) -> Option<Status>
 
 fn push_agents(text: &mut Vec<u8>, game: &Stepping) -> Result<(), AllocError>
     ensures { OnOk result (text.new.items ≡ text.old.items
-        ++ agent_lines (play game.now.game game.now.frame) (statuses_at game.now.game game.now.frame)) }
+        ++ agent_lines game.now.position game.now.answers) }
 {
     let world = game.world();
     let answers = game.statuses();

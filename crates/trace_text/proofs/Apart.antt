@@ -27,12 +27,7 @@ pairs_before R (Some slice) slices first others = AllPairs-cons R slice slices f
 here : (at : ℕ) (event : Event) (behind : List Event) → IfSome (begun_at at event behind) (λ slice. at ≤ slice.begin)
 here at (Start v job) behind = omega arith
 here at (Resume v job) behind = omega arith
-here at (Ask v job) behind = tt
-here at (Spread v job) behind = tt
-here at (Hold v job) behind = tt
-here at (Finish v job) behind = tt
-here at (Emit f) behind = tt
-here at Stop behind = tt
+here at _ behind = tt
 
 pub from_place : (at : ℕ) (events : List Event) → All (λ slice. at ≤ slice.begin) (slices_from at events)
 from_place at [] = All-nil (λ slice. at ≤ slice.begin)
@@ -45,12 +40,7 @@ from_place at (event ∷ events) =
 another : (w at : ℕ) (P : Slice → Type 0) (event : Event) (behind : List Event) → is_by w event ≡ false → IfSome (begun_at at event behind) (λ slice. w ≡ slice.worker → P slice)
 another w at P (Start v job) behind other = λ same. absurd (true≢false (sym (eq-eqb v w (sym same)) ∙ other))
 another w at P (Resume v job) behind other = λ same. absurd (true≢false (sym (eq-eqb v w (sym same)) ∙ other))
-another w at P (Ask v job) behind other = tt
-another w at P (Spread v job) behind other = tt
-another w at P (Hold v job) behind other = tt
-another w at P (Finish v job) behind other = tt
-another w at P (Emit f) behind other = tt
-another w at P Stop behind other = tt
+another w at P _ behind other = tt
 
 step : (w at : ℕ) (event : Event) (events : List Event) (own : Bool) → is_by w event ≡ own
     → All (λ slice. w ≡ slice.worker → suc at + until w events ≤ slice.begin) (slices_from (suc at) events)
@@ -68,12 +58,7 @@ waits w at (event ∷ events) = step w at event events (is_by w event) refl (wai
 ends : (at : ℕ) (event : Event) (behind : List Event) → IfSome (begun_at at event behind) (λ slice. All (AreApart slice) (slices_from (suc at) behind))
 ends at (Start v job) behind = waits v (suc at) behind
 ends at (Resume v job) behind = waits v (suc at) behind
-ends at (Ask v job) behind = tt
-ends at (Spread v job) behind = tt
-ends at (Hold v job) behind = tt
-ends at (Finish v job) behind = tt
-ends at (Emit f) behind = tt
-ends at Stop behind = tt
+ends at _ behind = tt
 
 pub apart : (at : ℕ) (events : List Event) → AllPairs AreApart (slices_from at events)
 apart at [] = λ i j d less within. absurd (omega (arith, within))
@@ -84,12 +69,7 @@ apart at (event ∷ events) = pairs_before AreApart (begun_at at event events) (
 begins_before : (at : ℕ) (event : Event) (behind : List Event) → IfSome (begun_at at event behind) (λ slice. All (BeginsBefore slice) (slices_from (suc at) behind))
 begins_before at (Start v job) behind = λ k d l. let h = from_place (suc at) behind k d l in omega (arith, h)
 begins_before at (Resume v job) behind = λ k d l. let h = from_place (suc at) behind k d l in omega (arith, h)
-begins_before at (Ask v job) behind = tt
-begins_before at (Spread v job) behind = tt
-begins_before at (Hold v job) behind = tt
-begins_before at (Finish v job) behind = tt
-begins_before at (Emit f) behind = tt
-begins_before at Stop behind = tt
+begins_before at _ behind = tt
 
 pub ordered : (at : ℕ) (events : List Event) → AllPairs BeginsBefore (slices_from at events)
 ordered at [] = λ i j d less within. absurd (omega (arith, within))
@@ -108,12 +88,7 @@ until_most w (event ∷ events) = step_most w (is_by w event) (until w events) (
 inside : (at : ℕ) (event : Event) (behind : List Event) → IfSome (begun_at at event behind) (IsWithin (at + suc (length behind)))
 inside at (Start v job) behind = let h = until_most v behind in (omega arith, omega (arith, h))
 inside at (Resume v job) behind = let h = until_most v behind in (omega arith, omega (arith, h))
-inside at (Ask v job) behind = tt
-inside at (Spread v job) behind = tt
-inside at (Hold v job) behind = tt
-inside at (Finish v job) behind = tt
-inside at (Emit f) behind = tt
-inside at Stop behind = tt
+inside at _ behind = tt
 
 pub within : (at : ℕ) (events : List Event) → All (IsWithin (at + length events)) (slices_from at events)
 within at [] = All-nil (IsWithin (at + 0))

@@ -5,7 +5,7 @@ use Rattle.std.specs.List.{All, AllPairs}
 use Rattle.std.proofs.lemmas.Bool.{true≢false}
 use Rattle.std.proofs.lemmas.List.Elements.{All-nil}
 use Rattle.job_core.specs.declared.names.JobName.{JobName}
-use Rattle.job_core.specs.declared.names.JobName.TheVariants.{Logic, Think, Path, Draw}
+use Rattle.job_core.specs.declared.names.JobName.TheVariants.{Logic, Think}
 use Rattle.job_core.specs.declared.names.Event.{Event}
 use Rattle.job_core.specs.declared.names.Event.TheVariants.{Start, Resume, Ask, Spread, Hold, Finish, Emit, Stop}
 use Rattle.job_core.specs.Core.{Setup, Absent, Queued, Runs, Waits, State, May, IsLegalFrom, IsLegalList, state, after, step_of}
@@ -33,15 +33,7 @@ module _ (s : Setup) (st : State) (inv : Shape s st) (one : Apart s st) (w k : �
   own (Finish v j) m b = (eqb-true v w b, one.one j job w m.0 k (m.1 ∙ ap (λ x. Runs x m.0) (eqb-true v w b)) runs)
   own (Emit f) m b = absurd (true≢false (sym b))
   own Stop m b = absurd (true≢false (sym b))
-  own (Ask v (Logic f)) m b = absurd m
-  own (Ask v (Path f a i)) m b = absurd m
-  own (Ask v (Draw f d)) m b = absurd m
-  own (Spread v (Think f a)) m b = absurd m
-  own (Spread v (Path f a i)) m b = absurd m
-  own (Spread v (Draw f d)) m b = absurd m
-  own (Hold v (Think f a)) m b = absurd m
-  own (Hold v (Path f a i)) m b = absurd m
-  own (Hold v (Draw f d)) m b = absurd m
+  own _ m b = absurd m
 
   steady : (e : Event) (m : May s st e) → (job ≡ job_of e → ⊥) → (after s st e).phase job ≡ Runs w k
   steady e m n = ⊎_elim (λ d. d ∙ runs) (λ d. let gone : Absent ≡ Runs w k = sym d.0 ∙ runs in absurd cc) (others s st inv e m job n)
@@ -60,15 +52,7 @@ module _ (s : Setup) (st : State) (inv : Shape s st) (one : Apart s st) (w k : �
   stays (Finish v j) m b = steady (Finish v j) m (apart_from v m.0 j m.1 b)
   stays (Emit f) m b = runs
   stays Stop m b = runs
-  stays (Ask v (Logic f)) m b = absurd m
-  stays (Ask v (Path f a i)) m b = absurd m
-  stays (Ask v (Draw f d)) m b = absurd m
-  stays (Spread v (Think f a)) m b = absurd m
-  stays (Spread v (Path f a i)) m b = absurd m
-  stays (Spread v (Draw f d)) m b = absurd m
-  stays (Hold v (Think f a)) m b = absurd m
-  stays (Hold v (Path f a i)) m b = absurd m
-  stays (Hold v (Draw f d)) m b = absurd m
+  stays _ m b = absurd m
 
 further : (w : ℕ) (job : JobName) (n : ℕ) (e : Event) (events : List Event) → Leaves w job n events → Leaves w job (suc n) (e ∷ events)
 further w job n e events h = ⊎_elim (λ d. inl (ap suc d)) (λ d. inr d) h
@@ -138,12 +122,7 @@ ended s events legal = from_there s events 0 [] events tt legal (all_rest s even
 other_job : (s : Setup) (st : State) (w k : ℕ) (job : JobName) → st.phase job ≡ Runs w k → (at : ℕ) (e : Event) (events : List Event) → May s st e → (P : Slice → Type 0) → IfSome (begun_at at e events) (λ slice. job ≡ slice.job → P slice)
 other_job s st w k job runs at (Start v j) events m P = λ same. let queued : Runs w k ≡ Queued = sym runs ∙ ap st.phase same ∙ m.2 in absurd cc
 other_job s st w k job runs at (Resume v j) events m P = λ same. let waits : Runs w k ≡ Waits m.2.0 = sym runs ∙ ap st.phase same ∙ m.2.1 in absurd cc
-other_job s st w k job runs at (Ask v j) events m P = tt
-other_job s st w k job runs at (Spread v j) events m P = tt
-other_job s st w k job runs at (Hold v j) events m P = tt
-other_job s st w k job runs at (Finish v j) events m P = tt
-other_job s st w k job runs at (Emit f) events m P = tt
-other_job s st w k job runs at Stop events m P = tt
+other_job s st w k job runs at _ events m P = tt
 
 job_step : (w : ℕ) (job : JobName) (at : ℕ) (e : Event) (events : List Event) (own : Bool) → is_by w e ≡ own
     → ((P : Slice → Type 0) → IfSome (begun_at at e events) (λ slice. job ≡ slice.job → P slice))

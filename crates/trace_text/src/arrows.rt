@@ -2,7 +2,7 @@
 ghost use Rattle.std.specs.Prelude.{◌≡◌, ◌++◌, decimal, codes, OnOk};
 ghost use Rattle.trace_text.specs.Jobs.{joined_by, is_led_into, into_text, arrow_from, arrow_text};
 
-use crate::parts::push_number;
+use byte_streams::push_number;
 use job_core::names::JobName;
 use std::alloc::AllocError;
 

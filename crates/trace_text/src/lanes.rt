@@ -2,7 +2,8 @@
 ghost use Rattle.std.specs.Prelude.{◌≡◌, ◌+◌, ◌++◌, decimal, OnOk};
 ghost use Rattle.trace_text.specs.Trace.{worker_text, printer_text, place_text, lane_text, workers_text, lanes_text};
 
-use crate::parts::{push_number, push_two, thread_of};
+use crate::parts::{push_two, thread_of};
+use byte_streams::push_number;
 use std::alloc::AllocError;
 
 const LANE: &str = ",\n{\"ph\":\"M\",\"pid\":1,\"tid\":";

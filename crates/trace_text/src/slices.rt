@@ -3,9 +3,10 @@ ghost use Rattle.trace_text.specs.Jobs.{letter, name_text, kind_text, numbers_te
 ghost use Rattle.trace_text.specs.Trace.{slice_text, text_within, slices_text};
 
 use crate::arrows::push_arrow;
-use crate::parts::{push_number, push_text, push_where, thread_of};
+use crate::parts::{push_text, push_where, thread_of};
 use crate::slice::Slice;
 use crate::span::{FrameSpan, frame_of};
+use byte_streams::push_number;
 use job_core::names::{Event, JobName};
 use std::alloc::AllocError;
 

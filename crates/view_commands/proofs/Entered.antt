@@ -1,16 +1,8 @@
--- the subcommand that a parse entered, and the help that it answers
-use Rattle.std.proofs.Common.{◌≡◌, ◌≢◌, ◌∙◌, ◌⊎◌, inl, inr, ap, sym, subst, ◌==◌, true, false, List, [], ◌∷◌, length, map, refl}
-use Rattle.std.specs.Prelude.{String, string_bytes}
-use Rattle.clap.specs.Words.{App, Text, HasKind, HasMatchesOf, IsAmong, fault_of, kind_of, is_simple, is_simple_and_free, subcommand_of}
-use Rattle.clap.specs.declared.error.Error.{Error}
-use Rattle.clap.specs.declared.error.kind.ErrorKind.{ErrorKind}
-use Rattle.clap.specs.declared.error.kind.ErrorKind.TheVariants as kinds
-use Rattle.clap.specs.declared.parser.matches.ArgMatches.{ArgMatches}
+-- The viewer's rules are simple.
+use Rattle.std.proofs.Common.{◌≡◌, true, refl}
+use Rattle.clap.specs.Words.{is_simple, is_simple_and_free}
 use Rattle.clap.proofs.OnLiterals.{clap_on_literals}
-use Rattle.words.specs.declared.fault.WordsFault.{WordsFault}
-use Rattle.words.specs.declared.fault.WordsFault.TheVariants.{OutOfMemory, Help, Version, Refused}
-use Rattle.words.specs.Program.{IsToldAs}
-use Rattle.view_commands.specs.Program.{IsAskedFor, IsEntered, program}
+use Rattle.view_commands.specs.Program.{program}
 
 pub simple : is_simple program ≡ true
 unfolding clap_on_literals
@@ -19,27 +11,3 @@ simple = refl
 pub free : is_simple_and_free program ≡ true
 unfolding clap_on_literals
 free = refl
-
-pub has_texts : {A : Type 0} (words : List (String A)) → (length words == 0) ≡ false → map (λ s. string_bytes s) words ≢ []
-has_texts [] some none = cc
-has_texts (word ∷ words) some none = cc
-
-pub entered : (a : App) (words : List Text) (m : ArgMatches) → a ≡ program → HasMatchesOf a words m
-    → (is_simple_and_free a ≡ true → fault_of a words ≡ []) → words ≢ [] → IsEntered words m
-entered a words m e h taken some name rows pair =
-    let matches = h (ap is_simple e ∙ simple) in
-    let whole : fault_of a words ≡ [] = taken (ap is_simple_and_free e ∙ free) in
-    (some, sym (ap (λ (p : App). fault_of p words) e) ∙ whole, sym (ap (λ (p : App). subcommand_of p words) e) ∙ sym matches.1 ∙ pair)
-
-asks : (a : App) (words : List Text) (e : Error) (kind : ErrorKind) → a ≡ program → HasKind (fault_of a words) e → kind_of e ≡ kind → kind ≢ kinds.OutOfMemory
-    → IsAmong kind (fault_of program words)
-asks a words e kind same (inl memory) is other = absurd (other (sym is ∙ memory))
-asks a words e kind same (inr among) is other =
-    subst (λ (p : App). IsAmong kind (fault_of p words)) same (subst (λ k. IsAmong k (fault_of a words)) is among)
-
-pub asked_for : (a : App) (words : List Text) (e : Error) (fault : WordsFault) → a ≡ program → (is_simple_and_free a ≡ true → HasKind (fault_of a words) e)
-    → IsToldAs (kind_of e) fault → IsAskedFor words fault
-asked_for a words e OutOfMemory same has said = tt
-asked_for a words e (Help text) same has help = asks a words e kinds.DisplayHelp same (has (ap is_simple_and_free same ∙ free)) help (λ same. cc)
-asked_for a words e (Version text) same has version = asks a words e kinds.DisplayVersion same (has (ap is_simple_and_free same ∙ free)) version (λ same. cc)
-asked_for a words e (Refused text) same has said = tt

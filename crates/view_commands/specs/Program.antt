@@ -6,8 +6,7 @@ use Rattle.clap.specs.declared.parser.matches.ArgMatches.{ArgMatches}
 use Rattle.clap.specs.Simple.{on_top}
 use Rattle.trace_text.specs.declared.span.FrameSpan.{FrameSpan}
 use Rattle.words.specs.declared.fault.WordsFault.{WordsFault}
-use Rattle.words.specs.declared.fault.WordsFault.TheVariants.{Help, Version}
-use Rattle.words.specs.Program.{default_rule, path_rule, word_rule, IsNumber, IsOptional, IsText}
+use Rattle.words.specs.Program.{default_rule, path_rule, word_rule, IsAskedOf, IsNumber, IsOptional, IsText}
 use Rattle.view_commands.specs.declared.request.View.{View}
 use Rattle.view_commands.specs.declared.request.View.TheVariants.{Trace, Page}
 
@@ -65,6 +64,4 @@ IsReading words (Page level log script frames) = (rows : List Row) × Enters wor
 
 -- help or the version is answered only where clap finds that the words ask for it
 abbrev pub IsAskedFor : List Text → WordsFault → Type 0
-IsAskedFor words (Help text) = IsAmong kinds.DisplayHelp (fault_of program words)
-IsAskedFor words (Version text) = IsAmong kinds.DisplayVersion (fault_of program words)
-IsAskedFor words _ = Unit {0}
+IsAskedFor words fault = IsAskedOf program words fault

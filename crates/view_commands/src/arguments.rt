@@ -16,6 +16,7 @@ const STATUSES: &str =
 
 const FROM: Argument = Argument {
     name: "from",
+    value: "F",
     help: "The first frame whose jobs are shown, 1 to 9999",
     form: Form::Default {
         least: 1,
@@ -26,6 +27,7 @@ const FROM: Argument = Argument {
 
 const TO: Argument = Argument {
     name: "to",
+    value: "T",
     help: "The last frame whose jobs are shown, 1 to 9999",
     form: Form::Default {
         least: 1,
@@ -42,6 +44,7 @@ pub static SUBCOMMANDS: [Subcommand; 2] = [
         arguments: &[
             Argument {
                 name: "log",
+                value: "LOG",
                 help: "The log file, as `btworld play --log` writes it",
                 form: Form::Place,
             },
@@ -56,16 +59,19 @@ pub static SUBCOMMANDS: [Subcommand; 2] = [
         arguments: &[
             Argument {
                 name: "level",
+                value: "LEVEL",
                 help: "The level's file",
                 form: Form::Place,
             },
             Argument {
                 name: "log",
+                value: "LOG",
                 help: "The log file, as `btworld play --log` writes it",
                 form: Form::Place,
             },
             Argument {
                 name: "script",
+                value: "FILE",
                 help: "The script with which the run was played",
                 form: Form::Path,
             },

@@ -32,6 +32,7 @@ above_zero (faults.ScriptOrder n) = omega arith
 above_zero faults.LogHead = omega arith
 above_zero (faults.LogLine n) = omega arith
 above_zero (faults.IllegalEvent n) = omega arith
+above_zero faults.NoSuchAgent = omega arith
 above_zero (faults.Incomplete shown frames) = omega arith
 above_zero faults.Stopped = omega arith
 above_zero faults.Write = omega arith

@@ -11,15 +11,27 @@ use Rattle.job_scheduler.specs.Numbers.{Numbers}
 use Rattle.words.specs.declared.fault.WordsFault.{WordsFault}
 use Rattle.words.specs.declared.fault.WordsFault.TheVariants.{Help, Version}
 use Rattle.words.specs.declared.request.Words.{Words}
-use Rattle.words.specs.declared.request.Words.TheVariants.{Piped, Play, Replay, Check, Explain, Digest, State, Complete}
+use Rattle.words.specs.declared.request.Words.TheVariants.{Piped, Play, Replay, Check, Explain, Digest, State, Why, Complete}
 
 -- takes a number in a range
 abbrev pub in_range : ℕ → ℕ → ValueParser
 in_range least most = parsers.Signed (pos least) (pos most)
 
+-- its value has one name, by which help calls it
+abbrev pub valued_rule : Text → Rule
+valued_rule name = record (new_rule name) { value_names = 1 }
+
+-- an option with a path
+abbrev pub path_rule : Text → Rule
+path_rule name = record (valued_rule name) { long = Some name }
+
+-- a required option with a text
+abbrev pub text_rule : Text → Rule
+text_rule name = record (path_rule name) { required = true }
+
 -- an option with a number in a range
 abbrev pub ranged_rule : Text → ℕ → ℕ → Rule
-ranged_rule name least most = record (new_rule name) { long = Some name; parser = Some (in_range least most) }
+ranged_rule name least most = record (path_rule name) { parser = Some (in_range least most) }
 
 -- a required one
 abbrev pub number_rule : Text → ℕ → ℕ → Rule
@@ -29,13 +41,9 @@ number_rule name least most = record (ranged_rule name least most) { required = 
 abbrev pub default_rule : Text → ℕ → ℕ → Text → Rule
 default_rule name least most value = record (ranged_rule name least most) { defaults = value ∷ [] }
 
--- an option with a path
-abbrev pub path_rule : Text → Rule
-path_rule name = record (new_rule name) { long = Some name }
-
 -- a required word
 abbrev pub word_rule : Text → Rule
-word_rule name = record (new_rule name) { required = true }
+word_rule name = record (valued_rule name) { required = true }
 
 -- `--frames N --workers K`
 abbrev pub with_run : App → App
@@ -79,6 +87,12 @@ digest = frames_of_level (codes "digest") (codes "frames")
 abbrev pub state : App
 state = frames_of_level (codes "state") (codes "frame")
 
+-- `why LEVEL --frame F --agent A [--script FILE]`
+abbrev pub why : App
+why =
+    with_rule (with_rule (with_rule (with_rule (new_app (codes "why")) (word_rule (codes "level"))) (number_rule (codes "frame") 1 9999)) (text_rule (codes "agent")))
+    (path_rule (codes "script"))
+
 -- `complete LEVEL LOG WHOLE [--script FILE]`
 abbrev pub complete : App
 complete =
@@ -104,8 +118,11 @@ with_digest = with_subcommand with_explain digest.top
 abbrev pub with_state : App
 with_state = with_subcommand with_digest state.top
 
+abbrev pub with_why : App
+with_why = with_subcommand with_state why.top
+
 abbrev pub program : App
-program = with_subcommand with_state complete.top
+program = with_subcommand with_why complete.top
 
 -- the decimal value of an entry
 abbrev pub IsNumber : Option Text → ℕ → Type 0
@@ -146,6 +163,11 @@ AsksToDigest words frames = (rows : List Row) × Enters words (codes "digest") r
 abbrev pub AsksForState : List Text → ℕ → Type 0
 AsksForState words frame = (rows : List Row) × Enters words (codes "state") rows × IsNumber (first_of (codes "frame") rows) frame
 
+-- the words are taken for `why` of this frame and this agent
+abbrev pub AsksWhy : List Text → ℕ → Text → Type 0
+AsksWhy words frame agent =
+    (rows : List Row) × Enters words (codes "why") rows × IsNumber (first_of (codes "frame") rows) frame × (first_of (codes "agent") rows ≡ Some agent)
+
 -- the words are taken for `complete`
 abbrev pub AsksToComplete : List Text → Type 0
 AsksToComplete words = (rows : List Row) × Enters words (codes "complete") rows
@@ -164,6 +186,8 @@ IsReading words (Digest level frames script) = (rows : List Row) × Enters words
     × IsNumber (first_of (codes "frames") rows) frames × IsOptional rows (codes "script") script
 IsReading words (State level frame script) = (rows : List Row) × Enters words (codes "state") rows × IsText rows (codes "level") level
     × IsNumber (first_of (codes "frame") rows) frame × IsOptional rows (codes "script") script
+IsReading words (Why level frame agent script) = (rows : List Row) × Enters words (codes "why") rows × IsText rows (codes "level") level
+    × IsNumber (first_of (codes "frame") rows) frame × IsText rows (codes "agent") agent × IsOptional rows (codes "script") script
 IsReading words (Complete level log whole script) = (rows : List Row) × Enters words (codes "complete") rows × IsText rows (codes "level") level
     × IsText rows (codes "log") log × IsText rows (codes "whole") whole × IsOptional rows (codes "script") script
 
@@ -179,8 +203,11 @@ IsToldAs kind (Help text) = kind ≡ kinds.DisplayHelp
 IsToldAs kind (Version text) = kind ≡ kinds.DisplayVersion
 IsToldAs kind _ = Unit {0}
 
--- help or the version is answered only where clap finds that the words ask for it
+-- a program answers help or its version only where clap finds that the words ask for it
+abbrev pub IsAskedOf : App → List Text → WordsFault → Type 0
+IsAskedOf a words (Help text) = IsAmong kinds.DisplayHelp (fault_of a words)
+IsAskedOf a words (Version text) = IsAmong kinds.DisplayVersion (fault_of a words)
+IsAskedOf a words _ = Unit {0}
+
 abbrev pub IsAskedFor : List Text → WordsFault → Type 0
-IsAskedFor words (Help text) = IsAmong kinds.DisplayHelp (fault_of program words)
-IsAskedFor words (Version text) = IsAmong kinds.DisplayVersion (fault_of program words)
-IsAskedFor words _ = Unit {0}
+IsAskedFor words fault = IsAskedOf program words fault

@@ -1,15 +1,16 @@
 -- What the table of commands says of clap's arguments and commands.
 use Rattle.std.specs.Prelude.{fold}
 use Rattle.clap.specs.Words.{App, Rule, new_app, with_rule, with_subcommand}
-use Rattle.words.specs.Program.{default_rule, number_rule, path_rule, word_rule}
+use Rattle.words.specs.Program.{default_rule, text_rule, number_rule, path_rule, word_rule}
 use Rattle.words.specs.declared.table.Argument.{Argument}
 use Rattle.words.specs.declared.table.Form.{Form}
-use Rattle.words.specs.declared.table.Form.TheVariants.{Place, Path, Number, Default}
+use Rattle.words.specs.declared.table.Form.TheVariants.{Place, Path, Number, Default, Text}
 use Rattle.words.specs.declared.table.Subcommand.{Subcommand}
 
 abbrev pub rule_by : Form → Argument → Rule
 rule_by Place a = word_rule a.name.now
 rule_by Path a = path_rule a.name.now
+rule_by Text a = text_rule a.name.now
 rule_by (Number least most) a = number_rule a.name.now least most
 rule_by (Default least most value) a = default_rule a.name.now least most value.now
 

@@ -30,10 +30,13 @@ fn argument_of<'a>(alloc: Global, argument: &Argument) -> Arg<'a>
     ensures local { result.global ≡ false }
 {
     let name = argument.name;
-    let made = Arg::new(alloc, name).help(argument.help);
+    let made = Arg::new(alloc, name)
+        .value_name(argument.value)
+        .help(argument.help);
     match argument.form {
         Form::Place => made.required(true),
         Form::Path => made.long(name),
+        Form::Text => made.long(name).required(true),
         Form::Number { least, most } => made
             .long(name)
             .required(true)

@@ -6,6 +6,7 @@ use std::alloc::{AllocError, Global};
 #[derive(Clone, Copy)]
 struct NumberOption {
     name: &'static str,
+    value: &'static str,
     least: u32,
     most: u32,
 }
@@ -27,11 +28,12 @@ fn option_of(arguments: &[Argument], word: &str) -> Option<NumberOption> {
                 Form::Number { least, most } | Form::Default { least, most, .. } => {
                     Some(NumberOption {
                         name: argument.name,
+                        value: argument.value,
                         least,
                         most,
                     })
                 }
-                Form::Place | Form::Path => None,
+                Form::Place | Form::Path | Form::Text => None,
             };
         }
     }
@@ -79,7 +81,7 @@ pub fn negative_text(
             }
             let text = format!(in alloc;
                 "error: invalid value '{word}' for '--{} <{}>': {word} is not in {}..={}\n\nFor more information, try '--help'.\n",
-                option.name, option.name, option.least, option.most
+                option.name, option.value, option.least, option.most
             )?;
             return Ok(Some(text));
         }

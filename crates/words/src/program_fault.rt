@@ -47,6 +47,8 @@ pub enum Fault {
     Incomplete { shown: u32, frames: u32 },
     #[error("log: stopped")]
     Stopped,
+    #[error("why: no agent")]
+    NoSuchAgent,
     #[error("run: write")]
     Write,
     #[error("run: spawn")]

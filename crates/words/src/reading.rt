@@ -132,6 +132,19 @@ fn state_words(alloc: Global, matches: &ArgMatches<'_>) -> Result<Words, WordsFa
     })
 }
 
+fn why_words(alloc: Global, matches: &ArgMatches<'_>) -> Result<Words, WordsFault>
+    ensures reading { IfOk result (λ w. (ws : List (List ℕ))
+        → Enters ws (codes "why") (rows_of (found_of matches.now)) → IsReading ws w) }
+    ensures fault { IfErr result IsNoHelp }
+{
+    Ok(Words::Why {
+        level: text_entry(alloc, matches, "level")?,
+        frame: number_entry(alloc, matches, "frame")?,
+        agent: text_entry(alloc, matches, "agent")?,
+        script: optional_entry(alloc, matches, "script")?,
+    })
+}
+
 fn complete_words(alloc: Global, matches: &ArgMatches<'_>) -> Result<Words, WordsFault>
     ensures reading { IfOk result (λ w. (ws : List (List ℕ))
         → Enters ws (codes "complete") (rows_of (found_of matches.now)) → IsReading ws w) }
@@ -157,6 +170,7 @@ fn command_words(alloc: Global, matches: &ArgMatches<'_>) -> Result<Words, Words
         Some(("explain", explain)) => explain_words(alloc, explain),
         Some(("digest", digest)) => digest_words(alloc, digest),
         Some(("state", state)) => state_words(alloc, state),
+        Some(("why", why)) => why_words(alloc, why),
         Some(("complete", complete)) => complete_words(alloc, complete),
         _ => Err(missing(alloc, "command")),
     }

@@ -1,6 +1,6 @@
 use job_scheduler::Settings;
 
-/// What the words ask for. Each text but the settings is the path of a file.
+/// What the words ask for. Each text is the path of a file, but for an agent's letter.
 #[derive(Debug, Drop)]
 pub enum Words {
     /// No words: the level comes from standard input.
@@ -39,6 +39,14 @@ pub enum Words {
     State {
         level: String,
         frame: u32,
+        script: Option<String>,
+    },
+    /// Print why an agent did what it did in a frame.
+    Why {
+        level: String,
+        frame: u32,
+        /// The agent's letter; no path.
+        agent: String,
         script: Option<String>,
     },
     /// Print all frames of an interrupted log's run, and write its whole log.

@@ -7,6 +7,8 @@ pub enum Form {
     Place,
     /// By an option with a path.
     Path,
+    /// By an option with a text, which has to be there.
+    Text,
     /// By an option with a number in a range, which has to be there.
     Number {
         least: u32,
@@ -24,6 +26,8 @@ pub enum Form {
 #[derive(Clone, Copy)]
 pub struct Argument {
     pub name: &'static str,
+    /// What the help calls its value.
+    pub value: &'static str,
     pub help: &'static str,
     pub form: Form,
 }
@@ -39,17 +43,19 @@ pub struct Subcommand {
 
 const LEVEL: Argument = Argument {
     name: "level",
+    value: "LEVEL",
     help: "The level file: one JSON value with map, agents and trees",
     form: Form::Place,
 };
 
 const SCRIPT: Argument = Argument {
     name: "script",
+    value: "FILE",
     help: "The script file: lines `FRAME on LETTER` or `FRAME off LETTER` [default: all signals off]",
     form: Form::Path,
 };
 
-pub static SUBCOMMANDS: [Subcommand; 7] = [
+pub static SUBCOMMANDS: [Subcommand; 8] = [
     Subcommand {
         name: "play",
         about: "Plays a level and prints its frames on standard output.",
@@ -58,6 +64,7 @@ pub static SUBCOMMANDS: [Subcommand; 7] = [
             LEVEL,
             Argument {
                 name: "frames",
+                value: "N",
                 help: "How many frames, 0 to 9999",
                 form: Form::Number {
                     least: 0,
@@ -66,11 +73,13 @@ pub static SUBCOMMANDS: [Subcommand; 7] = [
             },
             Argument {
                 name: "workers",
+                value: "K",
                 help: "How many worker threads, 1 to 16",
                 form: Form::Number { least: 1, most: 16 },
             },
             Argument {
                 name: "small",
+                value: "S",
                 help: "How many jobs that never wait may be under way at once, 1 to 16",
                 form: Form::Default {
                     least: 1,
@@ -80,6 +89,7 @@ pub static SUBCOMMANDS: [Subcommand; 7] = [
             },
             Argument {
                 name: "large",
+                value: "G",
                 help: "How many jobs that may wait may be under way at once, 2 to 63",
                 form: Form::Default {
                     least: 2,
@@ -89,6 +99,7 @@ pub static SUBCOMMANDS: [Subcommand; 7] = [
             },
             Argument {
                 name: "slots",
+                value: "P",
                 help: "How many frames may be under way at once, 1 to 16",
                 form: Form::Default {
                     least: 1,
@@ -99,6 +110,7 @@ pub static SUBCOMMANDS: [Subcommand; 7] = [
             SCRIPT,
             Argument {
                 name: "log",
+                value: "FILE",
                 help: "Where the log of the run is written, once all frames are",
                 form: Form::Path,
             },
@@ -112,6 +124,7 @@ pub static SUBCOMMANDS: [Subcommand; 7] = [
             LEVEL,
             Argument {
                 name: "log",
+                value: "LOG",
                 help: "The log file, as `play --log` writes it",
                 form: Form::Place,
             },
@@ -133,6 +146,7 @@ pub static SUBCOMMANDS: [Subcommand; 7] = [
             SCRIPT,
             Argument {
                 name: "log",
+                value: "FILE",
                 help: "The log file, as `play --log` writes it",
                 form: Form::Path,
             },
@@ -146,6 +160,7 @@ pub static SUBCOMMANDS: [Subcommand; 7] = [
             LEVEL,
             Argument {
                 name: "frames",
+                value: "N",
                 help: "How many frames, 0 to 9999",
                 form: Form::Number {
                     least: 0,
@@ -163,11 +178,36 @@ pub static SUBCOMMANDS: [Subcommand; 7] = [
             LEVEL,
             Argument {
                 name: "frame",
+                value: "F",
                 help: "After which frame, 0 to 9999",
                 form: Form::Number {
                     least: 0,
                     most: 9999,
                 },
+            },
+            SCRIPT,
+        ],
+    },
+    Subcommand {
+        name: "why",
+        about: "Prints why an agent did what it did in a frame: what each node of its tree answered, with its number, and behind it the way that a `move` got, or the number before and after of a node that remembers one.",
+        usage: "btworld why LEVEL --frame F --agent A [--script FILE]",
+        arguments: &[
+            LEVEL,
+            Argument {
+                name: "frame",
+                value: "F",
+                help: "In which frame, 1 to 9999",
+                form: Form::Number {
+                    least: 1,
+                    most: 9999,
+                },
+            },
+            Argument {
+                name: "agent",
+                value: "A",
+                help: "The agent's letter, A to Z, as the frames show it",
+                form: Form::Text,
             },
             SCRIPT,
         ],
@@ -180,11 +220,13 @@ pub static SUBCOMMANDS: [Subcommand; 7] = [
             LEVEL,
             Argument {
                 name: "log",
+                value: "LOG",
                 help: "The log file; a last line without its line feed is left out",
                 form: Form::Place,
             },
             Argument {
                 name: "whole",
+                value: "WHOLE",
                 help: "Where the whole log is written, once all frames are",
                 form: Form::Place,
             },

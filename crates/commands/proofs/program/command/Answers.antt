@@ -1,5 +1,5 @@
 use Rattle.commands.proofs.Untouched.{whole_is_part}
-use Rattle.commands.proofs.Doing.{played, played_in_part, replayed, replayed_in_part, explained, digested, digested_in_part, told, told_in_part, completed, completed_in_part}
+use Rattle.commands.proofs.Doing.{played, played_in_part, replayed, replayed_in_part, explained, digested, digested_in_part, told, told_in_part, why_told, why_told_in_part, completed, completed_in_part}
 use Rattle.commands.proofs.program.command.Goals as goal
 
 pub returns-in-Ok-play_input-clause-part : goal.returns-in-Ok-play_input-clause-part
@@ -41,6 +41,14 @@ returns-in-Ok-clause-state g c = λ n asks zero.
 pub returns-in-Ok-clause-state_part : goal.returns-in-Ok-clause-state_part
 returns-in-Ok-clause-state_part g c = λ n asks.
     told_in_part (g.W.Write.contents c.args.out.now) (g.W.Write.contents c.act.new.out) _ c.in-Ok.words n c.in-Ok.ensures.reading asks c.act.ensures.part
+
+pub returns-in-Ok-clause-why : goal.returns-in-Ok-clause-why
+returns-in-Ok-clause-why g c = λ n letter asks zero.
+    why_told (g.W.Write.contents c.args.out.now) (g.W.Write.contents c.act.new.out) _ c.in-Ok.words n letter c.in-Ok.ensures.reading asks (c.act.ensures.done zero)
+
+pub returns-in-Ok-clause-why_part : goal.returns-in-Ok-clause-why_part
+returns-in-Ok-clause-why_part g c = λ n letter asks.
+    why_told_in_part (g.W.Write.contents c.args.out.now) (g.W.Write.contents c.act.new.out) _ c.in-Ok.words n letter c.in-Ok.ensures.reading asks c.act.ensures.part
 
 pub returns-in-Ok-clause-completed : goal.returns-in-Ok-clause-completed
 returns-in-Ok-clause-completed g c = λ asks zero.

@@ -1,4 +1,4 @@
-use Rattle.std.proofs.Common.{◌≡◌, ◌∙◌, ◌++◌, ap}
+use Rattle.std.proofs.Common.{◌∙◌, ◌++◌, ap}
 use Rattle.level_text.specs.Games.{spelled_game}
 use Rattle.desync_commands.specs.Texts.{digests_head}
 use Rattle.desync_commands.proofs.Compared.{digests_are}

@@ -1,4 +1,4 @@
-use Rattle.std.proofs.Common.{◌≡◌, ◌+◌, ◌<◌, ◌≤◌, ◌++◌, ℕ, subst, sym, arith}
+use Rattle.std.proofs.Common.{◌≡◌, ◌<◌, ◌≤◌, ◌++◌, ℕ, subst, sym, arith}
 use Rattle.desync_commands.specs.Opening.{IsSteppedTo}
 use Rattle.desync_commands.specs.Texts.{digest_line}
 use Rattle.desync_commands.proofs.Lines.{lines_begun, lines_more, lines_ended}

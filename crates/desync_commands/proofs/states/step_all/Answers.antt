@@ -1,4 +1,4 @@
-use Rattle.std.proofs.Common.{◌≡◌, ◌+◌, ℕ, subst, sym, arith}
+use Rattle.std.proofs.Common.{◌≡◌, ◌∙◌, ℕ, refl, subst, sym, arith}
 use Rattle.desync_commands.specs.Opening.{IsSteppedTo}
 use Rattle.desync_commands.proofs.states.step_all.Goals as goal
 
@@ -6,6 +6,7 @@ pub frames-init : goal.frames-init
 frames-init c = record {
   within = omega (arith, c.requires);
   goes = λ g h. subst (λ (n : ℕ). IsSteppedTo g n c.args.game.now) (sym c.requires) h;
+  trees = refl;
 }
 
 pub frames-preserved : goal.frames-preserved
@@ -14,6 +15,7 @@ frames-preserved c =
     record {
       within = omega (arith, c.frames-test.true, frame);
       goes = λ g h. subst (λ (n : ℕ). IsSteppedTo g n c.step.new.game) (sym frame) (c.in_ok-step.ensures.ok g (c.frames.invariant.goes g h));
+      trees = c.in_ok-step.ensures.trees ∙ c.frames.invariant.trees;
     }
 
 pub returns-clause-ok : goal.returns-clause-ok

@@ -6,9 +6,8 @@ use Rattle.grid_world.specs.Grid.{Grid, agent_of}
 use Rattle.bt_nodes.specs.Plain.{Plain, Does, Carrying}
 use Rattle.bt_nodes.specs.Trees.{plain_of}
 use Rattle.bt_nodes.specs.declared.node.Status.{Status}
-use Rattle.game_rules.specs.Play.{Position, play}
+use Rattle.game_rules.specs.Play.{Position}
 use Rattle.draw_list.proofs.Counting.{pieces_more, pieces_end}
-use Rattle.stepping.specs.Played.{statuses_at}
 use Rattle.stepping.specs.StateText.{agent_line, line_of, agent_lines}
 use Rattle.stepping.proofs.Lists.{fits_long}
 use Rattle.stepping.proofs.state_text.push_agents.Goals as goal
@@ -27,10 +26,8 @@ push_agent-requires-clause-size c =
 
 pub agents-preserved : goal.agents-preserved
 agents-preserved c =
-    let g = c.args.game.now.game in
-    let f : ℕ = c.args.game.now.frame in
-    let at : Position = play g f in
-    let sts : List Status = statuses_at g f in
+    let at : Position = c.args.game.now.position in
+    let sts : List Status = c.args.game.now.answers in
     let a : ℕ = c.agents.number in
     let w : Grid = c.world-world.result.now in
     let ms : List (List ℕ) = c.memories-memories.result.now in
@@ -48,10 +45,8 @@ agents-preserved c =
 
 pub returns : goal.returns
 returns c =
-    let g = c.args.game.now.game in
-    let f : ℕ = c.args.game.now.frame in
-    let at : Position = play g f in
-    let sts : List Status = statuses_at g f in
+    let at : Position = c.args.game.now.position in
+    let sts : List Status = c.args.game.now.answers in
     let same = ap length c.agents-number-end.ensures.value in
     let le : length at.world.agents ≤ c.agents.number = omega (arith, c.agents-test.false, same, ap (λ (v : Grid). length v.agents) c.world-world.ensures.value) in
     pieces_end (line_of at sts) c.agents.text.items (c.args.text.now.items ++ agent_lines at sts) c.agents.number (length at.world.agents) le c.agents.invariant

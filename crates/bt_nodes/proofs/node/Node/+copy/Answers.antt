@@ -1,8 +1,7 @@
 use Rattle.std.proofs.Common.{Some, ap, arith, sym, ◌∙◌, map}
 use Rattle.bt_nodes.specs.Plain.{plain}
-use Rattle.bt_nodes.specs.Sizes.{sizes}
 use Rattle.bt_nodes.proofs.Forests.{copied_more, copied_all}
-use Rattle.bt_nodes.proofs.Alike.{listed_smaller, decorated_smaller, item_smaller}
+use Rattle.bt_nodes.proofs.Alike.{item_smaller}
 use Rattle.bt_nodes.proofs.node.Node.+copy.Goals as goal
 
 pub copies_in-nodes-preserved : goal.copies_in-nodes-preserved
@@ -18,16 +17,6 @@ copies_in-copy_in-requires g t c κs within =
 
 pub copies_in-returns : goal.copies_in-returns
 copies_in-returns g t c = copied_all c.nodes.copies.items c.args.nodes.now c.nodes.node-index c.nodes.invariant c.nodes-test.false
-
-pub copy_in-copies_in-requires : goal.copy_in-copies_in-requires
-copy_in-copies_in-requires g t c κs within =
-    let small = listed_smaller (plain c.args.self.now) in
-    (omega (arith, small, ap sizes c.listed.ensures), within)
-
-pub copy_in-copy_in-requires : goal.copy_in-copy_in-requires
-copy_in-copy_in-requires g t c κs within =
-    let small = decorated_smaller (plain c.args.self.now) (plain c.in-Some.child.now) c.in-Some.ensures in
-    (omega (arith, small), within)
 
 pub copy_in-list_in-requires-clause-lists : goal.copy_in-list_in-requires-clause-lists
 copy_in-list_in-requires-clause-lists g t c = sym c.lists.ensures ∙ c.if-lists.true

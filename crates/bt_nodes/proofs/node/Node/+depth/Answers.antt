@@ -1,20 +1,10 @@
 use Rattle.std.proofs.Common.{ap, arith}
 use Rattle.bt_nodes.specs.Plain.{plain}
-use Rattle.bt_nodes.specs.Sizes.{sizes, depth, deepest}
+use Rattle.bt_nodes.specs.Sizes.{depth, deepest}
 use Rattle.bt_nodes.proofs.Forests.{plains-drop, plains-end}
-use Rattle.bt_nodes.proofs.Alike.{listed_smaller, decorated_smaller, item_smaller}
+use Rattle.bt_nodes.proofs.Alike.{item_smaller}
 use Rattle.bt_nodes.proofs.Below.{depth-listed, depth-decorated}
 use Rattle.bt_nodes.proofs.node.Node.+depth.Goals as goal
-
-pub depth-depth-requires : goal.depth-depth-requires
-depth-depth-requires g t c κs within =
-    let small = decorated_smaller (plain c.args.self.now) (plain c.in-Some.child.now) c.in-Some.ensures in
-    (omega (arith, small), within)
-
-pub depth-deepest-requires : goal.depth-deepest-requires
-depth-deepest-requires g t c κs within =
-    let small = listed_smaller (plain c.args.self.now) in
-    (omega (arith, small, ap sizes c.listed.ensures), within)
 
 pub deepest-depth-requires : goal.deepest-depth-requires
 deepest-depth-requires g t c κs within =

@@ -1,22 +1,11 @@
 use Rattle.std.proofs.Common.{◌&&◌, true, false, ap, arith, refl, sym, ◌∙◌}
 use Rattle.bt_nodes.specs.Plain.{plain}
-use Rattle.bt_nodes.specs.Sizes.{sizes}
 use Rattle.bt_nodes.specs.Heads.{listed}
 use Rattle.bt_nodes.specs.Limits.{keeps, all_keep}
 use Rattle.bt_nodes.proofs.Forests.{plains-end, one_asked}
-use Rattle.bt_nodes.proofs.Alike.{listed_smaller, decorated_smaller, item_smaller}
+use Rattle.bt_nodes.proofs.Alike.{item_smaller}
 use Rattle.bt_nodes.proofs.Below.{keeps-listed, keeps-decorated}
 use Rattle.bt_nodes.proofs.node.Node.+keeps.Goals as goal
-
-pub keeps-keeps-requires : goal.keeps-keeps-requires
-keeps-keeps-requires g t c κs within =
-    let small = decorated_smaller (plain c.args.self.now) (plain c.in-Some.child.now) c.in-Some.ensures in
-    (omega (arith, small), within)
-
-pub keeps-all_keep-requires : goal.keeps-all_keep-requires
-keeps-all_keep-requires g t c κs within =
-    let small = listed_smaller (plain c.args.self.now) in
-    (omega (arith, small, ap sizes c.listed.ensures), within)
 
 pub all_keep-keeps-requires : goal.all_keep-keeps-requires
 all_keep-keeps-requires g t c κs within =

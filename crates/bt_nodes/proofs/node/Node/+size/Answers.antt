@@ -2,7 +2,7 @@ use Rattle.std.proofs.Common.{ap, arith}
 use Rattle.bt_nodes.specs.Plain.{plain}
 use Rattle.bt_nodes.specs.Sizes.{size, sizes}
 use Rattle.bt_nodes.proofs.Forests.{plains-drop, plains-end}
-use Rattle.bt_nodes.proofs.Alike.{listed_smaller, decorated_smaller, item_smaller}
+use Rattle.bt_nodes.proofs.Alike.{item_smaller}
 use Rattle.bt_nodes.proofs.Below.{size-listed, size-decorated}
 use Rattle.bt_nodes.proofs.node.Node.+size.Goals as goal
 
@@ -12,16 +12,6 @@ size_to-returns-in-Some g t c = omega (arith, size-decorated (plain c.args.self.
 pub size_to-returns-in-None : goal.size_to-returns-in-None
 size_to-returns-in-None g t c =
     omega (arith, size-listed (plain c.args.self.now) c.in-None.ensures, ap sizes c.listed.ensures)
-
-pub size_to-size_to-requires : goal.size_to-size_to-requires
-size_to-size_to-requires g t c κs within =
-    let small = decorated_smaller (plain c.args.self.now) (plain c.in-Some.child.now) c.in-Some.ensures in
-    (omega (arith, small), within)
-
-pub size_to-sizes_to-requires : goal.size_to-sizes_to-requires
-size_to-sizes_to-requires g t c κs within =
-    let small = listed_smaller (plain c.args.self.now) in
-    (omega (arith, small, ap sizes c.listed.ensures), within)
 
 pub sizes_to-size_to-total-requires : goal.sizes_to-size_to-total-requires
 sizes_to-size_to-total-requires g t c κs within =

@@ -12,7 +12,7 @@ use Rattle.bt_tick.specs.Suspended.{close, unwind}
 use Rattle.bt_tick.specs.Machine.{opened, opens, rest_of, whole_of, with_parts}
 use Rattle.bt_tick.proofs.Nests.{closed_at}
 use Rattle.bt_tick.proofs.Leaving.{none_left}
-use Rattle.bt_tick.proofs.Numbers.{number_within, zero_wrote, star_wrote, tries_wrote, ticks_wrote, tries_lost, ticks_lost, end_star}
+use Rattle.bt_tick.proofs.Numbers.{star_wrote, tries_wrote, ticks_wrote, tries_lost, ticks_lost, end_star}
 use Rattle.bt_tick.proofs.SmallNumbers.{small}
 use Rattle.bt_tick.proofs.Handing.{line_goes, line_stops, star_goes, star_stops, star_runs, tries_passes, ticks_ends, closes, closes_at, rested, only_closed, handed}
 use Rattle.bt_tick.proofs.machine.Machine.ascend.Goals as goal
@@ -25,10 +25,6 @@ advance-requires g c =
       rests = rested (whole_of c.args.self.now) c.args.at (opened c.args.frame) (opens (drop 1 c.args.self.now.stack)) c.args.frame.successes c.args.frame.failures list (omega arith) c.requires.stands c.requires.nested;
       list = list;
     }
-
-pub stop-requires : goal.stop-requires
-stop-requires g c =
-    c.requires.stands.sits
 
 pub returns-in-Success : goal.returns-in-Success
 returns-in-Success g c =
@@ -55,10 +51,6 @@ advance-requires-in-Failure-status g c =
       list = list;
     }
 
-pub stop-requires-in-Success-status : goal.stop-requires-in-Success-status
-stop-requires-in-Success-status g c =
-    c.requires.stands.sits
-
 pub returns-in-Failure-status : goal.returns-in-Failure-status
 returns-in-Failure-status g c =
     record {
@@ -74,10 +66,6 @@ returns-in-Success-status g c =
     let h = handed c.args.self.now c.stop-in-Success-status.new.self c.stop-in-Success-status.result _ _ (opened c.args.frame) c.args.status c.args.self.now.memory c.stop-in-Success-status.ensures.mode c.stop-in-Success-status.ensures.stack c.stop-in-Success-status.ensures.memory c.stop-in-Success-status.ensures.wants c.stop-in-Success-status.ensures.tree
     refl c.requires.nested (λ v s. line_stops v (opened c.args.frame) (with_parts c.args.self.now.memory c.args.self.now.wants.items s) Fallback (plains c.in-Fallback.field-0.items) c.args.status (ap plain c.in-Fallback.is ∙ plain-Fallback c.in-Fallback.field-0) c.in-Success-status.is) in
     record { keeps = h.0; placed = h.1.0; falls = h.1.1; tree = c.stop-in-Success-status.ensures.tree }
-
-pub set-requires : goal.set-requires
-set-requires g c =
-    number_within (whole_of c.args.self.now) (plain c.args.frame.node.now) c.args.self.now.memory c.args.frame.number c.args.self.now.fits c.requires.stands.sits
 
 pub invariant_of-self : goal.invariant_of-self
 invariant_of-self g c =
@@ -106,26 +94,6 @@ returns-then-frame-len g c =
       tree = c.advance-then-frame-len.ensures.tree;
     }
 
-pub set-requires-in-Success-status-2 : goal.set-requires-in-Success-status-2
-set-requires-in-Success-status-2 g c =
-    number_within (whole_of c.args.self.now) (plain c.args.frame.node.now) c.args.self.now.memory c.args.frame.number c.args.self.now.fits c.requires.stands.sits
-
-pub invariant_of-self-in-Success-status-2 : goal.invariant_of-self-in-Success-status-2
-invariant_of-self-in-Success-status-2 g c =
-    record {
-      fits = zero_wrote (whole_of c.args.self.now) (plain c.args.frame.node.now) c.args.self.now.memory _ c.args.frame.number c.args.self.now.fits c.requires.stands.sits c.set-in-Success-status-2.ensures;
-    }
-
-pub set-requires-in-Failure-status-2 : goal.set-requires-in-Failure-status-2
-set-requires-in-Failure-status-2 g c =
-    number_within (whole_of c.args.self.now) (plain c.args.frame.node.now) c.args.self.now.memory c.args.frame.number c.args.self.now.fits c.requires.stands.sits
-
-pub invariant_of-self-in-Failure-status-2 : goal.invariant_of-self-in-Failure-status-2
-invariant_of-self-in-Failure-status-2 g c =
-    record {
-      fits = zero_wrote (whole_of c.args.self.now) (plain c.args.frame.node.now) c.args.self.now.memory _ c.args.frame.number c.args.self.now.fits c.requires.stands.sits c.set-in-Failure-status-2.ensures;
-    }
-
 pub returns-else-frame-len : goal.returns-else-frame-len
 returns-else-frame-len g c =
     let h = handed c.args.self.now c.leave.new.self c.leave.result _ _ (opened c.args.frame) c.args.status (slice_set c.args.self.now.memory c.args.frame.number 0) c.leave.ensures.mode c.leave.ensures.stack (c.leave.ensures.memory ∙ c.set-in-Success-status-2.ensures) c.leave.ensures.wants c.leave.ensures.tree
@@ -133,29 +101,17 @@ returns-else-frame-len g c =
     ∙ ap (λ st. close v (opened c.args.frame) (gives st (with_parts c.args.self.now.memory c.args.self.now.wants.items s))) (sym c.in-Success-status-2.is)) in
     record { keeps = h.0; placed = h.1.0; falls = h.1.1; tree = c.leave.ensures.tree }
 
-pub stop-requires-in-Failure-status-2 : goal.stop-requires-in-Failure-status-2
-stop-requires-in-Failure-status-2 g c =
-    c.requires.stands.sits
-
 pub returns-in-Failure-status-2 : goal.returns-in-Failure-status-2
 returns-in-Failure-status-2 g c =
     let h = handed c.args.self.now c.stop-in-Failure-status-2.new.self c.stop-in-Failure-status-2.result _ _ (opened c.args.frame) c.args.status (slice_set c.args.self.now.memory c.args.frame.number 0) c.stop-in-Failure-status-2.ensures.mode c.stop-in-Failure-status-2.ensures.stack (c.stop-in-Failure-status-2.ensures.memory ∙ c.set-in-Failure-status-2.ensures) c.stop-in-Failure-status-2.ensures.wants c.stop-in-Failure-status-2.ensures.tree
     refl c.requires.nested (λ v s. star_stops v (opened c.args.frame) (with_parts c.args.self.now.memory c.args.self.now.wants.items s) Seq (plains c.in-SeqStar.children.items) c.args.status (ap plain c.in-SeqStar.is ∙ plain-SeqStar c.in-SeqStar.children) c.in-Failure-status-2.is) in
     record { keeps = h.0; placed = h.1.0; falls = h.1.1; tree = c.stop-in-Failure-status-2.ensures.tree }
 
-pub stop-requires-in-Running : goal.stop-requires-in-Running
-stop-requires-in-Running g c =
-    c.requires.stands.sits
-
 pub returns-in-Running : goal.returns-in-Running
 returns-in-Running g c =
     let h = handed c.args.self.now c.stop-in-Running.new.self c.stop-in-Running.result _ _ (opened c.args.frame) c.args.status c.args.self.now.memory c.stop-in-Running.ensures.mode c.stop-in-Running.ensures.stack c.stop-in-Running.ensures.memory c.stop-in-Running.ensures.wants c.stop-in-Running.ensures.tree
     refl c.requires.nested (λ v s. star_runs v (opened c.args.frame) (with_parts c.args.self.now.memory c.args.self.now.wants.items s) Seq (plains c.in-SeqStar.children.items) c.args.status (ap plain c.in-SeqStar.is ∙ plain-SeqStar c.in-SeqStar.children) c.in-Running.is) in
     record { keeps = h.0; placed = h.1.0; falls = h.1.1; tree = c.stop-in-Running.ensures.tree }
-
-pub set-requires-then-frame-len-2 : goal.set-requires-then-frame-len-2
-set-requires-then-frame-len-2 g c =
-    number_within (whole_of c.args.self.now) (plain c.args.frame.node.now) c.args.self.now.memory c.args.frame.number c.args.self.now.fits c.requires.stands.sits
 
 pub invariant_of-self-then-frame-len-2 : goal.invariant_of-self-then-frame-len-2
 invariant_of-self-then-frame-len-2 g c =
@@ -184,26 +140,6 @@ returns-then-frame-len-2 g c =
       tree = c.advance-then-frame-len-2.ensures.tree;
     }
 
-pub set-requires-in-Failure-status-3 : goal.set-requires-in-Failure-status-3
-set-requires-in-Failure-status-3 g c =
-    number_within (whole_of c.args.self.now) (plain c.args.frame.node.now) c.args.self.now.memory c.args.frame.number c.args.self.now.fits c.requires.stands.sits
-
-pub invariant_of-self-in-Failure-status-3 : goal.invariant_of-self-in-Failure-status-3
-invariant_of-self-in-Failure-status-3 g c =
-    record {
-      fits = zero_wrote (whole_of c.args.self.now) (plain c.args.frame.node.now) c.args.self.now.memory _ c.args.frame.number c.args.self.now.fits c.requires.stands.sits c.set-in-Failure-status-3.ensures;
-    }
-
-pub set-requires-in-Success-status-3 : goal.set-requires-in-Success-status-3
-set-requires-in-Success-status-3 g c =
-    number_within (whole_of c.args.self.now) (plain c.args.frame.node.now) c.args.self.now.memory c.args.frame.number c.args.self.now.fits c.requires.stands.sits
-
-pub invariant_of-self-in-Success-status-3 : goal.invariant_of-self-in-Success-status-3
-invariant_of-self-in-Success-status-3 g c =
-    record {
-      fits = zero_wrote (whole_of c.args.self.now) (plain c.args.frame.node.now) c.args.self.now.memory _ c.args.frame.number c.args.self.now.fits c.requires.stands.sits c.set-in-Success-status-3.ensures;
-    }
-
 pub returns-else-frame-len-2 : goal.returns-else-frame-len-2
 returns-else-frame-len-2 g c =
     let h = handed c.args.self.now c.leave-in-Failure-status-3.new.self c.leave-in-Failure-status-3.result _ _ (opened c.args.frame) c.args.status (slice_set c.args.self.now.memory c.args.frame.number 0) c.leave-in-Failure-status-3.ensures.mode c.leave-in-Failure-status-3.ensures.stack (c.leave-in-Failure-status-3.ensures.memory ∙ c.set-in-Failure-status-3.ensures) c.leave-in-Failure-status-3.ensures.wants c.leave-in-Failure-status-3.ensures.tree
@@ -211,19 +147,11 @@ returns-else-frame-len-2 g c =
     ∙ ap (λ st. close v (opened c.args.frame) (gives st (with_parts c.args.self.now.memory c.args.self.now.wants.items s))) (sym c.in-Failure-status-3.is)) in
     record { keeps = h.0; placed = h.1.0; falls = h.1.1; tree = c.leave-in-Failure-status-3.ensures.tree }
 
-pub stop-requires-in-Success-status-3 : goal.stop-requires-in-Success-status-3
-stop-requires-in-Success-status-3 g c =
-    c.requires.stands.sits
-
 pub returns-in-Success-status-3 : goal.returns-in-Success-status-3
 returns-in-Success-status-3 g c =
     let h = handed c.args.self.now c.stop-in-Success-status-3.new.self c.stop-in-Success-status-3.result _ _ (opened c.args.frame) c.args.status (slice_set c.args.self.now.memory c.args.frame.number 0) c.stop-in-Success-status-3.ensures.mode c.stop-in-Success-status-3.ensures.stack (c.stop-in-Success-status-3.ensures.memory ∙ c.set-in-Success-status-3.ensures) c.stop-in-Success-status-3.ensures.wants c.stop-in-Success-status-3.ensures.tree
     refl c.requires.nested (λ v s. star_stops v (opened c.args.frame) (with_parts c.args.self.now.memory c.args.self.now.wants.items s) Fallback (plains c.in-FallbackStar.children.items) c.args.status (ap plain c.in-FallbackStar.is ∙ plain-FallbackStar c.in-FallbackStar.children) c.in-Success-status-3.is) in
     record { keeps = h.0; placed = h.1.0; falls = h.1.1; tree = c.stop-in-Success-status-3.ensures.tree }
-
-pub stop-requires-in-Running-status : goal.stop-requires-in-Running-status
-stop-requires-in-Running-status g c =
-    c.requires.stands.sits
 
 pub returns-in-Running-status : goal.returns-in-Running-status
 returns-in-Running-status g c =
@@ -236,10 +164,6 @@ returns-in-Not g c =
     let h = handed c.args.self.now c.leave-in-Not.new.self c.leave-in-Not.result _ _ (opened c.args.frame) c.args.status c.args.self.now.memory c.leave-in-Not.ensures.mode c.leave-in-Not.ensures.stack c.leave-in-Not.ensures.memory c.leave-in-Not.ensures.wants c.leave-in-Not.ensures.tree
     (only_closed (whole_of c.args.self.now) c.args.at _ (opened c.args.frame) (plain c.in-Not.field-0.value) (ap children_of (ap plain c.in-Not.is ∙ plain-Not c.in-Not.field-0)) c.requires.stands) c.requires.nested (λ v s. c.opposite.ensures (with_parts c.args.self.now.memory c.args.self.now.wants.items s) ∙ closes v (opened c.args.frame) (with_parts c.args.self.now.memory c.args.self.now.wants.items s) (Not (plain c.in-Not.field-0.value)) (gives c.args.status (with_parts c.args.self.now.memory c.args.self.now.wants.items s)) (ap plain c.in-Not.is ∙ plain-Not c.in-Not.field-0)) in
     record { keeps = h.0; placed = h.1.0; falls = h.1.1; tree = c.leave-in-Not.ensures.tree }
-
-pub set-requires-in-Failure-status-4 : goal.set-requires-in-Failure-status-4
-set-requires-in-Failure-status-4 g c =
-    number_within (whole_of c.args.self.now) (plain c.args.frame.node.now) c.args.self.now.memory c.args.frame.number c.args.self.now.fits c.requires.stands.sits
 
 pub overflow_add-frame : goal.overflow_add-frame
 overflow_add-frame g c =
@@ -264,10 +188,6 @@ returns-in-Success-status-4 g c =
     (only_closed (whole_of c.args.self.now) c.args.at _ (opened c.args.frame) (plain c.in-Tries.field-1.value) (ap children_of (ap plain c.in-Tries.is ∙ plain-Tries c.in-Tries.most c.in-Tries.field-1)) c.requires.stands) c.requires.nested (λ v s. tries_passes v (opened c.args.frame) (with_parts c.args.self.now.memory c.args.self.now.wants.items s) c.in-Tries.most (plain c.in-Tries.field-1.value) c.args.status (ap plain c.in-Tries.is ∙ plain-Tries c.in-Tries.most c.in-Tries.field-1) c.in-Success-status-4.is) in
     record { keeps = h.0; placed = h.1.0; falls = h.1.1; tree = c.leave-in-Success-status-4.ensures.tree }
 
-pub set-requires-in-Running-status-2 : goal.set-requires-in-Running-status-2
-set-requires-in-Running-status-2 g c =
-    number_within (whole_of c.args.self.now) (plain c.args.frame.node.now) c.args.self.now.memory c.args.frame.number c.args.self.now.fits c.requires.stands.sits
-
 pub overflow_add-frame-in-Running-status-2 : goal.overflow_add-frame-in-Running-status-2
 overflow_add-frame-in-Running-status-2 g c =
     omega (arith, small c.args.self.now.tree.now (plain c.args.frame.node.now) c.args.frame.number _ (c.args.frame.failures + 1) _ (ap bounds (ap plain c.in-Ticks.is ∙ plain-Ticks c.in-Ticks.limit c.in-Ticks.field-1)) c.requires.stands.sits (omega (arith, ticks_lost _ _ _ _ (opened c.args.frame) c.in-Ticks.limit _ c.requires.stands (ap plain c.in-Ticks.is ∙ plain-Ticks c.in-Ticks.limit c.in-Ticks.field-1))))
@@ -284,16 +204,6 @@ returns-in-Running-status-2 g c =
     let h = handed c.args.self.now c.leave-in-Running-status-2.new.self c.leave-in-Running-status-2.result _ _ (opened c.args.frame) c.args.status (slice_set c.args.self.now.memory c.args.frame.number (c.args.frame.failures + 1)) c.leave-in-Running-status-2.ensures.mode c.leave-in-Running-status-2.ensures.stack (c.leave-in-Running-status-2.ensures.memory ∙ c.set-in-Running-status-2.ensures) c.leave-in-Running-status-2.ensures.wants c.leave-in-Running-status-2.ensures.tree
     (only_closed (whole_of c.args.self.now) c.args.at _ (opened c.args.frame) (plain c.in-Ticks.field-1.value) (ap children_of (ap plain c.in-Ticks.is ∙ plain-Ticks c.in-Ticks.limit c.in-Ticks.field-1)) c.requires.stands) c.requires.nested (λ v s. closes_at v (opened c.args.frame) (with_parts c.args.self.now.memory c.args.self.now.wants.items s) (Ticks c.in-Ticks.limit (plain c.in-Ticks.field-1.value)) c.args.status Running _ (ap plain c.in-Ticks.is ∙ plain-Ticks c.in-Ticks.limit c.in-Ticks.field-1) c.in-Running-status-2.is refl) in
     record { keeps = h.0; placed = h.1.0; falls = h.1.1; tree = c.leave-in-Running-status-2.ensures.tree }
-
-pub set-requires-in-Success-status-5 : goal.set-requires-in-Success-status-5
-set-requires-in-Success-status-5 g c =
-    number_within (whole_of c.args.self.now) (plain c.args.frame.node.now) c.args.self.now.memory c.args.frame.number c.args.self.now.fits c.requires.stands.sits
-
-pub invariant_of-self-in-Success-status-5 : goal.invariant_of-self-in-Success-status-5
-invariant_of-self-in-Success-status-5 g c =
-    record {
-      fits = zero_wrote (whole_of c.args.self.now) (plain c.args.frame.node.now) c.args.self.now.memory _ c.args.frame.number c.args.self.now.fits c.requires.stands.sits c.set-in-Success-status-5.ensures;
-    }
 
 pub returns-in-Success-status-5 : goal.returns-in-Success-status-5
 returns-in-Success-status-5 g c =

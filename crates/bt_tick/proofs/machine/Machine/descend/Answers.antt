@@ -13,18 +13,9 @@ use Rattle.bt_tick.specs.Places.{limit_of, weight_all}
 use Rattle.bt_tick.specs.Views.{view_of}
 use Rattle.bt_tick.specs.Machine.{opened, opens, whole_of, with_parts}
 use Rattle.bt_tick.proofs.Trees.{size-children}
-use Rattle.bt_tick.proofs.Nests.{room}
-use Rattle.bt_tick.proofs.Numbers.{number_within, zero_wrote}
 use Rattle.bt_tick.proofs.Opening.{if_ok, first_rests, only_stands, placed_by}
-use Rattle.bt_tick.proofs.SmallNumbers.{number_small}
-use Rattle.bt_tick.proofs.Beginning.{plain-Wait, plain-Take, plain-Drop, plain-Give, line_begins, not_begins, tries_begins, tries_over, ticks_begins, ticks_over, takes, takes_none, ticks_as, drops, drops_none, hands_over, answered_nested, answered_falls, number_below, wanted_keeps}
+use Rattle.bt_tick.proofs.Beginning.{plain-Wait, plain-Take, plain-Drop, plain-Give, line_begins, not_begins, tries_begins, tries_over, ticks_begins, ticks_over, takes, ticks_as, drops, hands_over, answered_nested, answered_falls, wanted_keeps}
 use Rattle.bt_tick.proofs.machine.Machine.descend.Goals as goal
-
-pub overflow_cast-frame : goal.overflow_cast-frame
-overflow_cast-frame g c = omega (arith, number_small c.args.self.now.tree.now (plain c.args.node.now) c.args.number c.requires.sits)
-
-pub overflow_add-after : goal.overflow_add-after
-overflow_add-after g c = omega (arith, room c.args.self.now.tree.now (plain c.args.node.now) c.args.number c.requires.sits)
 
 pub open_list-requires : goal.open_list-requires
 open_list-requires g c =
@@ -110,14 +101,6 @@ returns-in-Not g c =
       tree = c.open_only.ensures.tree;
     }
 
-pub number-failures-requires : goal.number-failures-requires
-number-failures-requires g c =
-    number_within (whole_of c.args.self.now) (plain c.args.node.now) c.args.self.now.memory c.args.number c.args.self.now.fits c.requires.sits
-
-pub number_after-requires : goal.number_after-requires
-number_after-requires g c =
-    number_below (whole_of c.args.self.now) (plain c.args.node.now) c.args.number c.requires.sits
-
 pub returns-then-failures-most : goal.returns-then-failures-most
 returns-then-failures-most g c =
     record {
@@ -146,22 +129,6 @@ returns-else-failures-most g c =
       falls = c.open_only-in-Tries.ensures.falls;
       tree = c.open_only-in-Tries.ensures.tree;
     }
-
-pub number-past-requires : goal.number-past-requires
-number-past-requires g c =
-    number_within (whole_of c.args.self.now) (plain c.args.node.now) c.args.self.now.memory c.args.number c.args.self.now.fits c.requires.sits
-
-pub set-requires : goal.set-requires
-set-requires g c =
-    number_within (whole_of c.args.self.now) (plain c.args.node.now) c.args.self.now.memory c.args.number c.args.self.now.fits c.requires.sits
-
-pub invariant_of-self : goal.invariant_of-self
-invariant_of-self g c =
-    record { fits = zero_wrote (whole_of c.args.self.now) (plain c.args.node.now) c.args.self.now.memory _ c.args.number c.args.self.now.fits c.requires.sits c.set.ensures }
-
-pub number_after-requires-then-past-most : goal.number_after-requires-then-past-most
-number_after-requires-then-past-most g c =
-    number_below (whole_of c.args.self.now) (plain c.args.node.now) c.args.number c.requires.sits
 
 pub returns-then-past-most : goal.returns-then-past-most
 returns-then-past-most g c =
@@ -202,29 +169,11 @@ returns-in-Wait-clause-keeps g c s =
     ∙ ap (λ w. unwind v (opens old.stack) (gives st (with_parts now.memory w.items s))) c.wait-status.ensures.wants
     ∙ ap (unwind v (opens old.stack)) (c.wait-status.ensures.ticks v s ∙ ticks_as v (plain c.args.node.now) c.args.number (with_parts old.memory old.wants.items s) (Wait c.in-Wait.most) (ap plain c.in-Wait.is ∙ plain-Wait _ c.in-Wait.most))
 
-pub returns-then-carries : goal.returns-then-carries
-returns-then-carries g c =
-    record {
-      keeps = λ s. ap (unwind (view_of c.args.view.now) (opens c.args.self.now.stack)) (takes_none (view_of c.args.view.now) (plain c.args.node.now) c.args.number (with_parts c.args.self.now.memory c.args.self.now.wants.items s) (ap plain c.in-Take.is ∙ plain-Take _) c.if-carries.ensures);
-      placed = placed_by c.args.self.now _ _ c.args.self.now.stack refl refl (answered_nested (whole_of c.args.self.now) _ c.args.number (plain c.args.node.now) (opens c.args.self.now.stack) (omega (arith, ap size (ap plain c.in-Take.is ∙ plain-Take _))) c.requires.nested) tt;
-      falls = answered_falls (plain c.args.node.now) (weight_all (opens c.args.self.now.stack));
-      tree = refl;
-    }
-
 pub returns-then-not-is_on_item : goal.returns-then-not-is_on_item
 returns-then-not-is_on_item g c =
     record {
       keeps = λ s. ap (unwind (view_of c.args.view.now) (opens c.args.self.now.stack)) (takes (view_of c.args.view.now) (plain c.args.node.now) c.args.number (with_parts c.args.self.now.memory c.args.self.now.wants.items s) false false (ap plain c.in-Take.is ∙ plain-Take _) c.if-carries.ensures c.if-not-is_on_item.ensures);
       placed = placed_by c.args.self.now _ _ c.args.self.now.stack refl refl (answered_nested (whole_of c.args.self.now) _ c.args.number (plain c.args.node.now) (opens c.args.self.now.stack) (omega (arith, ap size (ap plain c.in-Take.is ∙ plain-Take _))) c.requires.nested) tt;
-      falls = answered_falls (plain c.args.node.now) (weight_all (opens c.args.self.now.stack));
-      tree = refl;
-    }
-
-pub returns-then-not-carries : goal.returns-then-not-carries
-returns-then-not-carries g c =
-    record {
-      keeps = λ s. ap (unwind (view_of c.args.view.now) (opens c.args.self.now.stack)) (drops_none (view_of c.args.view.now) (plain c.args.node.now) c.args.number (with_parts c.args.self.now.memory c.args.self.now.wants.items s) (ap plain c.in-Drop.is ∙ plain-Drop _) c.if-not-carries.ensures);
-      placed = placed_by c.args.self.now _ _ c.args.self.now.stack refl refl (answered_nested (whole_of c.args.self.now) _ c.args.number (plain c.args.node.now) (opens c.args.self.now.stack) (omega (arith, ap size (ap plain c.in-Drop.is ∙ plain-Drop _))) c.requires.nested) tt;
       falls = answered_falls (plain c.args.node.now) (weight_all (opens c.args.self.now.stack));
       tree = refl;
     }

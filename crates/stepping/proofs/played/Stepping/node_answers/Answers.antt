@@ -1,17 +1,9 @@
-use Rattle.std.proofs.Common.{◌∙◌, ap, sym}
 use Rattle.std.specs.Arc.{arc_value}
-use Rattle.grid_world.specs.Grid.{Grid}
-use Rattle.grid_world.specs.Ground.{emptied}
-use Rattle.game_rules.specs.Play.{play}
 use Rattle.game_session.specs.Levels.{value_of}
 use Rattle.game_session.specs.Sessions.{game_of}
-use Rattle.frame_parts.specs.Distances.{KnownOf}
-use Rattle.game_rules.proofs.Ground.{ground_is, play_ground}
+use Rattle.stepping.proofs.Asked.{ground_under}
 use Rattle.stepping.proofs.played.Stepping.node_answers.Goals as goal
 
 pub node_answers-requires-clause-ground : goal.node_answers-requires-clause-ground
 node_answers-requires-clause-ground c =
-    let x = c.self.inside in
-    let g = game_of (value_of (arc_value x.level)) x.changes.items in
-    ap (λ (k : KnownOf). emptied k.ground) c.in_ok-known.ensures ∙ ap (λ (w : Grid). emptied w) c.self.invariant.1 ∙ ground_is g.world (play g x.frame).world (play_ground g x.frame)
-    ∙ sym (ap (λ (w : Grid). emptied w) c.self.invariant.0.world_is)
+    ground_under _ _ c.in_ok-known.known _ c.args.signals c.in_ok-known.ensures c.self.invariant.1 c.self.invariant.0.ground
