@@ -14,8 +14,8 @@ mod ticking;
 
 pub use board_step::BoardStep;
 pub use frame_state::{
-    BandMark, BandOut, DrawTask, FrameParams, FrameStart, Gathering, LogicStep, LogicTask, NextFrame,
-    Slots, Thought, Turn, Way,
+    BandMark, BandOut, DrawTask, FrameParams, FrameStart, Gathering, LogicStep, LogicTask,
+    NextFrame, Slots, Thought, Turn, Way,
 };
 pub use parked::Parked;
 pub use path_task::PathTask;

@@ -6,4 +6,4 @@ use Rattle.stepping.proofs.played.Stepping.node_answers.Goals as goal
 
 pub node_answers-requires-clause-ground : goal.node_answers-requires-clause-ground
 node_answers-requires-clause-ground c =
-    ground_under _ _ c.in_ok-known.known _ c.args.signals c.in_ok-known.ensures c.self.invariant.1 c.self.invariant.0.ground
+    ground_under _ c.self.inside.world c.in_ok-known.known _ c.args.signals c.in_ok-known.ensures c.self.invariant.1 c.self.invariant.0.ground
