@@ -201,7 +201,7 @@ pub fn print<'t, W: Write, L: RunLedger, M: Ledger, D: Ledger, R: Wait + Clock>(
 {
     let last = settings.frames();
     let mut rest = Rest::new();
-    let mut trials = Trials::new(shared.waiting.most_awake());
+    let mut trials = Trials::new();
     for done in 0..last {
         let text = match printer.next_text(rt, alloc, session, shared, done + 1, &mut rest, emits) {
             Ok(text) => text,

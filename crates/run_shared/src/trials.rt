@@ -17,8 +17,8 @@ const FASTER: u64 = 97;
 
 const AS_FAST: u64 = 103;
 
-// How many slices come between two trials, at first and at most; the first comes behind two. A trial that fails makes it four times as
-// many, so that trials are a small part of a run.
+// How many slices come between two trials, at first and at most; the first trial comes behind one. A trial that fails makes it four
+// times as many, so that trials are a small part of a run.
 const PAUSE: u64 = 4;
 
 const LONGEST_PAUSE: u64 = 256;
@@ -27,7 +27,7 @@ const LONGEST_PAUSE: u64 = 256;
 ///
 /// More workers do more where jobs are long. Where jobs are brief fewer do: each event moves the board to another processor, and to
 /// wake a thread takes longer than many jobs. What holds depends on the level, on the machine and on what else it does. So a run
-/// begins with all workers awake, and now and then plays a slice with half as many, or with twice.
+/// begins with one worker awake, and now and then plays a slice with twice as many, or with half.
 #[derive(Drop)]
 pub struct Trials {
     // When the slice began, at a shown frame; none before the first.
@@ -47,16 +47,16 @@ pub struct Trials {
 }
 
 impl Trials {
-    /// A run begins, with so many workers awake.
-    pub fn new(awake: u64) -> Trials {
+    /// A run begins, with one worker awake.
+    pub fn new() -> Trials {
         Trials {
             began: None,
             frames: 0,
-            kept: awake,
-            awake,
+            kept: 1,
+            awake: 1,
             usual: u64::MAX,
-            is_upwards: false,
-            left: 2,
+            is_upwards: true,
+            left: 1,
             pause: PAUSE,
         }
     }

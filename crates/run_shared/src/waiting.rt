@@ -57,7 +57,7 @@ impl Drop for Waiting {
 }
 
 impl Waiting {
-    /// Nobody waits yet of so many workers, of which as many are to be awake as can be.
+    /// Nobody waits yet of so many workers, of which one is to be awake.
     pub fn new<R: Threads>(rt: &R, workers: u32) -> Waiting {
         let workers_count = u64::from(workers);
         let most_awake = match available_parallelism(rt) {
@@ -71,7 +71,7 @@ impl Waiting {
             printer: Parking::new(),
             workers_count,
             most_awake,
-            wanted: CachePadded::new(AtomicU64::new(most_awake)),
+            wanted: CachePadded::new(AtomicU64::new(1)),
             shown: CachePadded::new(AtomicU64::new(0)),
         }
     }
