@@ -7,7 +7,7 @@ use std::thread::Threads;
 use std::time::Clock;
 use task_board::Settings;
 
-const FRAMES: u32 = 1000;
+const FRAMES: u32 = 100;
 
 // Of a frame's more than fifty events a worker that has some part in it makes one at least.
 const SOME: u64 = 100;

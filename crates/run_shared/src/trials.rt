@@ -17,8 +17,8 @@ const FASTER: u64 = 97;
 
 const AS_FAST: u64 = 103;
 
-// How many slices come between two trials, at first and at most. A trial that fails makes it four times as many, so that trials are
-// a small part of a run.
+// How many slices come between two trials, at first and at most; the first trial comes behind one. A trial that fails makes it four
+// times as many, so that trials are a small part of a run.
 const PAUSE: u64 = 4;
 
 const LONGEST_PAUSE: u64 = 256;
@@ -56,7 +56,7 @@ impl Trials {
             awake: 1,
             usual: u64::MAX,
             is_upwards: true,
-            left: PAUSE,
+            left: 1,
             pause: PAUSE,
         }
     }
