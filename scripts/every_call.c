@@ -1,35 +1,21 @@
-/* Each call and macro of btworld.h once, with null beside each length of 0, for compilers of each standard of C and C++.
-   scripts/try_library compiles it, with all warnings, and the header alone. */
+/* What btworld.h has, once, for compilers of each standard of C and C++. scripts/try_library puts each call in the place of CALLS, with what
+   the header's declaration wants: handles that are closed, null beside each length of 0, and room for what a call writes, of the call's
+   own if it takes a level. Each has to fail: a call that takes none answers CLOSED and writes nothing. */
 #include "btworld.h"
 #include "btworld.h"
+#include <string.h>
 
-uint32_t all_of(btworld_game *game, const btworld_game *other);
+enum { ARGUMENTS = 16 };
+static uint64_t kept[ARGUMENTS][2], sevens[ARGUMENTS][2], own[ARGUMENTS][2];
 
-uint32_t all_of(btworld_game *game, const btworld_game *other) {
+int main(void) {
     uint32_t (*check)(const uint8_t *, size_t) = btworld_check;
-    btworld_game copy = BTWORLD_CLOSED_GAME;
-    btworld_agent_state agent;
-    btworld_cell_state cell;
-    BTWORLD_SINCE_C99 bool same = false;
-    uint64_t digest, event;
-    uint32_t shown, scripted, frame, width, height, agents, found = btworld_version() != BTWORLD_VERSION || btworld_status_text(BTWORLD_OK) == NULL;
-    size_t size;
-    found += check(btworld_some(NULL), 0) + btworld_check(NULL, 0);
-    found += btworld_fault_text(NULL, 0, NULL, 0, NULL, 0, &size);
-    found += btworld_open(game, NULL, 0) + btworld_open_script(game, NULL, 0, NULL, 0) + btworld_load(game, NULL, 0, NULL, 0);
-    found += btworld_step(game, 1) + btworld_step_script(game);
-    found += btworld_text(other, NULL, 0, &size);
-    found += btworld_agent(other, 0, &agent) + (agent.status == BTWORLD_RUNNING);
-    found += btworld_map(other, &width, &height, &agents);
-    found += btworld_cell(other, 0, 0, &cell) + (cell.agent == BTWORLD_NOBODY);
-    found += btworld_frame(other, &frame) + btworld_digest(other, &digest) + btworld_level_digest(other, &digest);
-    found += btworld_state(other, NULL, 0, &size);
-    found += btworld_memory(other, 0, NULL, 0, &size) + btworld_script(other, NULL, 0, &size);
-    found += btworld_nodes(other, 1, 0, NULL, 0, &size) + BTWORLD_NOT_TICKED;
-    found += btworld_signals(other, &shown, &scripted) + (shown == scripted);
-    found += btworld_fork(other, &copy) + btworld_same(other, &copy, &same);
-    btworld_close(&copy);
-    found += btworld_replay(NULL, 0, NULL, 0, NULL, 0, NULL, 0, &size, &frame);
-    found += btworld_log_frames(NULL, 0, NULL, 0, NULL, 0, &frame, &event);
-    return found + btworld_complete(NULL, 0, NULL, 0, NULL, 0, NULL, 0, &size);
+    btworld_game closed = BTWORLD_CLOSED_GAME, other = BTWORLD_CLOSED_GAME;
+    const uint32_t answers[] = {BTWORLD_SUCCESS, BTWORLD_FAILURE, BTWORLD_RUNNING, BTWORLD_NOT_TICKED};
+    uint32_t wrong = btworld_version() != BTWORLD_VERSION || btworld_status_text(BTWORLD_OK) == NULL;
+    wrong += check(btworld_some(NULL), 0) == BTWORLD_OK || answers[3] == BTWORLD_NOBODY;
+    memset(kept, 7, sizeof kept);
+    memset(sevens, 7, sizeof sevens);
+    CALLS
+    return wrong != 0 || closed.is_open || other.is_open || memcmp(kept, sevens, sizeof kept) != 0;
 }

@@ -212,8 +212,8 @@ int main(int argc, char **argv) {
     btworld_game game = BTWORLD_CLOSED_GAME, twin = BTWORLD_CLOSED_GAME, copy = BTWORLD_CLOSED_GAME;
     btworld_agent_state agent, was = {7, 7, true, 7};
     btworld_cell_state cell = {7, true, 7};
-    uint32_t status, frame, width = 7, height = 7, agents = 7;
-    uint64_t digest = 7, twins;
+    uint32_t status, frame, width, height, agents;
+    uint64_t digest, twins;
     size_t size, length, filled;
     bool same;
     FILE *file = argc == 3 ? fopen(argv[1], "rb") : NULL;
@@ -229,23 +229,15 @@ int main(int argc, char **argv) {
     LOOK(btworld_fault_text(NULL, 0, NULL, 0, NULL, 0, &length) == BTWORLD_SHORT && length == 11);
     LOOK(btworld_fault_text(level, size, NULL, 0, NULL, 0, &length) == BTWORLD_OK && length == 0);
     LOOK(btworld_version() == BTWORLD_VERSION);
-    LOOK(btworld_map(&copy, &width, &height, &agents) == BTWORLD_CLOSED && width == 7 && height == 7 && agents == 7);
-    LOOK(btworld_cell(&copy, 0, 0, &cell) == BTWORLD_CLOSED && cell.mark == 7 && cell.item && cell.agent == 7);
     LOOK(btworld_map(&game, &width, &height, &agents) == BTWORLD_OK && width * height > 0 && agents > 0);
     LOOK(btworld_cell(&game, width - 1, height - 1, &cell) == BTWORLD_OK && cell.mark != 7);
     cell.mark = 7;
     LOOK(btworld_cell(&game, width, height - 1, &cell) == BTWORLD_NO_CELL && cell.mark == 7);
     LOOK(btworld_cell(&game, width - 1, UINT32_MAX, &cell) == BTWORLD_NO_CELL && cell.mark == 7);
     LOOK(btworld_text(&game, text, ROOM, &length) == BTWORLD_NO_FRAME && btworld_agent(&game, 0, &agent) == BTWORLD_NO_FRAME);
-    memset(text, 1, ROOM);
-    length = 7;
-    LOOK(btworld_state(&copy, text, ROOM, &length) == BTWORLD_CLOSED && length == 7 && text[0] == 1);
-    LOOK(btworld_level_digest(&copy, &digest) == BTWORLD_CLOSED && digest == 7);
     look_at_state(&game, &twin, size);
     look_back(&game, size, 0, agents, 0);
     look_at_late_changes();
-    LOOK(btworld_script(&copy, text, ROOM, &length) == BTWORLD_CLOSED && btworld_signals(&copy, &width, &height) == BTWORLD_CLOSED);
-    LOOK(btworld_memory(&copy, 0, NULL, 0, &length) == BTWORLD_CLOSED && btworld_nodes(&copy, 0, 0, NULL, 0, &length) == BTWORLD_CLOSED);
     for (uint32_t f = 1; f <= (uint32_t)atoi(argv[2]); f++) {
         uint32_t on = f * 2654435761u >> 6;
         uint8_t will[26][255];

@@ -7,16 +7,16 @@ use Rattle.game_rules.specs.Game.{Game}
 use Rattle.game_rules.specs.Text.{texts}
 use Rattle.level_text.specs.Games.{spelled_game}
 use Rattle.words.specs.declared.request.Words.{Words}
-use Rattle.words.specs.declared.request.Words.TheVariants.{Piped, Play, Replay, Check, Explain, Digest, State, Why, Complete}
-use Rattle.words.specs.Program.{IsReading, AsksToPlay, AsksToReplay, AsksToExplain, AsksToDigest, AsksForState, AsksWhy, AsksToComplete}
-use Rattle.words.proofs.Asked.{read_as_play, read_as_replay, read_as_explain, read_as_digest, read_as_state, read_as_why, read_as_complete}
+use Rattle.words.specs.declared.request.Words.TheVariants.{Piped, Play, Replay, Check, Explain, Digest, State, Why, Complete, Record}
+use Rattle.words.specs.Program.{IsReading, AsksToPlay, AsksToReplay, AsksToExplain, AsksToDigest, AsksForState, AsksWhy, AsksToComplete, AsksToRecord}
+use Rattle.words.proofs.Asked.{read_as_play, read_as_replay, read_as_explain, read_as_digest, read_as_state, read_as_why, read_as_complete, read_as_record}
 use Rattle.words.specs.declared.program_fault.Fault.{Fault}
 use Rattle.words.specs.Faults.{status_in}
 use Rattle.words.proofs.Statuses.{ok_at_zero}
-use Rattle.desync_commands.specs.Texts.{digests_text}
-use Rattle.desync_commands.specs.Why.{why_text, agent_of_letter}
-use Rattle.desync_commands.specs.Written.{WritesSome, WritesPart, CompletesSome, CompletesSomePart}
-use Rattle.desync_commands.proofs.Written.{some_part, writes_part, completes_part}
+use Rattle.commands.specs.Texts.{digests_text}
+use Rattle.commands.specs.Why.{why_text, agent_of_letter}
+use Rattle.commands.specs.Written.{WritesSome, WritesPart, CompletesSome, CompletesSomePart}
+use Rattle.commands.proofs.Written.{some_part, writes_part, completes_part}
 use Rattle.stepping.specs.StateText.{scripted_state_text}
 use Rattle.commands.specs.Doing.{PlaysSome, PlaysPart, ReplaysSome, ReplaysPart, ExplainsSome, AsksNoReason, IsDone, IsPartDone}
 use Rattle.commands.specs.Replaying.{Shows, ShowsPart}
@@ -62,6 +62,7 @@ done_in_part old new (Digest level frames script) h = writes_part (λ g. digests
 done_in_part old new (State level frame script) h = writes_part (λ g. scripted_state_text g frame) old new h
 done_in_part old new (Why level frame agent script) h = writes_part (λ g. why_text g frame (agent_of_letter (string_bytes agent))) old new h
 done_in_part old new (Complete level log whole script) h = completes_part old new h
+done_in_part old new (Record level journal settings script) h = plays_part old new settings.frames h
 
 -- done or not, it is a part
 pub part_of : (r : Result (⊤) Fault) (old new : Option (List ℕ)) (w : Words) → OnOk r (IsDone old new w) → OnErr r (IsPartDone old new w)
@@ -84,6 +85,7 @@ asks_no_reason (Digest level frames script) other = tt
 asks_no_reason (State level frame script) other = tt
 asks_no_reason (Why level frame agent script) other = tt
 asks_no_reason (Complete level log whole script) other = tt
+asks_no_reason (Record level journal settings script) other = tt
 
 -- ---- by the words
 
@@ -151,3 +153,13 @@ pub completed_in_part : (old new : Option (List ℕ)) (words : List (List ℕ)) 
     → CompletesSomePart old new
 completed_in_part old new words w reading asks done =
     read_as_complete words w (IsPartDone old new) (CompletesSomePart old new) reading asks (λ level log whole script h. h) done
+
+pub recorded : (old new : Option (List ℕ)) (words : List (List ℕ)) (w : Words) (n : ℕ) → IsReading words w → AsksToRecord words n → IsDone old new w
+    → PlaysSome old new n
+recorded old new words w n reading asks done =
+    read_as_record words w n (IsDone old new) (PlaysSome old new) reading asks (λ level journal settings script h. h) done
+
+pub recorded_in_part : (old new : Option (List ℕ)) (words : List (List ℕ)) (w : Words) (n : ℕ) → IsReading words w → AsksToRecord words n → IsPartDone old new w
+    → PlaysPart old new n
+recorded_in_part old new words w n reading asks done =
+    read_as_record words w n (IsPartDone old new) (PlaysPart old new) reading asks (λ level journal settings script h. h) done

@@ -3,3 +3,13 @@ pub mod Explained
 pub mod Untouched
 pub mod Shown
 pub mod Played
+pub mod Written
+pub mod Stepped
+pub mod Compared
+pub mod Completed
+pub mod Lines
+pub mod NodeLines
+pub mod WhyTold
+pub mod Heads
+pub mod Recorded
+pub mod CutJournals

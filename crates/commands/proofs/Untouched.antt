@@ -7,7 +7,7 @@ use Rattle.game_rules.specs.Text.{texts}
 use Rattle.byte_streams.specs.Streams.{AppendsPart}
 use Rattle.level_text.specs.Games.{spelled_game}
 
-kept : (a : Option (List ℕ)) → Keeps a a
+pub kept : (a : Option (List ℕ)) → Keeps a a
 kept None = tt
 kept (Some xs) = refl
 

@@ -7,10 +7,10 @@ use Rattle.level_text.specs.Games.{spelled_game}
 use Rattle.words.specs.Program.{IsReading, IsNoHelp, IsAskedFor}
 use Rattle.words.specs.declared.fault.WordsFault.{WordsFault}
 use Rattle.words.specs.declared.request.Words.{Words}
-use Rattle.words.specs.declared.request.Words.TheVariants.{Piped, Play, Replay, Check, Explain, Digest, State, Why, Complete}
-use Rattle.desync_commands.specs.Texts.{digests_text}
-use Rattle.desync_commands.specs.Why.{why_text, agent_of_letter}
-use Rattle.desync_commands.specs.Written.{WritesSome, WritesPart, CompletesSome, CompletesSomePart}
+use Rattle.words.specs.declared.request.Words.TheVariants.{Piped, Play, Replay, Check, Explain, Digest, State, Why, Complete, Record}
+use Rattle.commands.specs.Texts.{digests_text}
+use Rattle.commands.specs.Why.{why_text, agent_of_letter}
+use Rattle.commands.specs.Written.{WritesSome, WritesPart, CompletesSome, CompletesSomePart}
 use Rattle.stepping.specs.StateText.{scripted_state_text}
 use Rattle.commands.specs.Explaining.{IsFaultless}
 use Rattle.commands.specs.Replaying.{Shows, ShowsPart}
@@ -53,6 +53,7 @@ IsDone old new (Digest level frames script) = WritesSome old new (λ g. digests_
 IsDone old new (State level frame script) = WritesSome old new (λ g. scripted_state_text g frame)
 IsDone old new (Why level frame agent script) = WritesSome old new (λ g. why_text g frame (agent_of_letter (string_bytes agent)))
 IsDone old new (Complete level log whole script) = CompletesSome old new
+IsDone old new (Record level journal settings script) = PlaysSome old new settings.frames
 
 -- words that don't ask for a reason
 abbrev pub AsksNoReason : Words → Type 0
@@ -70,3 +71,4 @@ IsPartDone old new (Digest level frames script) = WritesPart old new (λ g. dige
 IsPartDone old new (State level frame script) = WritesPart old new (λ g. scripted_state_text g frame)
 IsPartDone old new (Why level frame agent script) = WritesPart old new (λ g. why_text g frame (agent_of_letter (string_bytes agent)))
 IsPartDone old new (Complete level log whole script) = CompletesSomePart old new
+IsPartDone old new (Record level journal settings script) = PlaysPart old new settings.frames

@@ -2,3 +2,10 @@ pub mod Doing
 pub mod Explaining
 pub mod Faults
 pub mod Replaying
+pub mod Texts
+pub mod Why
+pub mod Telling
+pub mod Opening
+pub mod Completing
+pub mod Written
+pub mod Journals

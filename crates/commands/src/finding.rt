@@ -74,6 +74,22 @@ fn event_text(
     Ok(text)
 }
 
+/// What is told of a fault of a journal's head: the first byte that isn't that of the line that is wanted.
+fn head_text(
+    alloc: Global,
+    fault: &Fault,
+    file: NamedBytes<'_>,
+    wanted: &[u8],
+) -> Result<Vec<u8>, AllocError> {
+    let pairs = file.bytes.iter().zip(wanted);
+    let fitting = pairs.take_while(|(byte, other)| byte == other).count();
+    let mut text = begun(alloc, fault, file.name, 1)?;
+    push_number(&mut text, b":", fitting.saturating_add(1))?;
+    text.extend_from_slice(b"\nwanted: ")?;
+    text.extend_from_slice(wanted)?;
+    Ok(text)
+}
+
 impl Finding {
     fn told(alloc: Global, fault: Fault, text: Result<Vec<u8>, AllocError>) -> Finding
         ensures { (result.fault ≡ fault) ⊎ (result.fault ≡ Fault.OutOfMemory) }
@@ -98,6 +114,22 @@ impl Finding {
     {
         let text = match reason {
             Ok(reason) => reason_text(alloc, &fault, name, reason),
+            Err(refused) => Err(refused),
+        };
+        Finding::told(alloc, fault, text)
+    }
+
+    /// The finding of a fault of a journal's head, in place of which this line is wanted.
+    pub(crate) fn in_journal(
+        alloc: Global,
+        fault: Fault,
+        file: NamedBytes<'_>,
+        wanted: Result<Vec<u8>, AllocError>,
+    ) -> Finding
+        ensures { (result.fault ≡ fault) ⊎ (result.fault ≡ Fault.OutOfMemory) }
+    {
+        let text = match wanted {
+            Ok(wanted) => head_text(alloc, &fault, file, &wanted),
             Err(refused) => Err(refused),
         };
         Finding::told(alloc, fault, text)

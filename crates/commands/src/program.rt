@@ -5,17 +5,21 @@ ghost use Rattle.game_rules.specs.Text.{texts};
 ghost use Rattle.commands.specs.Doing.{PlaysSome, PlaysPart, ReplaysSome, ReplaysPart, ExplainsSome, AreRefused, AsksNoReason, IsDone, IsPartDone};
 ghost use Rattle.level_text.specs.Games.{spelled_game};
 ghost use Rattle.byte_streams.specs.Streams.{AppendsPart};
-ghost use Rattle.desync_commands.specs.Texts.{digests_text};
-ghost use Rattle.desync_commands.specs.Why.{why_text, agent_of_letter};
-ghost use Rattle.desync_commands.specs.Written.{WritesSome, WritesPart, CompletesSome, CompletesSomePart};
+ghost use Rattle.commands.specs.Texts.{digests_text};
+ghost use Rattle.commands.specs.Why.{why_text, agent_of_letter};
+ghost use Rattle.commands.specs.Written.{WritesSome, WritesPart, CompletesSome, CompletesSomePart};
 ghost use Rattle.stepping.specs.StateText.{scripted_state_text};
-ghost use Rattle.words.specs.Program.{AsksToPlay, AsksToReplay, AsksToExplain, AsksToDigest, AsksForState, AsksWhy, AsksToComplete};
+ghost use Rattle.words.specs.Program.{AsksToPlay, AsksToReplay, AsksToExplain, AsksToDigest, AsksForState, AsksWhy, AsksToComplete, AsksToRecord};
 
 use crate::checking::check_file;
+use crate::completing::complete_files;
+use crate::digests::digest_files;
 use crate::explaining::explain_files;
 use crate::playing::{play_files, play_input};
+use crate::recording::record_files;
 use crate::replaying::replay_files;
-use desync_commands::{complete_files, digest_files, state_files, why_files};
+use crate::states::state_files;
+use crate::why::why_files;
 use std::alloc::Global;
 use std::io::{Read, Write};
 use std::rt::Files;
@@ -69,6 +73,12 @@ fn act_on_files<H: Files + Threads + Wait + Clock + Sync, W: Write>(
             whole,
             script,
         } => complete_files(rt, alloc, level, log, whole, script, out),
+        Words::Record {
+            level,
+            journal,
+            settings,
+            script,
+        } => record_files(rt, alloc, level, journal, settings, script, out),
     }
 }
 
@@ -142,6 +152,10 @@ pub fn command<H: Files + Threads + Wait + Clock + Sync, R: Read, W: Write, E: W
         → CompletesSome (W.contents out.old) (W.contents out.new) }
     ensures completed_part { AsksToComplete (map string_bytes words.now)
         → CompletesSomePart (W.contents out.old) (W.contents out.new) }
+    ensures recorded { (frames : ℕ) → AsksToRecord (map string_bytes words.now) frames → result ≡ 0
+        → PlaysSome (W.contents out.old) (W.contents out.new) frames }
+    ensures recorded_part { (frames : ℕ) → AsksToRecord (map string_bytes words.now) frames
+        → PlaysPart (W.contents out.old) (W.contents out.new) frames }
     ensures refused_words { AreRefused (map string_bytes words.now) → result ≢ 0 }
     ensures unwritten { AreRefused (map string_bytes words.now) → W.contents out.new ≡ W.contents out.old }
 {

@@ -4,7 +4,8 @@ ghost use Rattle.commands.specs.Faults.{IsOfCause, IsOfPlay};
 use play_run::{Cause, PlayFault};
 use words::Fault;
 
-fn cause_fault(cause: Cause) -> Fault
+/// The fault of a run by its cause.
+pub(crate) fn cause_fault(cause: Cause) -> Fault
     ensures { IsOfCause cause result }
 {
     match cause {

@@ -14,8 +14,8 @@ use Rattle.bt_tick.specs.declared.tick.Outcome.TheVariants.{Asks}
 use Rattle.frame_state.specs.Names.{ThinkOf, QuestionOf, part_of, question_of}
 use Rattle.frame_state.specs.Contents.{signals_in, world_after, seen, memory_before, questions_in, place_in}
 use Rattle.frame_state.specs.Thoughts.{IsWayOf}
-use Rattle.frame_params.specs.declared.stand.Stand.{Stand}
-use Rattle.frame_params.specs.declared.stand.Stand.TheVariants.{Start, Answered}
+use Rattle.frame_params.specs.declared.resume_point.ResumePoint.{ResumePoint}
+use Rattle.frame_params.specs.declared.resume_point.ResumePoint.TheVariants.{Start, Answered}
 use Rattle.frame_params.specs.declared.think_step.ThinkStep.{ThinkStep}
 use Rattle.frame_params.specs.declared.think_step.ThinkStep.TheVariants.{Ended as EndedStep, Asks as AsksStep}
 
@@ -47,12 +47,12 @@ pub record GoesOn (g : Game) (f a : ℕ) (tick : QuestionOf) (answer : Answer) :
   pub few : tick.question < 255
 
 -- a task's tick stands at its start, or at a question to which it has the answer
-abbrev pub IsStand : Game → ℕ → ℕ → Stand → Type 0
-IsStand g f a Start = Unit {0}
-IsStand g f a (Answered tick answer) = GoesOn g f a (arc_value tick) answer
+abbrev pub IsResumePoint : Game → ℕ → ℕ → ResumePoint → Type 0
+IsResumePoint g f a Start = Unit {0}
+IsResumePoint g f a (Answered tick answer) = GoesOn g f a (arc_value tick) answer
 
 -- how many questions are answered
-abbrev pub answered_at : Stand → ℕ
+abbrev pub answered_at : ResumePoint → ℕ
 answered_at Start = 0
 answered_at (Answered tick answer) = (arc_value tick).question + 1
 

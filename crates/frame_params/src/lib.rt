@@ -5,7 +5,7 @@
 mod board_step;
 mod parked;
 mod path_task;
-mod stand;
+mod resume_point;
 mod step;
 mod task;
 mod think_step;

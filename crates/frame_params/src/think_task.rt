@@ -1,7 +1,7 @@
 ghost use Rattle.std.specs.Prelude.{◌≡◌, ◌+◌, ◌<◌, IfOk, length};
 
 use crate::parked::{Parked, ParkedTick};
-use crate::stand::Stand;
+use crate::resume_point::ResumePoint;
 use crate::think_step::ThinkStep;
 use crate::ticking::{begun, copy_gone_on};
 use bt_tick::{Outcome, Pending};
@@ -16,7 +16,7 @@ use std::sync::Arc;
 pub struct ThinkTask<'t> {
     start: Arc<FrameStart<'t>>,
     agent: u32,
-    stand: Stand<'t>,
+    resume_point: ResumePoint<'t>,
 }
 
 impl<'t> Drop for ThinkTask<'t> {
@@ -24,7 +24,7 @@ impl<'t> Drop for ThinkTask<'t> {
         let Self {
             start: _,
             agent: _,
-            stand: _,
+            resume_point: _,
         } = self;
     }
 }
@@ -38,17 +38,17 @@ impl<'t> Model for ThinkTask<'t> {
 
     ghost coded = { think_code };
 
-    ghost use Rattle.frame_params.specs.Thinks.{IsStand, answered_at};
+    ghost use Rattle.frame_params.specs.Thinks.{IsResumePoint, answered_at};
 
     ghost view = { λ t. record {
       game = (arc_value t.start).game;
       frame = (arc_value t.start).frame;
       agent = t.agent;
-      answered = answered_at t.stand;
+      answered = answered_at t.resume_point;
     } };
 
     ghost invariant = { λ t. (t.agent < length (arc_value t.start).game.trees)
-        × IsStand (arc_value t.start).game (arc_value t.start).frame t.agent t.stand };
+        × IsResumePoint (arc_value t.start).game (arc_value t.start).frame t.agent t.resume_point };
 }
 
 impl<'t> ThinkTask<'t> {
@@ -66,7 +66,7 @@ impl<'t> ThinkTask<'t> {
         Ok(ThinkTask {
             start: params.share()?,
             agent,
-            stand: Stand::Start,
+            resume_point: ResumePoint::Start,
         })
     }
 
@@ -90,7 +90,7 @@ impl<'t> ThinkTask<'t> {
         Ok(ThinkTask {
             start: params.share()?,
             agent: tick.agent(),
-            stand: Stand::Answered {
+            resume_point: ResumePoint::Answered {
                 tick: Arc::try_clone(&parked.tick)?,
                 answer: way.answer(),
             },
@@ -124,9 +124,9 @@ impl<'t> ThinkTask<'t> {
         ensures value { result ≡ self.now.answered }
         ensures few { result < 256 }
     {
-        match &self.stand {
-            Stand::Start => 0,
-            Stand::Answered { tick, .. } => tick.question() + 1,
+        match &self.resume_point {
+            ResumePoint::Start => 0,
+            ResumePoint::Answered { tick, .. } => tick.question() + 1,
         }
     }
 
@@ -204,12 +204,12 @@ impl<'t> ThinkTask<'t> {
         ensures { IfOk result (λ step. IsThinkStep self.now step) }
     {
         let start: &FrameStart<'t> = &self.start;
-        match &self.stand {
-            Stand::Start => {
+        match &self.resume_point {
+            ResumePoint::Start => {
                 let outcome = begun(alloc, scratch, start, self.agent)?;
                 self.step(alloc, outcome)
             }
-            Stand::Answered { tick, answer } => {
+            ResumePoint::Answered { tick, answer } => {
                 let outcome = copy_gone_on(scratch, start, self.agent, tick.pending(), *answer)?;
                 self.step(alloc, outcome)
             }

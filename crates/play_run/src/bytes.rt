@@ -1,12 +1,15 @@
 ghost use Rattle.std.specs.Prelude.{IfOk, IfErr, IsSomeAnd};
+ghost use Rattle.std.specs.Io.KnownBytes.{Appends};
+ghost use Rattle.log_text.specs.Text.{events_text};
 ghost use Rattle.play_run.specs.Games.{spelled_game};
 ghost use Rattle.play_run.specs.Plays.{IsPlayed, IsPlayFault};
 
 use crate::fault::PlayFault;
 use crate::report::RunReport;
-use crate::whole_run::run;
+use crate::whole_run::run_journalled;
 use game_session::Session;
 use level_text::{read_level, read_script};
+use run_printer::{Journal, NoJournal};
 use run_worker::Gate;
 use std::alloc::Global;
 use std::io::Write;
@@ -14,6 +17,36 @@ use std::sync::Wait;
 use std::thread::Threads;
 use std::time::Clock;
 use task_board::Settings;
+
+/// As `run_bytes`, with a journal of the events, which is given them as by `run_journalled`.
+pub fn run_bytes_journalled<W: Write, J: Journal, G: Gate, R: Threads + Wait + Clock + Sync>(
+    rt: &R,
+    alloc: Global,
+    level: &[u8],
+    script: &[u8],
+    settings: Settings,
+    out: &mut W,
+    journal: &mut J,
+    gate: &G,
+) -> Result<RunReport, PlayFault>
+    ensures ok { IfOk result (λ r. IsSomeAnd (spelled_game level.now script.now) (λ g. IsPlayed (W.contents out.old) (W.contents out.new) g settings r)) }
+    ensures err { IfErr result (IsPlayFault (W.contents out.old) (W.contents out.new) level.now script.now settings) }
+    ensures journal { IfOk result (λ r. Appends (J.contents journal.old) (J.contents journal.new) (events_text r.events.items)) }
+{
+    let level = match read_level(alloc, level) {
+        Ok(level) => level,
+        Err(fault) => return Err(PlayFault::Level(fault)),
+    };
+    let script = match read_script(alloc, script) {
+        Ok(script) => script,
+        Err(fault) => return Err(PlayFault::Script(fault)),
+    };
+    let session = Session::new(level, script);
+    match run_journalled(rt, alloc, &session, settings, out, journal, gate) {
+        Ok(report) => Ok(report),
+        Err(fault) => Err(PlayFault::Run(fault)),
+    }
+}
 
 /// Plays the game that the level's and the script's bytes spell. The level is read before the script, and a fault of either
 /// is answered before anything is written.
@@ -29,17 +62,14 @@ pub fn run_bytes<W: Write, G: Gate, R: Threads + Wait + Clock + Sync>(
     ensures ok { IfOk result (λ r. IsSomeAnd (spelled_game level.now script.now) (λ g. IsPlayed (W.contents out.old) (W.contents out.new) g settings r)) }
     ensures err { IfErr result (IsPlayFault (W.contents out.old) (W.contents out.new) level.now script.now settings) }
 {
-    let level = match read_level(alloc, level) {
-        Ok(level) => level,
-        Err(fault) => return Err(PlayFault::Level(fault)),
-    };
-    let script = match read_script(alloc, script) {
-        Ok(script) => script,
-        Err(fault) => return Err(PlayFault::Script(fault)),
-    };
-    let session = Session::new(level, script);
-    match run(rt, alloc, &session, settings, out, gate) {
-        Ok(report) => Ok(report),
-        Err(fault) => Err(PlayFault::Run(fault)),
-    }
+    run_bytes_journalled(
+        rt,
+        alloc,
+        level,
+        script,
+        settings,
+        out,
+        &mut NoJournal,
+        gate,
+    )
 }

@@ -4,16 +4,19 @@
 mod bytes;
 mod counted;
 mod fault;
+mod log_journal;
 mod opening;
 mod report;
 mod whole_run;
 mod workers;
 
 pub use band_mail::{BandMail, Putter, Taker};
-pub use bytes::run_bytes;
+pub use bytes::{run_bytes, run_bytes_journalled};
 pub use fault::PlayFault;
+pub use log_journal::LogJournal;
 pub use report::RunReport;
+pub use run_printer::{Journal, JournalFault, NoJournal};
 pub use run_shared::{Cause, RunFault};
 pub use run_worker::{EveryJob, Gate};
 pub use task_board::{Event, JobName, Settings};
-pub use whole_run::run;
+pub use whole_run::{run, run_journalled};

@@ -11,6 +11,8 @@ mod fault_tests;
 #[cfg(test)]
 mod gates;
 #[cfg(test)]
+mod journal_tests;
+#[cfg(test)]
 mod levels;
 #[cfg(test)]
 mod mail_crew;

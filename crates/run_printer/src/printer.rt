@@ -3,11 +3,14 @@ ghost use Rattle.std.specs.Io.KnownBytes.{Appends};
 ghost use Rattle.game_rules.specs.Game.{Game};
 ghost use Rattle.game_rules.specs.Text.{frame_text, texts};
 ghost use Rattle.frame_state.specs.Contents.{bands_in};
+ghost use Rattle.log_text.specs.Text.{events_text};
 ghost use Rattle.run_shared.specs.Printed.{WrotePart};
 ghost use Rattle.run_printer.specs.Tables.{AreFirstBands, AreAllBands};
 
 use crate::band_table::BandTable;
 use crate::inbox::Inbox;
+use crate::journal::Journal;
+use crate::noting::note_news;
 use byte_streams::write_whole;
 use draw_list::{Band, band_count, frame_text};
 use game_session::Session;
@@ -17,7 +20,7 @@ use std::io::Write;
 use std::sync::Wait;
 use std::sync::ledger::{Ledger, Share};
 use std::time::Clock;
-use task_board::{BoardFault, Settings, Shown};
+use task_board::{BoardFault, Event, Settings, Shown};
 
 // How many bands each frame has.
 fn bands_of(session: &Session) -> u32
@@ -131,7 +134,7 @@ impl<'t, L: RunLedger> Printer<'t, L> {
                     ShownFrame {
                         shown,
                         is_more,
-                        spent: _spent,
+                        retired: _retired,
                     },
                 ) => {
                     if is_more {
@@ -179,17 +182,19 @@ impl<'t, L: RunLedger> Printer<'t, L> {
     }
 }
 
-/// Shows and writes all frames in order, and flushes. At a fault it stops the board.
-pub fn print<'t, W: Write, L: RunLedger, M: Ledger, D: Ledger, R: Wait + Clock>(
+/// Shows and writes all frames in order, and flushes. Behind each frame a journal that follows the run is given the events up to
+/// then; the answer is all that it was given. At a fault it stops the board.
+pub fn print<'t, W: Write, J: Journal, L: RunLedger, M: Ledger, D: Ledger, R: Wait + Clock>(
     rt: &R,
     alloc: Global,
     session: &Session,
     settings: Settings,
     out: &mut W,
+    journal: &mut J,
     shared: &Shared<'t, L, M, D>,
     emits: &mut Share<M>,
     printer: &mut Printer<'t, L>,
-) -> Result<(), RunFault>
+) -> Result<Vec<Event>, RunFault>
     requires run { L.game ≡ Some session.now }
     requires emits { (emits.old.parts ≡ M.parts) × (0 < M.parts) × (emits.old.amount ≡ 0) }
     requires mail { printer.old.inbox.taker.mail ≡ shared.now.mail }
@@ -198,8 +203,10 @@ pub fn print<'t, W: Write, L: RunLedger, M: Ledger, D: Ledger, R: Wait + Clock>(
     ensures emits { OnOk result (emits.new.amount ≡ settings.frames) }
     ensures ok { OnOk result (Appends (W.contents out.old) (W.contents out.new) (texts session.now settings.frames)) }
     ensures err { IfErr result (λ e. WrotePart (W.contents out.old) (W.contents out.new) session.now settings.frames e.frames) }
+    ensures journal { IfOk result (λ noted. Appends (J.contents journal.old) (J.contents journal.new) (events_text noted.items)) }
 {
     let last = settings.frames();
+    let mut noted = Vec::new(alloc);
     let mut rest = Rest::new();
     let mut trials = Trials::new();
     for done in 0..last {
@@ -224,11 +231,21 @@ pub fn print<'t, W: Write, L: RunLedger, M: Ledger, D: Ledger, R: Wait + Clock>(
                 });
             }
         }
+        match note_news(rt, alloc, shared, journal, &mut noted) {
+            Ok(()) => {}
+            Err(cause) => {
+                shared.stop(rt);
+                return Err(RunFault {
+                    cause,
+                    frames: done + 1,
+                });
+            }
+        }
     }
     // There is no other task, so they end.
     shared.waiting.call_workers();
     match out.flush() {
-        Ok(()) => Ok(()),
+        Ok(()) => Ok(noted),
         Err(_) => {
             shared.stop(rt);
             Err(RunFault {

@@ -55,6 +55,11 @@ part-of_whole a b g n e le wrote =
       no_more = λ more. omega (arith, ap length (texts_more g e), length-append (texts g e) (frame_text g (e + 1)), some_text g e);
     }
 
+-- the next frame's text is written behind those before
+pub one_more : (a b c : Option (List ℕ)) (g : Game) (e : ℕ) (bytes : List ℕ) → bytes ≡ frame_text g (e + 1) → Appends a b (texts g e) → Appends b c bytes → Appends a c (texts g (e + 1))
+one_more a b c g e bytes is before now =
+    subst (λ (l : List ℕ). Appends a c l) (ap (λ (l : List ℕ). texts g e ++ l) is ∙ sym (texts_more g e)) (Appends-trans a b c (texts g e) bytes before now)
+
 -- nothing is written
 pub part-of_none : (a : Option (List ℕ)) (g : Game) (n : ℕ) → WrotePart a a g n 0
 part-of_none a g n = part-of_whole a a g n 0 (omega arith) (Appends-nil a)

@@ -17,7 +17,7 @@ use crate::run_task::RunTask;
 use frame_params::BoardStep;
 use std::marker::Model;
 use std::sync::ledger::{Book, Ledger, Share};
-use task_board::{BoardFault, Event, Shown, Spent, TaskBoard};
+use task_board::{BoardFault, Event, Retired, Shown, TaskBoard};
 
 /// The board of a run with three books: one of its events that name a worker, one of those that show a frame, one of those
 /// that end a Draw. Each call that makes an event happen makes one, and adds one to a share of the thread that calls it, or to
@@ -142,10 +142,10 @@ impl<'t, L: RunLedger, M: Ledger, D: Ledger> SharedBoard<'t, L, M, D> {
 
     /// Takes out what the last events have left over, to be let go with the lock free.
     #[inline(always)]
-    pub(crate) fn take_spent(&mut self) -> Spent<'t>
+    pub(crate) fn take_retired(&mut self) -> Retired<'t>
         ensures { self.new ≡ self.old }
     {
-        self.board.take_spent()
+        self.board.take_retired()
     }
 
     /// Shows the next frame. Whoever holds the whole share of frames knows which one that is.

@@ -1,4 +1,4 @@
-ghost use Rattle.std.specs.Prelude.{◌≡◌, OnOk, IsOk, IfErr, None};
+ghost use Rattle.std.specs.Prelude.{◌≡◌, OnOk, IfOk, IfErr, Ok, None};
 ghost use Rattle.run_shared.specs.Printed.{frames_of};
 
 use crate::fault::{Cause, RunFault};
@@ -6,14 +6,18 @@ use crate::fault::{Cause, RunFault};
 /// What a run comes to whose threads are joined, from what the printing of `last` frames came to and the lowest of the
 /// causes that workers met. A worker's fault fails a run too whose frames are all printed. Of both causes the lower one
 /// is answered.
-pub fn joined(printed: Result<(), RunFault>, met: Option<Cause>, last: u32) -> Result<(), RunFault>
-    ensures ok { OnOk result (IsOk printed) }
+pub fn joined<T: Drop>(
+    printed: Result<T, RunFault>,
+    met: Option<Cause>,
+    last: u32,
+) -> Result<T, RunFault>
+    ensures ok { IfOk result (λ value. printed ≡ Ok value) }
     ensures met { OnOk result (met ≡ None) }
     ensures frames { IfErr result (λ e. e.frames ≡ frames_of printed last) }
 {
     match (printed, met) {
         (printed, None) => printed,
-        (Ok(()), Some(cause)) => Err(RunFault {
+        (Ok(_), Some(cause)) => Err(RunFault {
             cause,
             frames: last,
         }),

@@ -1,4 +1,4 @@
-use task_board::{Shown, Spent};
+use task_board::{Retired, Shown};
 
 /// A frame that is shown, and what follows.
 #[derive(Drop)]
@@ -7,5 +7,5 @@ pub struct ShownFrame<'t> {
     /// Whether a task can be taken then.
     pub is_more: bool,
     /// What the board's last events have left over, to be let go with the lock free.
-    pub spent: Spent<'t>,
+    pub retired: Retired<'t>,
 }

@@ -21,7 +21,7 @@ use std::alloc::Global;
 use std::hint;
 use std::sync::Wait;
 use std::sync::ledger::{Ledger, Share};
-use task_board::{BoardFault, Spent};
+use task_board::{BoardFault, Retired};
 
 // How often a full queue is tried again before its worker waits for room: some microseconds.
 const TRIES: u32 = 100;
@@ -220,7 +220,7 @@ impl<'h, 't, L: RunLedger, M: Ledger, D: Ledger, G: Gate, R: Wait> Worker<'h, 't
         told: BoardStep<'t>,
         share: &mut Share<L>,
         draws: &mut Share<D>,
-    ) -> Result<(Delivered, Option<Spent<'t>>), Cause>
+    ) -> Result<(Delivered, Option<Retired<'t>>), Cause>
         requires own { IsToldIn self.now.session.now told }
         requires part { (0 < share.old.parts) × (0 < draws.old.parts) }
         ensures part { (share.new.parts ≡ share.old.parts) × (draws.new.parts ≡ draws.old.parts) }
@@ -231,11 +231,11 @@ impl<'h, 't, L: RunLedger, M: Ledger, D: Ledger, G: Gate, R: Wait> Worker<'h, 't
         let ended = draws_in(&told);
         let hold = self.shared.lock(self.rt);
         match hold.hand_in(self.number, told, share, draws) {
-            Ok(HandedIn { shows, spent }) => {
+            Ok(HandedIn { shows, retired }) => {
                 if shows {
                     self.shared.waiting.printer.call_one();
                 }
-                Ok((Delivered::Told, Some(spent)))
+                Ok((Delivered::Told, Some(retired)))
             }
             Err(BoardFault::Stopped) => {
                 if ended != 0 {
@@ -255,7 +255,7 @@ impl<'h, 't, L: RunLedger, M: Ledger, D: Ledger, G: Gate, R: Wait> Worker<'h, 't
         putter: &mut Putter<RunBand<'t, L>>,
         share: &mut Share<L>,
         draws: &mut Share<D>,
-    ) -> Result<(Delivered, Option<Spent<'t>>), Cause>
+    ) -> Result<(Delivered, Option<Retired<'t>>), Cause>
         requires own { IsWorkIn self.now.session.now step }
         requires part { (0 < share.old.parts) × (0 < draws.old.parts) }
         requires putter { IsPutterOf self.now.shared.now.mail putter.old }
@@ -296,12 +296,12 @@ impl<'h, 't, L: RunLedger, M: Ledger, D: Ledger, G: Gate, R: Wait> Worker<'h, 't
             };
             let step = self.work_of(scratch, &task.task)?;
             drop(task);
-            let (delivered, spent) = self.deliver(step, putter, share, draws)?;
+            let (delivered, retired) = self.deliver(step, putter, share, draws)?;
             if delivered == Delivered::Stopped {
                 return Ok(());
             }
             next = self.next_task(share)?;
-            drop(spent);
+            drop(retired);
         }
         unreachable!()
     }

@@ -1,18 +1,21 @@
 -- The text of a state: what two machines write of a frame, to see what differs.
-use Rattle.std.specs.Prelude.{ℕ, zero, suc, ◌+◌, Bool, if◌then◌else◌, List, [], ◌∷◌, ◌++◌, length, Option, Some, None, slice_get, slice_index_or, codes, decimal}
+use Rattle.std.specs.Prelude.{ℕ, zero, suc, ◌≡◌, ◌<◌, ◌+◌, ◌^◌, All, Bool, if◌then◌else◌, List, [], ◌∷◌, ◌++◌, length, Option, Some, None, slice_get, slice_index_or, codes, decimal}
 use Rattle.std.specs.List.{flat_map}
 use Rattle.byte_streams.specs.Hex.{hex}
 use Rattle.grid_world.specs.Grid.{Grid, agent_of, has_item}
 use Rattle.grid_world.specs.Map.{count_up}
-use Rattle.grid_world.specs.World.{point}
+use Rattle.grid_world.specs.Ground.{emptied}
+use Rattle.grid_world.specs.World.{IsWorld, point}
 use Rattle.grid_world.specs.declared.cell.Agent.{Agent}
+use Rattle.bt_nodes.specs.Limits.{tree_fault}
 use Rattle.bt_nodes.specs.declared.node.Status.{Status}
 use Rattle.game_rules.specs.declared.change.Change.{Change}
 use Rattle.game_rules.specs.Game.{Game, signals}
 use Rattle.game_rules.specs.Play.{Position, play}
 use Rattle.game_rules.specs.Text.{status_letter}
+use Rattle.frame_parts.specs.Memories.{AllFit}
 use Rattle.stepping.specs.LevelDigest.{level_digest_of}
-use Rattle.stepping.specs.Played.{Played, next_signals, statuses_at}
+use Rattle.stepping.specs.Played.{Played, next_signals, state_of, statuses_at}
 
 -- ---- signals
 
@@ -78,3 +81,29 @@ handed_in script (suc f) = signals script (suc f)
 -- the state after a frame of the script's game
 abbrev pub scripted_state_text : Game → ℕ → List ℕ
 scripted_state_text g f = state_text_at g f (handed_in g.changes f) (handed_in g.changes f) (play g f) (statuses_at g f)
+
+-- ---- told apart
+
+-- what each game of a level keeps: the level's ground, an agent for each tree, a memory that fits it, and an answer of each but
+-- before the first frame
+pub record IsState (p : Played) : Type 0 where
+  pub frame : p.frame < 2 ^ 32
+  pub ground : emptied p.game.world ≡ emptied p.position.world
+  pub world : IsWorld p.position.world
+  pub crew : length p.position.world.agents ≡ length p.game.trees
+  pub limits : All (λ t. tree_fault t ≡ None) p.game.trees
+  pub memories : AllFit p.game.trees p.position.memories
+  pub answered : 0 < p.frame → length p.answers ≡ length p.game.trees
+  pub asked : 0 < length p.answers → 0 < p.frame
+  pub first : p.frame ≡ 0 → signals p.game.changes p.frame ≡ signals [] 0
+
+-- but for the names in it
+pub record AreOfOneLevel (g h : Game) : Type 0 where
+  pub world : g.world ≡ h.world
+  pub trees : g.trees ≡ h.trees
+
+-- in the same state, with the same frame shown
+pub record AreAlike (p q : Played) : Type 0 where
+  pub state : state_of p ≡ state_of q
+  pub shown : signals p.game.changes p.frame ≡ signals q.game.changes q.frame
+  pub answers : p.answers ≡ q.answers

@@ -5,6 +5,7 @@ ghost use Rattle.game_rules.specs.Game.{Game};
 ghost use Rattle.game_rules.specs.Play.{play};
 ghost use Rattle.game_rules.specs.Text.{frame_text, texts};
 ghost use Rattle.stepping.specs.Played.{Played, opened, changes_so_far, IsOnBy, IsPlayed, IsStepped, IsByScript, scripted_game, scripted_signals, state_of, text_of};
+ghost use Rattle.stepping.specs.StateText.{AreAlike, AreOfOneLevel, IsState, state_text};
 
 /// Games in the same state that are stepped with the same signals are in the same state again, and show the same frame. So
 /// whoever compares states once, as two machines in lockstep, knows all that comes of the same signals.
@@ -42,4 +43,10 @@ pub fn scripted_steps_play_the_script()
 #[tactic(auto, using(crate::proofs::SoFar::by_changes_so_far))]
 pub fn changes_so_far_play_alike()
     ensures { (p : Played) → IsByScript (record p { script = changes_so_far p }) }
+{}
+
+/// Games of one level whose states have the same text are in the same state and show the same frame: the text of a state tells
+/// all of it but the level.
+pub fn texts_tell_states()
+    ensures { (p q : Played) → IsState p → IsState q → AreOfOneLevel p.game q.game → state_text p ≡ state_text q → AreAlike p q }
 {}

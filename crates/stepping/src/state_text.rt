@@ -4,7 +4,7 @@ ghost use Rattle.std.specs.List.{flat_map};
 ghost use Rattle.grid_world.specs.Grid.{agent_of, has_item};
 ghost use Rattle.grid_world.specs.Map.{count_up};
 ghost use Rattle.grid_world.specs.World.{point};
-ghost use Rattle.stepping.specs.StateText.{letters, signals_line, answer_text, memory_text, agent_line, agent_lines, item_line, item_lines, state_head, state_text};
+ghost use Rattle.stepping.specs.StateText.{letters, signals_line, answer_text, memory_text, agent_line, agent_lines, item_line, item_lines, state_head, state_text, IsState};
 
 use crate::played::Stepping;
 use bt_nodes::Status;
@@ -171,14 +171,16 @@ impl Stepping {
     /// it, and `-` for the answer before the first frame; and `item X,Y` for each item, row after row. It takes time linear
     /// in the number of cells and nodes.
     pub fn state_text(&self, alloc: Global) -> Result<Vec<u8>, AllocError>
-        ensures { IfOk result (λ text. text.items ≡ state_text self.now) }
+        ensures text { IfOk result (λ text. text.items ≡ state_text self.now) }
+        ensures state { IsState self.now }
     {
+        let world = self.world();
         let mut text = Vec::new(alloc);
         push_head(&mut text, self.level_digest(), self.frame())?;
         push_signals(&mut text, b"shown", self.drawn())?;
         push_signals(&mut text, b"next", self.signals())?;
         push_agents(&mut text, self)?;
-        push_items(&mut text, self.world())?;
+        push_items(&mut text, world)?;
         Ok(text)
     }
 }

@@ -32,8 +32,8 @@ use Rattle.task_board.specs.declared.done.Done.TheVariants.{Turned, Thought, Way
 use Rattle.board_model.specs.Stored.{store}
 use Rattle.board_model.specs.Needed.{HasParts, IsThere}
 use Rattle.job_scheduler.specs.Numbers.{IsWithinLimits}
-use Rattle.task_board.specs.Shelf.{Shelved, Stores, sizes}
-use Rattle.task_board.proofs.Sized.{shelf_of, there_of, stored_next}
+use Rattle.task_board.specs.FrameStore.{FrameStoreOf, Stores, sizes}
+use Rattle.task_board.proofs.Sized.{frame_store_of, there_of, stored_next}
 use Rattle.task_board.specs.Given.{MayBeTakenUp}
 use Rattle.task_board.specs.Parked.{IsOtherParked}
 use Rattle.task_board.proofs.Tasked.{job_is}
@@ -42,7 +42,7 @@ use Rattle.task_board.proofs.Tasked.{job_is}
 abbrev pub seen_as : Game → Logged → Played
 seen_as g jobs = record { game = g; numbers = jobs.numbers; events = jobs.events }
 
-module _ (g : Game) (jobs : Logged) (shelf : Shelved) (k : IsBoard (seen_as g jobs) jobs shelf) where
+module _ (g : Game) (jobs : Logged) (frame_store : FrameStoreOf) (k : IsBoard (seen_as g jobs) jobs frame_store) where
   -- what the jobs tell of a state holds of the board's
   pub known : (fact : Setup → State → Type 0) → Always jobs fact → fact (setup_in (seen_as g jobs)) (state_in (seen_as g jobs))
   known fact a = subst (λ v. Always v fact) k.jobs_are a (asked_in g) k.lawful
@@ -50,24 +50,24 @@ module _ (g : Game) (jobs : Logged) (shelf : Shelved) (k : IsBoard (seen_as g jo
   pub next : (e : Event) → IsLegal (setup_in (seen_as g jobs)) (state_in (seen_as g jobs)) e → IsNext jobs e
   next e l = subst (λ v. IsNext v e) (sym k.jobs_are) (record { questions = asked_in g; lawful = k.lawful; legal = l })
 
-  -- what an event needs is on the shelf
-  pub there_for : (e : Event) → IsLegal (setup_in (seen_as g jobs)) (state_in (seen_as g jobs)) e → IsThere (sizes shelf) (state_in (seen_as g jobs)) shelf.stored e
-  there_for e l = subst (λ v. IsThere (sizes v) (state_in (seen_as g jobs)) v.stored e) (sym k.shelf_is) (there_of (seen_as g jobs) k.lawful k.within.a_slot e l)
+  -- what an event needs is in the frame store
+  pub there_for : (e : Event) → IsLegal (setup_in (seen_as g jobs)) (state_in (seen_as g jobs)) e → IsThere (sizes frame_store) (state_in (seen_as g jobs)) frame_store.stored e
+  there_for e l = subst (λ v. IsThere (sizes v) (state_in (seen_as g jobs)) v.stored e) (sym k.frame_store_is) (there_of (seen_as g jobs) k.lawful k.within.a_slot e l)
 
   -- so is what the task of a job needs that may be taken up
-  pub task_there : (j : JobName) (n : ℕ) → MayBeTakenUp (seen_as g jobs) j n → HasParts (sizes shelf) shelf.stored j n
-  task_there j n (w, inl h) = subst (HasParts (sizes shelf) shelf.stored j) (sym h.1) (there_for (Start w j) h.0)
-  task_there j n (w, inr h) = subst (HasParts (sizes shelf) shelf.stored j) (ap step_of h.1) (there_for (Resume w j) h.0)
+  pub task_there : (j : JobName) (n : ℕ) → MayBeTakenUp (seen_as g jobs) j n → HasParts (sizes frame_store) frame_store.stored j n
+  task_there j n (w, inl h) = subst (HasParts (sizes frame_store) frame_store.stored j) (sym h.1) (there_for (Start w j) h.0)
+  task_there j n (w, inr h) = subst (HasParts (sizes frame_store) frame_store.stored j) (ap step_of h.1) (there_for (Resume w j) h.0)
 
   module _ (e : Event) (l : IsLegal (setup_in (seen_as g jobs)) (state_in (seen_as g jobs)) e) (later : Logged) (j : later ≡ jobs_with_event jobs e) where
-    pub kept_after : (new : Shelved) → Stores shelf new (state_in (seen_as g jobs)) e → IsBoard (seen_as g later) later new
+    pub kept_after : (new : FrameStoreOf) → Stores frame_store new (state_in (seen_as g jobs)) e → IsBoard (seen_as g later) later new
     kept_after new s =
         record {
           jobs_are = j ∙ (ap (λ v. jobs_with_event v e) k.jobs_are ∙ ap (λ v. jobs_of (seen_as g v)) (sym j));
-          shelf_is =
+          frame_store_is =
               s
-              ∙ (ap {A = Shelved} (λ v. record v { stored = store (sizes v) (state_in (seen_as g jobs)) v.stored e }) k.shelf_is
-              ∙ (stored_next (seen_as g jobs) k.lawful k.within.a_slot e ∙ ap (λ v. shelf_of (seen_as g v)) (sym j)));
+              ∙ (ap {A = FrameStoreOf} (λ v. record v { stored = store (sizes v) (state_in (seen_as g jobs)) v.stored e }) k.frame_store_is
+              ∙ (stored_next (seen_as g jobs) k.lawful k.within.a_slot e ∙ ap (λ v. frame_store_of (seen_as g v)) (sym j)));
           lawful = subst (λ v. IsLegalList (setup_in (seen_as g v)) v.events) (sym j) (legal_more (setup_in (seen_as g jobs)) jobs.events e k.lawful l);
           within = subst (λ v. IsWithinLimits v.numbers.frames v.numbers.workers v.numbers.small v.numbers.large v.numbers.slots) (sym j) k.within;
         }
@@ -183,7 +183,7 @@ idle_or b w WrongResult h = absurd h
 idle_or b w Illegal h = absurd h
 idle_or b w OutOfMemory h = absurd h
 
-module _ (g : Game) (jobs : Logged) (shelf : Shelved) (k : IsBoard (seen_as g jobs) jobs shelf) where
+module _ (g : Game) (jobs : Logged) (frame_store : FrameStoreOf) (k : IsBoard (seen_as g jobs) jobs frame_store) where
   pub known_of : (fact : Logged → (ℕ → ℕ → ℕ) → Type 0) → ((q : ℕ → ℕ → ℕ) → IsLegalList (setup_of jobs q) jobs.events → fact jobs q) → fact (jobs_of (seen_as g jobs)) (asked_in g)
   known_of fact a = subst (λ v. (q : ℕ → ℕ → ℕ) → IsLegalList (setup_of v q) v.events → fact v q) k.jobs_are a (asked_in g) k.lawful
 

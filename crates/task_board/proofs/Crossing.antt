@@ -4,8 +4,8 @@ use denote.Param.Send.{IsSend, sendable}
 use Rattle.std.proofs.Crossing.{crosses}
 use Rattle.job_scheduler.proofs.jobs.JobLog.TheSendSync.{the_send as job_scheduler}
 use Rattle.frame_state.proofs.Crossing.{session}
-use Rattle.task_board.proofs.ResultsCrossing.{shelf}
+use Rattle.task_board.proofs.ResultsCrossing.{frame_store}
 use Rattle.task_board.specs.contracts.board.TaskBoard as TaskBoard
 
 pub board : (κ : NamedLft) → IsSend (TaskBoard.the_row κ)
-board κ = search (session, shelf, job_scheduler, sendable, crosses) depth 40
+board κ = search (session, frame_store, job_scheduler, sendable, crosses) depth 40

@@ -15,13 +15,13 @@ use Rattle.job_scheduler.specs.Looks.{Always, IsGivenTo, IsPlace, as_pick}
 use Rattle.job_scheduler.specs.declared.next.Next.{Next}
 use Rattle.job_scheduler.specs.declared.next.Next.TheVariants as next
 use Rattle.job_scheduler.specs.declared.board_fault.BoardFault.TheVariants.{OutOfMemory}
-use Rattle.task_board.specs.Shelf.{Shelved}
+use Rattle.task_board.specs.FrameStore.{FrameStoreOf}
 use Rattle.task_board.specs.Boards.{Played, setup_in, state_in, pick_in, Happens, IsBoard, IsTaken, IsTakeRefused}
 use Rattle.task_board.specs.Found.{IsFound, event_of, job_next, step_next}
 use Rattle.task_board.specs.Given.{MayBeTakenUp}
 use Rattle.task_board.proofs.Boarding.{known, known_of, seen_as, starts, resumes}
 
-module _ (g : Game) (jobs : Logged) (shelf : Shelved) (k : IsBoard (seen_as g jobs) jobs shelf) where
+module _ (g : Game) (jobs : Logged) (frame_store : FrameStoreOf) (k : IsBoard (seen_as g jobs) jobs frame_store) where
   -- what is picked goes first
   pub new_first : (j : JobName) → pick_in (seen_as g jobs) ≡ Some (New j) → GoesFirst (setup_in (seen_as g jobs)) (state_in (seen_as g jobs)) j
   new_first j is = (new_is_first (setup_in (seen_as g jobs)) jobs.events j k.within.a_slot k.lawful is).1
@@ -35,12 +35,12 @@ module _ (g : Game) (jobs : Logged) (shelf : Shelved) (k : IsBoard (seen_as g jo
       → ((q : ℕ → ℕ → ℕ) → IsLegalList (setup_of jobs q) jobs.events → option_map as_pick (Some n) ≡ given (kept jobs q))
       → ((q : ℕ → ℕ → ℕ) → IsLegalList (setup_of jobs q) jobs.events → IsPlace (kept jobs q) (Some n)) → IsFound (seen_as g jobs) w n
   of_next w (next.Start j) told picked place =
-      let is_picked = sym (known_of g jobs shelf k (λ v q. Some (New j) ≡ given (kept v q)) picked) in
-      record { legal = known g jobs shelf k (IsGivenTo w (Ok (Some (next.Start j)))) told; first = new_first j is_picked; picked = is_picked }
+      let is_picked = sym (known_of g jobs frame_store k (λ v q. Some (New j) ≡ given (kept v q)) picked) in
+      record { legal = known g jobs frame_store k (IsGivenTo w (Ok (Some (next.Start j)))) told; first = new_first j is_picked; picked = is_picked }
   of_next w (next.Resume fiber held) told picked place =
-      let is = known g jobs shelf k (IsGivenTo w (Ok (Some (next.Resume fiber held)))) told in
-      let is_picked = sym (known_of g jobs shelf k (λ v q. Some (Ready fiber) ≡ given (kept v q)) picked) in
-      let holder = known_of g jobs shelf k (λ v q. first_place (holds held.job) (kept v q).seats.jobs ≡ fiber) place in
+      let is = known g jobs frame_store k (IsGivenTo w (Ok (Some (next.Resume fiber held)))) told in
+      let is_picked = sym (known_of g jobs frame_store k (λ v q. Some (Ready fiber) ≡ given (kept v q)) picked) in
+      let holder = known_of g jobs frame_store k (λ v q. first_place (holds held.job) (kept v q).seats.jobs ≡ fiber) place in
       record { legal = is.0; stands = is.1; first = ready_first fiber held.job is_picked holder is.0.1.2; picked = is_picked; holder = holder }
 
   -- what the jobs give is found

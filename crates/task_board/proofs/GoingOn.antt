@@ -8,9 +8,9 @@ use Rattle.board_model.specs.Needed.{HasParts}
 use Rattle.frame_state.specs.Names.{QuestionOf, ThinkOf, question_of, think_of}
 use Rattle.frame_params.specs.Tasks.{IsTaskAt}
 use Rattle.frame_params.specs.declared.task.Task.TheVariants.{Think as ThinkTask}
-use Rattle.task_board.specs.Shelf.{Shelved, sizes}
+use Rattle.task_board.specs.FrameStore.{FrameStoreOf, sizes}
 
-module _ (k : Shelved) (f a : ℕ) (o : Option Asked) (g : Game) (q : QuestionOf) (t : ThinkOf) (same : g ≡ k.game) (here : slice_get k.stored.asking a ≡ Some o)
+module _ (k : FrameStoreOf) (f a : ℕ) (o : Option Asked) (g : Game) (q : QuestionOf) (t : ThinkOf) (same : g ≡ k.game) (here : slice_get k.stored.asking a ≡ Some o)
     (is : IfSome o (λ p. q ≡ question_of g p.frame p.agent p.question))
     (made : t ≡ record { game = q.game; frame = q.frame; agent = q.agent; answered = q.question + 1 }) where
   pub thought_goes_on : (job : JobName) (step : ℕ) → job ≡ Think f a → 0 < step → HasParts (sizes k) k.stored job step → IsTaskAt k.game job step (ThinkTask t)

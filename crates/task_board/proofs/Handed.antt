@@ -1,22 +1,22 @@
--- What is handed in has its place on the shelf, and what is parked is stored by the step at which its Think runs.
+-- What is handed in has its place in the frame store, and what is parked is stored by the step at which its Think runs.
 use Rattle.std.proofs.Common.{◌≡◌, ◌≤◌, ℕ, false, Some, slice_set, sym, ap₂, ◌∙◌, arith}
 use Rattle.job_core.specs.declared.names.JobName.TheVariants.{Think}
 use Rattle.job_core.specs.declared.names.Event.TheVariants.{Ask, Finish}
 use Rattle.job_core.specs.Core.{Setup, State, IsJob, step_of}
 use Rattle.board_model.specs.Stored.{asked}
 use Rattle.board_model.specs.Needed.{IsThere}
-use Rattle.task_board.specs.Shelf.{Shelved, Stores, IsWanted, IsBeforeLast, sizes}
+use Rattle.task_board.specs.FrameStore.{FrameStoreOf, Stores, IsWanted, IsBeforeLast, sizes}
 use Rattle.task_board.specs.Dones.{job_done}
 use Rattle.task_board.specs.declared.done.Done.{Done}
 use Rattle.task_board.specs.declared.done.Done.TheVariants.{Turned, Thought, Way, Drawn}
 
-pub parked_stores : (old new : Shelved) (st : State) (w f a i agent : ℕ) → agent ≡ a → step_of (st.phase (Think f a)) ≡ i
+pub parked_stores : (old new : FrameStoreOf) (st : State) (w f a i agent : ℕ) → agent ≡ a → step_of (st.phase (Think f a)) ≡ i
     → new ≡ record old { stored = record old.stored { asking = slice_set old.stored.asking agent (Some (asked f agent i false)) } } → Stores old new st (Ask w (Think f a))
 parked_stores old new st w f a i agent e p s =
-    s ∙ ap₂ {C = Shelved} (λ x y. record old { stored = record old.stored { asking = slice_set old.stored.asking x (Some (asked f x y false)) } }) e (sym p)
+    s ∙ ap₂ {C = FrameStoreOf} (λ x y. record old { stored = record old.stored { asking = slice_set old.stored.asking x (Some (asked f x y false)) } }) e (sym p)
 
 -- what a job came to has its place
-pub wanted : (k : Shelved) (st : State) (w : ℕ) (done : Done) → IsThere (sizes k) st k.stored (Finish w (job_done done)) → IsWanted k done
+pub wanted : (k : FrameStoreOf) (st : State) (w : ℕ) (done : Done) → IsThere (sizes k) st k.stored (Finish w (job_done done)) → IsWanted k done
 wanted k st w (Turned t) h = h
 wanted k st w (Thought t) h = h.1
 wanted k st w (Way q) h = h

@@ -7,7 +7,7 @@ pub mod Handing
 pub mod Idling
 pub mod Crossing
 pub mod Parting
-pub mod Shelving
+pub mod FrameStores
 pub mod SameSizes
 pub mod Handed
 pub mod GoingOn

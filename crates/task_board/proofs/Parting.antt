@@ -11,7 +11,7 @@ use Rattle.board_model.specs.Lists.{has}
 use Rattle.board_model.specs.Stored.{Part, part, parts, put_in}
 use Rattle.board_model.proofs.Bridges.{parts_named, put_in_is}
 use Rattle.task_board.specs.Parts.{AreInOrder, AreOfGame, parts_below}
-use Rattle.task_board.specs.Shelf.{part_name}
+use Rattle.task_board.specs.FrameStore.{part_name}
 
 part_is : (p : PartOf) (g : Game) (f n : ℕ) → p.game ≡ g → part_name p ≡ part f n → p ≡ part_of g f n
 part_is p g f n a e =

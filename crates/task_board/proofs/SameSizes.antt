@@ -1,4 +1,4 @@
--- What events need of a shelf and what they store there, by setups of the same sizes.
+-- What events need of a frame store and what they store there, by setups of the same sizes.
 use Rattle.std.proofs.Common.{◌≡◌, ◌<◌, ◌%◌, zero, suc, ℕ, Some, None, length, slice_get, slice_set, refl, ap, ◌∙◌, subst}
 use Rattle.job_core.specs.declared.names.JobName.{JobName}
 use Rattle.job_core.specs.declared.names.JobName.TheVariants.{Logic, Think, Path, Draw}

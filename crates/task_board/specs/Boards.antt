@@ -19,7 +19,7 @@ use Rattle.board_model.specs.Stored.{stored_after}
 use Rattle.job_scheduler.specs.Numbers.{Numbers, IsWithinLimits}
 use Rattle.job_scheduler.specs.Logged.{Logged, setup_of}
 use Rattle.job_scheduler.specs.declared.board_fault.BoardFault.{BoardFault}
-use Rattle.task_board.specs.Shelf.{Shelved}
+use Rattle.task_board.specs.FrameStore.{FrameStoreOf}
 use Rattle.job_scheduler.specs.declared.board_fault.BoardFault.TheVariants.{Stopped, NoWorker, Busy, NotRunning, WrongResult, Illegal, OutOfMemory}
 
 -- the game, the numbers of the run, and the events so far
@@ -149,8 +149,8 @@ NoOther j k = ⊥
 
 -- ---- what a board keeps of itself
 
-pub record IsBoard (b : Played) (jobs : Logged) (shelf : Shelved) : Type 0 where
+pub record IsBoard (b : Played) (jobs : Logged) (frame_store : FrameStoreOf) : Type 0 where
   pub jobs_are : jobs ≡ jobs_of b
-  pub shelf_is : shelf ≡ record { game = b.game; stored = stored_after (setup_in b) b.events }
+  pub frame_store_is : frame_store ≡ record { game = b.game; stored = stored_after (setup_in b) b.events }
   pub lawful : IsLegalList (setup_in b) b.events
   pub within : IsWithinLimits b.numbers.frames b.numbers.workers b.numbers.small b.numbers.large b.numbers.slots

@@ -6,6 +6,6 @@ pub mod HandedIn
 pub mod Given
 pub mod Setups
 pub mod Parts
-pub mod Shelf
-pub mod ShelfCode
+pub mod FrameStore
+pub mod FrameStoreCode
 pub mod Dones

@@ -27,8 +27,8 @@ impl<'t> Drop for Asking<'t> {
 
 impl<'t> Model for Asking<'t> {
     ghost use Rattle.std.specs.Prelude.{◌≡◌, Some, IfSome, is_some};
-    ghost use Rattle.task_board.specs.Shelf.{AskedOf, question_name};
-    ghost use Rattle.task_board.specs.ShelfCode.{asked_of_code};
+    ghost use Rattle.task_board.specs.FrameStore.{AskedOf, question_name};
+    ghost use Rattle.task_board.specs.FrameStoreCode.{asked_of_code};
 
     ghost Value = { AskedOf };
 

@@ -8,7 +8,7 @@ ghost use Rattle.task_board.specs.HandedIn.{HasBegun, IsBeginRefused, IsHandedIn
 use super::board::TaskBoard;
 use super::refused::Refused;
 use crate::done::Done;
-use crate::spent::Spent;
+use crate::retired::Retired;
 use frame_params::{BoardStep, LogicStep, ThinkStep};
 use job_scheduler::BoardFault;
 
@@ -56,10 +56,10 @@ impl<'t> TaskBoard<'t> {
 
     /// Takes out what the last events have left over: it is let go sooner outside a lock.
     #[inline(always)]
-    pub fn take_spent(&mut self) -> Spent<'t>
+    pub fn take_retired(&mut self) -> Retired<'t>
         ensures { self.new ≡ self.old }
     {
-        self.shelf.take_spent()
+        self.frame_store.take_retired()
     }
 
     // The worker's frame begins: its thinks are queued, or it waits for its slot.

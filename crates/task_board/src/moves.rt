@@ -22,7 +22,7 @@ impl<'t> TaskBoard<'t> {
         requires { MayBeTakenUp self.now job step }
         ensures { IfOk result (IsTaskAt self.now.game job step) }
     {
-        match self.shelf.task(self.alloc, job, step) {
+        match self.frame_store.task(self.alloc, job, step) {
             Ok(task) => Ok(task),
             Err(_) => Err(OutOfMemory),
         }
@@ -109,15 +109,15 @@ impl<'t> TaskBoard<'t> {
         ensures task { IfOk result (λ task. task ≡ logic_of self.old.game frame true) }
         ensures unchanged { OnErr result (self.new ≡ self.old) }
     {
-        let Ok((start, room)) = self.shelf.ready(self.alloc, frame) else {
+        let Ok((start, room)) = self.frame_store.ready(self.alloc, frame) else {
             return Err(OutOfMemory);
         };
         let logic = JobName::Logic { frame };
         let Ok(()) = self.jobs.resume(worker, fiber, logic) else {
-            self.shelf.keep_room(room);
+            self.frame_store.keep_room(room);
             return Err(OutOfMemory);
         };
-        Ok(self.shelf.turn(start, room))
+        Ok(self.frame_store.turn(start, room))
     }
 
     /// A worker goes on with a job, on the fiber that holds it.
@@ -131,7 +131,7 @@ impl<'t> TaskBoard<'t> {
         let Ok(()) = self.jobs.resume(worker, fiber, job) else {
             return Err(OutOfMemory);
         };
-        self.shelf.go_on(job);
+        self.frame_store.go_on(job);
         Ok(())
     }
 }

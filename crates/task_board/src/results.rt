@@ -11,7 +11,7 @@ use super::board::TaskBoard;
 use super::fitting::{is_of, is_parked_at};
 use super::refused::Refused;
 use crate::done::Done;
-use crate::shelf::next_of;
+use crate::frame_store::next_of;
 use crate::shown::Shown;
 use frame_params::Parked;
 use job_scheduler::BoardFault;
@@ -98,7 +98,7 @@ impl<'t> TaskBoard<'t> {
         let Ok(()) = self.jobs.ask(worker, frame, agent, question) else {
             return Err(parked);
         };
-        self.shelf.park(agent, parked);
+        self.frame_store.park(agent, parked);
         Ok(())
     }
 
@@ -182,7 +182,7 @@ impl<'t> TaskBoard<'t> {
         let Ok(()) = self.jobs.finish(worker, done.name()) else {
             return Err(done);
         };
-        self.shelf.keep(done, next);
+        self.frame_store.keep(done, next);
         Ok(())
     }
 
@@ -199,7 +199,7 @@ impl<'t> TaskBoard<'t> {
         let Ok(()) = self.jobs.emit(frame) else {
             return Err(BoardFault::OutOfMemory);
         };
-        Ok(self.shelf.show(frame))
+        Ok(self.frame_store.show(frame))
     }
 
     /// Nothing happens any more; a second call changes nothing.

@@ -3,7 +3,7 @@ ghost use Rattle.std.specs.List.{insert, position_or_len};
 ghost use Rattle.board_model.specs.Stored.{parts, put_in};
 ghost use Rattle.frame_state.specs.Names.{AreOfAllAgents, frame_of};
 ghost use Rattle.task_board.specs.Parts.{AreInOrder};
-ghost use Rattle.task_board.specs.Shelf.{part_name};
+ghost use Rattle.task_board.specs.FrameStore.{part_name};
 
 use frame_params::{FrameParams, Gathering, LogicTask, Thought};
 use game_session::Session;
@@ -32,8 +32,8 @@ impl<'t> Drop for Thoughts<'t> {
 impl<'t> Model for Thoughts<'t> {
     ghost use Rattle.std.specs.Prelude.{◌≡◌, ◌≤◌, [], IfSome, length, map, vec_capacity, box_value};
     ghost use Rattle.task_board.specs.Parts.{AreInOrder, AreOfGame};
-    ghost use Rattle.task_board.specs.Shelf.{PartsOf, part_name};
-    ghost use Rattle.task_board.specs.ShelfCode.{parts_of_code};
+    ghost use Rattle.task_board.specs.FrameStore.{PartsOf, part_name};
+    ghost use Rattle.task_board.specs.FrameStoreCode.{parts_of_code};
 
     ghost Value = { PartsOf };
 

@@ -7,8 +7,8 @@ use Rattle.clap.specs.declared.error.kind.ErrorKind.TheVariants as kinds
 use Rattle.words.specs.declared.fault.WordsFault.{WordsFault}
 use Rattle.words.specs.declared.fault.WordsFault.TheVariants.{OutOfMemory, Help, Version, Refused}
 use Rattle.words.specs.declared.request.Words.{Words}
-use Rattle.words.specs.declared.request.Words.TheVariants.{Piped, Play, Replay, Check, Explain, Digest, State, Why, Complete}
-use Rattle.words.specs.Program.{AreNumbers, Enters, IsNumber, IsReading, IsText, IsAskedFor, IsNoHelp, AsksToPlay, AsksToReplay, AsksToExplain, AsksToDigest, AsksForState, AsksWhy, AsksToComplete}
+use Rattle.words.specs.declared.request.Words.TheVariants.{Piped, Play, Replay, Check, Explain, Digest, State, Why, Complete, Record}
+use Rattle.words.specs.Program.{AreNumbers, Enters, IsNumber, IsReading, IsText, IsAskedFor, IsNoHelp, AsksToPlay, AsksToReplay, AsksToExplain, AsksToDigest, AsksForState, AsksWhy, AsksToComplete, AsksToRecord}
 
 abbrev name_in : Option (Text × List Row) → Text
 name_in None = []
@@ -46,7 +46,8 @@ As P name rows =
     (choose (bytes_eq name (codes "state")) ((level : _) × (frame : _) × (script : _) × IsNumber (first_of (codes "frame") rows) frame × P (State level frame script))
     (choose (bytes_eq name (codes "why"))
     ((level : _) × (frame : _) × (agent : _) × (script : _) × IsNumber (first_of (codes "frame") rows) frame × IsText rows (codes "agent") agent × P (Why level frame agent script))
-    ((level : _) × (log : _) × (whole : _) × (script : _) × P (Complete level log whole script))))))))
+    (choose (bytes_eq name (codes "complete")) ((level : _) × (log : _) × (whole : _) × (script : _) × P (Complete level log whole script))
+    ((level : _) × (journal : _) × (settings : _) × (script : _) × AreNumbers rows settings × P (Record level journal settings script)))))))))
 
 -- words are read as those of the command that they enter
 read_as : (words : List Text) (w : Words) (P : Words → Type 0) (name : Text) (rows : List Row) → IsReading words w → Enters words name rows → P w → As P name rows
@@ -66,6 +67,8 @@ read_as words (Why level frame agent script) P name rows reading enters done =
     one_entry words (codes "why") name reading.0 rows reading.1 enters (As P) (level, frame, agent, script, reading.3, reading.4, done)
 read_as words (Complete level log whole script) P name rows reading enters done =
     one_entry words (codes "complete") name reading.0 rows reading.1 enters (As P) (level, log, whole, script, done)
+read_as words (Record level journal settings script) P name rows reading enters done =
+    one_entry words (codes "record") name reading.0 rows reading.1 enters (As P) (level, journal, settings, script, reading.4, done)
 
 -- a Play of so many frames
 pub read_as_play : (words : List Text) (w : Words) (n : ℕ) (P : Words → Type 0) (Q : ℕ → Type 0) → IsReading words w → AsksToPlay words n
@@ -110,6 +113,12 @@ pub read_as_complete : (words : List Text) (w : Words) (P : Words → Type 0) (Q
 read_as_complete words w P Q reading asks step done =
     let it = read_as words w P (codes "complete") asks.0 reading asks.1 done in
     step it.0 it.1 it.2 it.3 it.4
+
+pub read_as_record : (words : List Text) (w : Words) (n : ℕ) (P : Words → Type 0) (Q : ℕ → Type 0) → IsReading words w → AsksToRecord words n
+    → ((level : _) (journal : _) (settings : _) (script : _) → P (Record level journal settings script) → Q settings.frames) → P w → Q n
+read_as_record words w n P Q reading asks step done =
+    let it = read_as words w P (codes "record") asks.0 reading asks.1 done in
+    subst Q (one_number (codes "frames") asks.0 it.2.frames n it.4.0 asks.2) (step it.0 it.1 it.2 it.3 it.5)
 
 -- words in which clap finds no fault ask for no help
 pub no_help : (words : List Text) (name : Text) (rows : List Row) (fault : WordsFault) → Enters words name rows → IsAskedFor words fault → IsNoHelp fault

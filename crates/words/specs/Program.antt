@@ -11,7 +11,7 @@ use Rattle.job_scheduler.specs.Numbers.{Numbers}
 use Rattle.words.specs.declared.fault.WordsFault.{WordsFault}
 use Rattle.words.specs.declared.fault.WordsFault.TheVariants.{Help, Version}
 use Rattle.words.specs.declared.request.Words.{Words}
-use Rattle.words.specs.declared.request.Words.TheVariants.{Piped, Play, Replay, Check, Explain, Digest, State, Why, Complete}
+use Rattle.words.specs.declared.request.Words.TheVariants.{Piped, Play, Replay, Check, Explain, Digest, State, Why, Complete, Record}
 
 -- takes a number in a range
 abbrev pub in_range : ℕ → ℕ → ValueParser
@@ -99,6 +99,11 @@ complete =
     with_rule (with_rule (with_rule (with_rule (new_app (codes "complete")) (word_rule (codes "level"))) (word_rule (codes "log"))) (word_rule (codes "whole")))
     (path_rule (codes "script"))
 
+-- `record LEVEL JOURNAL --frames N --workers K [--small S] [--large G] [--slots P] [--script FILE]`
+abbrev pub recording : App
+recording =
+    with_rule (with_room (with_run (with_rule (with_rule (new_app (codes "record")) (word_rule (codes "level"))) (word_rule (codes "journal"))))) (path_rule (codes "script"))
+
 -- the program with its first command, with more, and with all
 abbrev pub with_play : App
 with_play = with_subcommand (on_top (λ s. record s { no_binary_name = true; has_version = true }) (new_app (codes "btworld"))) play.top
@@ -121,8 +126,11 @@ with_state = with_subcommand with_digest state.top
 abbrev pub with_why : App
 with_why = with_subcommand with_state why.top
 
+abbrev pub with_complete : App
+with_complete = with_subcommand with_why complete.top
+
 abbrev pub program : App
-program = with_subcommand with_why complete.top
+program = with_subcommand with_complete recording.top
 
 -- the decimal value of an entry
 abbrev pub IsNumber : Option Text → ℕ → Type 0
@@ -172,6 +180,10 @@ AsksWhy words frame agent =
 abbrev pub AsksToComplete : List Text → Type 0
 AsksToComplete words = (rows : List Row) × Enters words (codes "complete") rows
 
+-- the words are taken for `record` with so many frames
+abbrev pub AsksToRecord : List Text → ℕ → Type 0
+AsksToRecord words frames = (rows : List Row) × Enters words (codes "record") rows × IsNumber (first_of (codes "frames") rows) frames
+
 -- no words, or the subcommand and the entries of clap's reading
 abbrev pub IsReading : List Text → Words → Type 0
 IsReading words Piped = words ≡ []
@@ -190,6 +202,8 @@ IsReading words (Why level frame agent script) = (rows : List Row) × Enters wor
     × IsNumber (first_of (codes "frame") rows) frame × IsText rows (codes "agent") agent × IsOptional rows (codes "script") script
 IsReading words (Complete level log whole script) = (rows : List Row) × Enters words (codes "complete") rows × IsText rows (codes "level") level
     × IsText rows (codes "log") log × IsText rows (codes "whole") whole × IsOptional rows (codes "script") script
+IsReading words (Record level journal settings script) = (rows : List Row) × Enters words (codes "record") rows × IsText rows (codes "level") level
+    × IsText rows (codes "journal") journal × AreNumbers rows settings × IsOptional rows (codes "script") script
 
 -- neither help nor the version was asked for
 abbrev pub IsNoHelp : WordsFault → Type 0

@@ -109,9 +109,17 @@ pub fn with_subcommands<'a>(
     Ok(command)
 }
 
+/// The program with the commands of a table.
+fn program_of<'a>(alloc: Global, subcommands: &[Subcommand]) -> Result<Command<'a>, AllocError>
+    ensures { IfOk result (λ c. app_of c ≡ fold with_listed
+        (on_top (λ s. record s { no_binary_name = true; has_version = true }) (new_app (codes "btworld"))) subcommands.now) }
+{
+    with_subcommands(alloc, top_command(alloc), subcommands)
+}
+
 /// The program with all its commands.
 pub fn program_command<'a>(alloc: Global) -> Result<Command<'a>, AllocError>
     ensures { IfOk result (λ c. app_of c ≡ program) }
 {
-    with_subcommands(alloc, top_command(alloc), &SUBCOMMANDS)
+    program_of(alloc, &SUBCOMMANDS)
 }

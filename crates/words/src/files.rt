@@ -1,4 +1,4 @@
-ghost use Rattle.std.specs.Prelude.{◌≡◌, ◌≢◌, [], None, string_bytes, IfErr, IsOkAnd, IsSomeAnd, OnOk, OnErr};
+ghost use Rattle.std.specs.Prelude.{◌≡◌, ◌≢◌, [], None, string_bytes, IfOk, IfErr, IsOkAnd, IsSomeAnd, OnOk, OnErr};
 ghost use Rattle.std.specs.IoError.{error_kind};
 ghost use Rattle.std.specs.Io.KnownBytes.{Appends};
 ghost use Rattle.byte_streams.specs.Streams.{AppendsPart};
@@ -54,15 +54,23 @@ pub fn read_optional_file<H: Files>(
     }
 }
 
+/// Makes an empty file, in place of one that is there, which takes the bytes that are written, one behind another. Gives the path back.
+pub fn create_file<H: Files>(rt: &H, path: String) -> Result<(H::File, String), Fault>
+    ensures path { IfOk result (λ made. string_bytes made.1 ≡ string_bytes path) }
+    ensures fault { IfErr result (IsFileFault (string_bytes path)) }
+{
+    match fs::create(rt, path.as_str()) {
+        Ok(file) => Ok((file, path)),
+        Err(error) => Err(file_fault(path, &error)),
+    }
+}
+
 /// Makes a file of these bytes, in place of one that is there. Where it fails the file may be there with a first part
 /// of them.
 pub fn write_file<H: Files>(rt: &H, path: String, bytes: &[u8]) -> Result<(), Fault>
     ensures { IfErr result (IsFileFault (string_bytes path)) }
 {
-    let mut file = match fs::create(rt, path.as_str()) {
-        Ok(file) => file,
-        Err(error) => return Err(file_fault(path, &error)),
-    };
+    let (mut file, path) = create_file(rt, path)?;
     if write_whole(&mut file, bytes).is_err() || file.flush().is_err() {
         return Err(Fault::File(path));
     }

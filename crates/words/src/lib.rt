@@ -22,7 +22,7 @@ pub use arguments::{VERSION, new_command, with_subcommands};
 pub use ending::{end_with, refuse_words};
 pub use entries::{missing, number_entry, optional_entry, text_entry};
 pub use fault::WordsFault;
-pub use files::{put, read_file, read_optional_file, write_file};
+pub use files::{create_file, put, read_file, read_optional_file, write_file};
 pub use program_fault::Fault;
 pub use reading::{fault_of, read_words};
 pub use request::Words;

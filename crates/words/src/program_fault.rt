@@ -47,6 +47,12 @@ pub enum Fault {
     Incomplete { shown: u32, frames: u32 },
     #[error("log: stopped")]
     Stopped,
+    #[error("journal: head")]
+    JournalHead,
+    #[error("journal: another level")]
+    AnotherLevel,
+    #[error("journal: another script")]
+    AnotherScript,
     #[error("why: no agent")]
     NoSuchAgent,
     #[error("run: write")]

@@ -158,6 +158,19 @@ fn complete_words(alloc: Global, matches: &ArgMatches<'_>) -> Result<Words, Word
     })
 }
 
+fn record_words(alloc: Global, matches: &ArgMatches<'_>) -> Result<Words, WordsFault>
+    ensures reading { IfOk result (λ w. (ws : List (List ℕ))
+        → Enters ws (codes "record") (rows_of (found_of matches.now)) → IsReading ws w) }
+    ensures fault { IfErr result IsNoHelp }
+{
+    Ok(Words::Record {
+        level: text_entry(alloc, matches, "level")?,
+        journal: text_entry(alloc, matches, "journal")?,
+        settings: settings_entry(alloc, matches)?,
+        script: optional_entry(alloc, matches, "script")?,
+    })
+}
+
 /// What the command asks for that clap's matches have entered.
 fn command_words(alloc: Global, matches: &ArgMatches<'_>) -> Result<Words, WordsFault>
     ensures reading { IfOk result (λ w. (ws : List (List ℕ)) → IsEntered ws matches.now → IsReading ws w) }
@@ -172,6 +185,7 @@ fn command_words(alloc: Global, matches: &ArgMatches<'_>) -> Result<Words, Words
         Some(("state", state)) => state_words(alloc, state),
         Some(("why", why)) => why_words(alloc, why),
         Some(("complete", complete)) => complete_words(alloc, complete),
+        Some(("record", recording)) => record_words(alloc, recording),
         _ => Err(missing(alloc, "command")),
     }
 }

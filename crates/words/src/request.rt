@@ -57,4 +57,12 @@ pub enum Words {
         whole: String,
         script: Option<String>,
     },
+    /// Play a level, print its frames, and write the run's journal.
+    Record {
+        level: String,
+        /// Where the journal is written.
+        journal: String,
+        settings: Settings,
+        script: Option<String>,
+    },
 }

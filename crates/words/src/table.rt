@@ -55,58 +55,68 @@ const SCRIPT: Argument = Argument {
     form: Form::Path,
 };
 
-pub static SUBCOMMANDS: [Subcommand; 8] = [
+const FRAMES: Argument = Argument {
+    name: "frames",
+    value: "N",
+    help: "How many frames, 0 to 9999",
+    form: Form::Number {
+        least: 0,
+        most: 9999,
+    },
+};
+
+const WORKERS: Argument = Argument {
+    name: "workers",
+    value: "K",
+    help: "How many worker threads, 1 to 16",
+    form: Form::Number { least: 1, most: 16 },
+};
+
+const SMALL: Argument = Argument {
+    name: "small",
+    value: "S",
+    help: "How many jobs that never wait may be under way at once, 1 to 16",
+    form: Form::Default {
+        least: 1,
+        most: 16,
+        value: "8",
+    },
+};
+
+const LARGE: Argument = Argument {
+    name: "large",
+    value: "G",
+    help: "How many jobs that may wait may be under way at once, 2 to 63",
+    form: Form::Default {
+        least: 2,
+        most: 63,
+        value: "8",
+    },
+};
+
+const SLOTS: Argument = Argument {
+    name: "slots",
+    value: "P",
+    help: "How many frames may be under way at once, 1 to 16",
+    form: Form::Default {
+        least: 1,
+        most: 16,
+        value: "3",
+    },
+};
+
+pub static SUBCOMMANDS: [Subcommand; 9] = [
     Subcommand {
         name: "play",
         about: "Plays a level and prints its frames on standard output.",
         usage: "btworld play LEVEL --frames N --workers K [--small S] [--large G] [--slots P] [--script FILE] [--log FILE]",
         arguments: &[
             LEVEL,
-            Argument {
-                name: "frames",
-                value: "N",
-                help: "How many frames, 0 to 9999",
-                form: Form::Number {
-                    least: 0,
-                    most: 9999,
-                },
-            },
-            Argument {
-                name: "workers",
-                value: "K",
-                help: "How many worker threads, 1 to 16",
-                form: Form::Number { least: 1, most: 16 },
-            },
-            Argument {
-                name: "small",
-                value: "S",
-                help: "How many jobs that never wait may be under way at once, 1 to 16",
-                form: Form::Default {
-                    least: 1,
-                    most: 16,
-                    value: "8",
-                },
-            },
-            Argument {
-                name: "large",
-                value: "G",
-                help: "How many jobs that may wait may be under way at once, 2 to 63",
-                form: Form::Default {
-                    least: 2,
-                    most: 63,
-                    value: "8",
-                },
-            },
-            Argument {
-                name: "slots",
-                value: "P",
-                help: "How many frames may be under way at once, 1 to 16",
-                form: Form::Default {
-                    least: 1,
-                    most: 16,
-                    value: "3",
-                },
-            },
+            FRAMES,
+            WORKERS,
+            SMALL,
+            LARGE,
+            SLOTS,
             SCRIPT,
             Argument {
                 name: "log",
@@ -147,7 +157,7 @@ pub static SUBCOMMANDS: [Subcommand; 8] = [
             Argument {
                 name: "log",
                 value: "FILE",
-                help: "The log file, as `play --log` writes it",
+                help: "The log file, as `play --log` writes it, or the journal file",
                 form: Form::Path,
             },
         ],
@@ -156,19 +166,7 @@ pub static SUBCOMMANDS: [Subcommand; 8] = [
         name: "digest",
         about: "Prints the digests of a level and a script, and then that of the state after each frame: two machines compare them.",
         usage: "btworld digest LEVEL --frames N [--script FILE]",
-        arguments: &[
-            LEVEL,
-            Argument {
-                name: "frames",
-                value: "N",
-                help: "How many frames, 0 to 9999",
-                form: Form::Number {
-                    least: 0,
-                    most: 9999,
-                },
-            },
-            SCRIPT,
-        ],
+        arguments: &[LEVEL, FRAMES, SCRIPT],
     },
     Subcommand {
         name: "state",
@@ -214,14 +212,14 @@ pub static SUBCOMMANDS: [Subcommand; 8] = [
     },
     Subcommand {
         name: "complete",
-        about: "Goes on where the log of an interrupted run breaks off, prints all frames, and writes the log of the whole run.",
+        about: "Goes on where the log or the journal of an interrupted run breaks off, prints all frames, and writes the log of the whole run.",
         usage: "btworld complete LEVEL LOG WHOLE [--script FILE]",
         arguments: &[
             LEVEL,
             Argument {
                 name: "log",
                 value: "LOG",
-                help: "The log file; a last line without its line feed is left out",
+                help: "The log or the journal file; a last line without its line feed is left out",
                 form: Form::Place,
             },
             Argument {
@@ -230,6 +228,26 @@ pub static SUBCOMMANDS: [Subcommand; 8] = [
                 help: "Where the whole log is written, once all frames are",
                 form: Form::Place,
             },
+            SCRIPT,
+        ],
+    },
+    Subcommand {
+        name: "record",
+        about: "Plays a level as `play` does, and writes a journal of the run, which knows its level and script: `complete` goes on where it breaks off.",
+        usage: "btworld record LEVEL JOURNAL --frames N --workers K [--small S] [--large G] [--slots P] [--script FILE]",
+        arguments: &[
+            LEVEL,
+            Argument {
+                name: "journal",
+                value: "JOURNAL",
+                help: "Where the journal of the run is written",
+                form: Form::Place,
+            },
+            FRAMES,
+            WORKERS,
+            SMALL,
+            LARGE,
+            SLOTS,
             SCRIPT,
         ],
     },

@@ -4,14 +4,15 @@ ghost use Rattle.game_rules.specs.Game.{signals};
 ghost use Rattle.game_session.specs.Levels.{value_of, agent_trees};
 ghost use Rattle.game_session.specs.Sessions.{game_of};
 ghost use Rattle.frame_parts.specs.Memories.{AllFit};
-ghost use Rattle.stepping.specs.Played.{IsAt, IsTurnedBy};
-ghost use Rattle.stepping.specs.StateText.{state_text};
+ghost use Rattle.stepping.specs.Played.{Played, IsAt, IsTurnedBy};
+ghost use Rattle.stepping.specs.StateText.{AreAlike, AreOfOneLevel, IsState, state_text};
 
 use super::Stepping;
 use crate::digest_of_level::level_digest;
 use crate::load_fault::LoadFault;
 use crate::same::are_same_signals;
-use crate::state_lines::{Told, read_state};
+use crate::state_lines::{Crew, Told, read_state};
+use crate::state_words::Head;
 use crate::turns::turn_all;
 use bt_nodes::Status;
 use bt_tick::Memory;
@@ -62,7 +63,6 @@ fn changes_to(alloc: Global, frame: u32, shown: Signals) -> Result<Vec<Change>, 
 }
 
 // Appends those by which the next frame has these.
-
 fn turn_next(
     changes: &mut Vec<Change>,
     frame: u32,
@@ -98,15 +98,13 @@ struct Kept {
 fn placed(alloc: Global, level: &Level, told: Told) -> Result<Kept, LoadFault>
     ensures { IfOk result (λ k. IsAt (game_of (value_of level.now) k.changes.items) k.frame k.world k.memories.items k.statuses.items k.drawn k.signals) }
 {
-    let Told {
-        frame,
-        shown,
-        next,
+    let Told { head, crew, items } = told;
+    let Head { frame, shown, next } = head;
+    let Crew {
         agents,
         answers,
         memories,
-        items,
-    } = told;
+    } = crew;
     let count = level.world().agents().len();
     if agents.len() != count {
         return Err(LoadFault::Text);
@@ -175,6 +173,7 @@ impl Stepping {
         text: &[u8],
     ) -> Result<Stepping, LoadFault>
         ensures text { IfOk result (λ s. state_text s ≡ text.now) }
+        ensures state { IfOk result (λ s. (p : Played) → IsState p → AreOfOneLevel s.game p.game → state_text p ≡ text.now → AreAlike s p) }
         ensures level { IfOk result (λ s. s.game ≡ game_of (value_of level) s.game.changes) }
         ensures script { IfOk result (λ s. s.script ≡ script) }
     {

@@ -1,5 +1,5 @@
 use Rattle.commands.proofs.Untouched.{whole_is_part}
-use Rattle.commands.proofs.Doing.{played, played_in_part, replayed, replayed_in_part, explained, digested, digested_in_part, told, told_in_part, why_told, why_told_in_part, completed, completed_in_part}
+use Rattle.commands.proofs.Doing.{played, played_in_part, replayed, replayed_in_part, explained, digested, digested_in_part, told, told_in_part, why_told, why_told_in_part, completed, completed_in_part, recorded, recorded_in_part}
 use Rattle.commands.proofs.program.command.Goals as goal
 
 pub returns-in-Ok-play_input-clause-part : goal.returns-in-Ok-play_input-clause-part
@@ -57,3 +57,11 @@ returns-in-Ok-clause-completed g c = λ asks zero.
 pub returns-in-Ok-clause-completed_part : goal.returns-in-Ok-clause-completed_part
 returns-in-Ok-clause-completed_part g c = λ asks.
     completed_in_part (g.W.Write.contents c.args.out.now) (g.W.Write.contents c.act.new.out) _ c.in-Ok.words c.in-Ok.ensures.reading asks c.act.ensures.part
+
+pub returns-in-Ok-clause-recorded : goal.returns-in-Ok-clause-recorded
+returns-in-Ok-clause-recorded g c = λ n asks zero.
+    recorded (g.W.Write.contents c.args.out.now) (g.W.Write.contents c.act.new.out) _ c.in-Ok.words n c.in-Ok.ensures.reading asks (c.act.ensures.done zero)
+
+pub returns-in-Ok-clause-recorded_part : goal.returns-in-Ok-clause-recorded_part
+returns-in-Ok-clause-recorded_part g c = λ n asks.
+    recorded_in_part (g.W.Write.contents c.args.out.now) (g.W.Write.contents c.act.new.out) _ c.in-Ok.words n c.in-Ok.ensures.reading asks c.act.ensures.part

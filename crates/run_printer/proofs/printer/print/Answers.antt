@@ -2,7 +2,8 @@ use Rattle.std.proofs.Common.{rules, ◌≡◌, ◌+◌, ◌<◌, arith, ap, ◌
 use Rattle.std.specs.Io.KnownBytes.{Appends}
 use Rattle.std.proofs.KnownBytes.{Appends-kept}
 use Rattle.game_rules.specs.Text.{texts, frame_text}
-use Rattle.run_shared.proofs.Texts.{part-of_more, part-of_whole}
+use Rattle.run_shared.proofs.Texts.{one_more, part-of_more, part-of_whole}
+use Rattle.run_printer.proofs.Journals.{caught_up}
 use Rattle.run_printer.proofs.printer.print.Goals as goal
 
 pub returns-in-Err-clause-err : goal.returns-in-Err-clause-err
@@ -22,3 +23,20 @@ returns-in-Err-flush-clause-err g c =
     let wrote : Appends (g.W.Write.contents c.args.out.now) (g.W.Write.contents c.loop-done.out) (texts c.args.session.now c.args.settings.frames) = search rules in
     rw c.frames-last.ensures.value
     (part-of_whole _ _ c.args.session.now c.args.settings.frames c.args.settings.frames (omega arith) (Appends-kept _ _ _ _ wrote c.in-Err-flush.ensures.bytes))
+
+pub returns-in-Err-note_news-clause-err : goal.returns-in-Err-note_news-clause-err
+returns-in-Err-note_news-clause-err g c =
+    let session = c.args.session.now in
+    let done = c.loop-done.done in
+    part-of_whole _ _ session _ (done + 1) (omega (arith, c.loop-done-test.true, c.frames-last.ensures.value))
+    (one_more _ _ _ session done c.deref.result.now (c.deref.ensures.value ∙ c.in-Ok.ensures.text) c.loop-done.invariant.3 c.in-Ok-write_whole.ensures.ok)
+
+pub loop-done-preserved : goal.loop-done-preserved
+loop-done-preserved g c =
+    let inv = c.loop-done.invariant in (
+      c.next_text.ensures.mail,
+      c.next_text.ensures.parts ∙ inv.1,
+      omega (arith, c.in-Ok.ensures.counted, inv.2),
+      one_more _ _ _ c.args.session.now c.loop-done.done c.deref.result.now (c.deref.ensures.value ∙ c.in-Ok.ensures.text) inv.3 c.in-Ok-write_whole.ensures.ok,
+      caught_up _ _ _ c.loop-done.noted.items c.note_news.new.noted.items inv.4 c.in-Ok-note_news.ensures,
+    )

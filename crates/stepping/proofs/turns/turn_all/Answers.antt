@@ -1,4 +1,4 @@
-use Rattle.std.proofs.Common.{◌≡◌, ◌<◌, ◌∙◌, ◌+◌, ◌++◌, ◌∷◌, [], ℕ, sym, subst, arith, take, length}
+use Rattle.std.proofs.Common.{◌≡◌, ◌∙◌, ◌+◌, ◌++◌, ◌∷◌, [], ℕ, sym, subst, arith, take, length}
 use Rattle.grid_world.specs.Open.{is_on}
 use Rattle.stepping.specs.Played.{IsTurnedBy}
 use Rattle.stepping.proofs.Playing.{turned_long, wanted_more, all_wanted}

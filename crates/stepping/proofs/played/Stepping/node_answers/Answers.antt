@@ -1,7 +1,4 @@
-use Rattle.std.specs.Arc.{arc_value}
-use Rattle.game_session.specs.Levels.{value_of}
-use Rattle.game_session.specs.Sessions.{game_of}
-use Rattle.stepping.proofs.Asked.{ground_under}
+use Rattle.stepping.proofs.GroundUnder.{ground_under}
 use Rattle.stepping.proofs.played.Stepping.node_answers.Goals as goal
 
 pub node_answers-requires-clause-ground : goal.node_answers-requires-clause-ground

@@ -1,7 +1,6 @@
-use Rattle.std.proofs.Common.{◌≡◌, ◌<◌, ◌≤◌, ◌^◌, arith, length}
+use Rattle.std.proofs.Common.{◌≤◌, arith, length}
 use Rattle.std.specs.Prelude.{IfOk}
 use Rattle.std.proofs.lemmas.Result.{IfOk-weaker}
-use Rattle.game_rules.specs.Text.{text}
 use Rattle.stepping.specs.Played.{most_text}
 use Rattle.stepping.proofs.TextLength.{text_length}
 use Rattle.stepping.proofs.played.Stepping.text.Goals as goal

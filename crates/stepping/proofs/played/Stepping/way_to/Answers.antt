@@ -5,7 +5,7 @@ use Rattle.grid_world.specs.World.{point}
 use Rattle.frame_parts.specs.Distances.{KnownOf}
 use Rattle.game_rules.proofs.Ground.{way_stays, map_stays}
 use Rattle.stepping.specs.Played.{Played, way_under}
-use Rattle.stepping.proofs.Asked.{ground_under}
+use Rattle.stepping.proofs.GroundUnder.{ground_under}
 use Rattle.stepping.proofs.played.Stepping.way_to.Goals as goal
 
 pub way-requires : goal.way-requires

@@ -8,11 +8,11 @@ use Rattle.task_board.proofs.Boarding.{known, not_running, other_result, seen_as
 use Rattle.task_board.proofs.board.TaskBoard.ask.Goals as goal
 
 pub returns-in-Err-clause-refused : goal.returns-in-Err-clause-refused
-returns-in-Err-clause-refused c = subst (λ b. IsRefused b c.args.worker (IsOtherParked c.args.parked b.game) (Ask c.args.worker) c.in-Err.fault) c.self.view_is (not_running (seen_as c.self.inside.session.now c.self.inside.jobs) c.args.worker (IsOtherParked c.args.parked c.self.inside.session.now) (Ask c.args.worker) c.in-Err.fault (known c.self.inside.session.now c.self.inside.jobs c.self.inside.shelf c.self.invariant (IsRunning c.args.worker (Err c.in-Err.fault)) c.in-Err.ensures))
+returns-in-Err-clause-refused c = subst (λ b. IsRefused b c.args.worker (IsOtherParked c.args.parked b.game) (Ask c.args.worker) c.in-Err.fault) c.self.view_is (not_running (seen_as c.self.inside.session.now c.self.inside.jobs) c.args.worker (IsOtherParked c.args.parked c.self.inside.session.now) (Ask c.args.worker) c.in-Err.fault (known c.self.inside.session.now c.self.inside.jobs c.self.inside.frame_store c.self.invariant (IsRunning c.args.worker (Err c.in-Err.fault)) c.in-Err.ensures))
 
 pub returns-then-not-is_same-clause-refused : goal.returns-then-not-is_same-clause-refused
 returns-then-not-is_same-clause-refused c =
-    let run = known c.self.inside.session.now c.self.inside.jobs c.self.inside.shelf c.self.invariant (IsRunning c.args.worker (Ok c.in-Ok.field-0)) c.in-Ok.ensures in
+    let run = known c.self.inside.session.now c.self.inside.jobs c.self.inside.frame_store c.self.invariant (IsRunning c.args.worker (Ok c.in-Ok.field-0)) c.in-Ok.ensures in
     subst (λ b. IsRefused b c.args.worker (IsOtherParked c.args.parked b.game) (Ask c.args.worker) WrongResult) c.self.view_is
     (other_result (seen_as c.self.inside.session.now c.self.inside.jobs) c.self.invariant.lawful c.args.worker run.0 c.in-Ok.field-0.job c.in-Ok.field-0.step run.1 (IsOtherParked c.args.parked c.self.inside.session.now) (Ask c.args.worker) (inr (inr (λ e. c.is_same.ensures.differs c.if-not-is_same.true (c.session.ensures ∙ e)))))
 

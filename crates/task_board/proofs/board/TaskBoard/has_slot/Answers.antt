@@ -4,4 +4,4 @@ use Rattle.task_board.proofs.Boarding.{known}
 use Rattle.task_board.proofs.board.TaskBoard.has_slot.Goals as goal
 
 pub returns : goal.returns
-returns c = rw (← c.self.view_is) (known c.self.inside.session.now c.self.inside.jobs c.self.inside.shelf c.self.invariant (λ s st. IsTrue c.has_slot.result ↔ (c.args.frame ≤ st.emitted + s.slots)) c.has_slot.ensures)
+returns c = rw (← c.self.view_is) (known c.self.inside.session.now c.self.inside.jobs c.self.inside.frame_store c.self.invariant (λ s st. IsTrue c.has_slot.result ↔ (c.args.frame ≤ st.emitted + s.slots)) c.has_slot.ensures)

@@ -5,5 +5,5 @@ use Rattle.task_board.proofs.board.TaskBoard.is_done.Goals as goal
 
 pub returns : goal.returns
 returns c =
-    let test = known c.self.inside.session.now c.self.inside.jobs c.self.inside.shelf c.self.invariant (λ s st. IsTrue c.is_done.result ↔ ((st.stopped ≡ false) × (st.emitted ≡ s.frames))) c.is_done.ensures in
+    let test = known c.self.inside.session.now c.self.inside.jobs c.self.inside.frame_store c.self.invariant (λ s st. IsTrue c.is_done.result ↔ ((st.stopped ≡ false) × (st.emitted ≡ s.frames))) c.is_done.ensures in
     rw (← c.self.view_is) (λ e. (c.self.invariant.lawful, (test.0 e).0, (test.0 e).1), λ m. test.1 (m.1, m.2))

@@ -11,18 +11,18 @@ use Rattle.task_board.proofs.Boarding.{known, not_running, other_result, finish_
 use Rattle.task_board.proofs.board.TaskBoard.may_end.Goals as goal
 
 pub returns-in-Err-clause-refused : goal.returns-in-Err-clause-refused
-returns-in-Err-clause-refused c = subst (λ b. IsRefused b c.args.worker (IsOtherDone c.args.done.now b.game) (Finish c.args.worker) c.in-Err.fault) c.self.view_is (not_running (seen_as c.self.inside.session.now c.self.inside.jobs) c.args.worker (IsOtherDone c.args.done.now c.self.inside.session.now) (Finish c.args.worker) c.in-Err.fault (known c.self.inside.session.now c.self.inside.jobs c.self.inside.shelf c.self.invariant (IsRunning c.args.worker (Err c.in-Err.fault)) c.in-Err.ensures))
+returns-in-Err-clause-refused c = subst (λ b. IsRefused b c.args.worker (IsOtherDone c.args.done.now b.game) (Finish c.args.worker) c.in-Err.fault) c.self.view_is (not_running (seen_as c.self.inside.session.now c.self.inside.jobs) c.args.worker (IsOtherDone c.args.done.now c.self.inside.session.now) (Finish c.args.worker) c.in-Err.fault (known c.self.inside.session.now c.self.inside.jobs c.self.inside.frame_store c.self.invariant (IsRunning c.args.worker (Err c.in-Err.fault)) c.in-Err.ensures))
 
 pub returns-then-not-is_of-clause-refused : goal.returns-then-not-is_of-clause-refused
 returns-then-not-is_of-clause-refused c =
-    let run = known c.self.inside.session.now c.self.inside.jobs c.self.inside.shelf c.self.invariant (IsRunning c.args.worker (Ok c.in-Ok.held)) c.in-Ok.ensures in
+    let run = known c.self.inside.session.now c.self.inside.jobs c.self.inside.frame_store c.self.invariant (IsRunning c.args.worker (Ok c.in-Ok.held)) c.in-Ok.ensures in
     let runs = subst (λ (h : Held). (state_in (seen_as c.self.inside.session.now c.self.inside.jobs)).phase h.job ≡ Runs c.args.worker h.step) (sym c.held.view_is) run.1 in
     subst (λ b. IsRefused b c.args.worker (IsOtherDone c.args.done.now b.game) (Finish c.args.worker) WrongResult) c.self.view_is
     (other_result (seen_as c.self.inside.session.now c.self.inside.jobs) c.self.invariant.lawful c.args.worker run.0 c.held.inside.job c.held.inside.step runs (IsOtherDone c.args.done.now c.self.inside.session.now) (Finish c.args.worker) (inl (is_not _ _ c.is_of.ensures c.if-not-is_of.true)))
 
 pub returns-then-not-is_at-clause-refused : goal.returns-then-not-is_at-clause-refused
 returns-then-not-is_at-clause-refused c =
-    let run = known c.self.inside.session.now c.self.inside.jobs c.self.inside.shelf c.self.invariant (IsRunning c.args.worker (Ok c.in-Ok.held)) c.in-Ok.ensures in
+    let run = known c.self.inside.session.now c.self.inside.jobs c.self.inside.frame_store c.self.invariant (IsRunning c.args.worker (Ok c.in-Ok.held)) c.in-Ok.ensures in
     let runs = subst (λ (h : Held). (state_in (seen_as c.self.inside.session.now c.self.inside.jobs)).phase h.job ≡ Runs c.args.worker h.step) (sym c.held.view_is) run.1 in
     let job = c.is_of.ensures.0 c.if-not-is_of.false in
     let game : game_done c.args.done.now ≡ c.self.inside.session.now = c.requires ∙ sym (ap (λ (b : Played). b.game) c.self.view_is) in
@@ -31,7 +31,7 @@ returns-then-not-is_at-clause-refused c =
 
 pub returns-clause-legal : goal.returns-clause-legal
 returns-clause-legal c =
-    let run = known c.self.inside.session.now c.self.inside.jobs c.self.inside.shelf c.self.invariant (IsRunning c.args.worker (Ok c.in-Ok.held)) c.in-Ok.ensures in
+    let run = known c.self.inside.session.now c.self.inside.jobs c.self.inside.frame_store c.self.invariant (IsRunning c.args.worker (Ok c.in-Ok.held)) c.in-Ok.ensures in
     let runs = subst (λ (h : Held). (state_in (seen_as c.self.inside.session.now c.self.inside.jobs)).phase h.job ≡ Runs c.args.worker h.step) (sym c.held.view_is) run.1 in
     let job = c.is_of.ensures.0 c.if-not-is_of.false in
     let game : game_done c.args.done.now ≡ c.self.inside.session.now = c.requires ∙ sym (ap (λ (b : Played). b.game) c.self.view_is) in
@@ -40,7 +40,7 @@ returns-clause-legal c =
 
 pub returns-clause-full : goal.returns-clause-full
 returns-clause-full c =
-    let run = known c.self.inside.session.now c.self.inside.jobs c.self.inside.shelf c.self.invariant (IsRunning c.args.worker (Ok c.in-Ok.held)) c.in-Ok.ensures in
+    let run = known c.self.inside.session.now c.self.inside.jobs c.self.inside.frame_store c.self.invariant (IsRunning c.args.worker (Ok c.in-Ok.held)) c.in-Ok.ensures in
     let runs = subst (λ (h : Held). (state_in (seen_as c.self.inside.session.now c.self.inside.jobs)).phase h.job ≡ Runs c.args.worker h.step) (sym c.held.view_is) run.1 in
     let job = c.is_of.ensures.0 c.if-not-is_of.false in
     let game : game_done c.args.done.now ≡ c.self.inside.session.now = c.requires ∙ sym (ap (λ (b : Played). b.game) c.self.view_is) in

@@ -7,7 +7,7 @@ use Rattle.job_core.specs.declared.names.Event.TheVariants.{Ask}
 use Rattle.task_board.specs.Boards.{Played, state_in}
 use Rattle.task_board.proofs.Boarding.{an_agent, there_for, few_questions, next_asked, kept_after, happens, seen_as}
 use Rattle.job_core.specs.Core.{step_of}
-use Rattle.task_board.specs.Shelf.{Shelved}
+use Rattle.task_board.specs.FrameStore.{FrameStoreOf}
 use Rattle.task_board.proofs.Handed.{parked_stores}
 use Rattle.task_board.proofs.board.TaskBoard.park.Goals as goal
 
@@ -28,18 +28,18 @@ pub ask-requires-clause-next : goal.ask-requires-clause-next
 ask-requires-clause-next c =
     let legal = rw (← c.self.view_is) at c.requires.legal in
     let runs = rw (← c.self.view_is) at c.requires.runs in
-    rw (c.frame-frame.ensures, c.agent-agent.ensures, c.question-question.ensures.value) (next_asked c.self.inside.session.now c.self.inside.jobs c.self.inside.shelf c.self.invariant c.args.worker c.args.parked.frame c.args.parked.agent c.args.parked.question legal runs)
+    rw (c.frame-frame.ensures, c.agent-agent.ensures, c.question-question.ensures.value) (next_asked c.self.inside.session.now c.self.inside.jobs c.self.inside.frame_store c.self.invariant c.args.worker c.args.parked.frame c.args.parked.agent c.args.parked.question legal runs)
 
 pub ask-requires-clause-few : goal.ask-requires-clause-few
 ask-requires-clause-few c = omega (arith, c.if-prove.false, c.from.ensures, c.size-nodes.ensures.most)
 
 pub park-requires-clause-game : goal.park-requires-clause-game
-park-requires-clause-game c = c.requires.game ∙ (sym (ap (λ (b : Played). b.game) c.self.view_is) ∙ sym (ap (λ (k : Shelved). k.game) c.self.invariant.shelf_is))
+park-requires-clause-game c = c.requires.game ∙ (sym (ap (λ (b : Played). b.game) c.self.view_is) ∙ sym (ap (λ (k : FrameStoreOf). k.game) c.self.invariant.frame_store_is))
 
 pub park-requires-clause-agent : goal.park-requires-clause-agent
 park-requires-clause-agent c =
     let legal = rw (← c.self.view_is) at c.requires.legal in
-    let there = there_for c.self.inside.session.now c.self.inside.jobs c.self.inside.shelf c.self.invariant (Ask c.args.worker (Think c.args.parked.frame c.args.parked.agent)) legal in
+    let there = there_for c.self.inside.session.now c.self.inside.jobs c.self.inside.frame_store c.self.invariant (Ask c.args.worker (Think c.args.parked.frame c.args.parked.agent)) legal in
     (c.agent-agent.ensures, rw c.agent-agent.ensures there)
 
 pub invariant_of-self-2 : goal.invariant_of-self-2
@@ -48,14 +48,14 @@ invariant_of-self-2 c =
     let runs = rw (← c.self.view_is) at c.requires.runs in
     let done = rw (c.frame-frame.ensures, c.agent-agent.ensures) at c.in-Ok.ensures.ok in
     let st = state_in (seen_as c.self.inside.session.now c.self.inside.jobs) in
-    let stores = parked_stores c.self.inside.shelf c.park.new.self st c.args.worker c.args.parked.frame c.args.parked.agent c.args.parked.question c.agent-agent.result c.agent-agent.ensures (ap step_of runs) c.park.ensures in
-    kept_after c.self.inside.session.now c.self.inside.jobs c.self.inside.shelf c.self.invariant (Ask c.args.worker (Think c.args.parked.frame c.args.parked.agent)) legal c.ask.new.self done c.park.new.self stores
+    let stores = parked_stores c.self.inside.frame_store c.park.new.self st c.args.worker c.args.parked.frame c.args.parked.agent c.args.parked.question c.agent-agent.result c.agent-agent.ensures (ap step_of runs) c.park.ensures in
+    kept_after c.self.inside.session.now c.self.inside.jobs c.self.inside.frame_store c.self.invariant (Ask c.args.worker (Think c.args.parked.frame c.args.parked.agent)) legal c.ask.new.self done c.park.new.self stores
 
 pub returns-clause-ok : goal.returns-clause-ok
 returns-clause-ok c =
     let legal = rw (← c.self.view_is) at c.requires.legal in
     let done = rw (c.frame-frame.ensures, c.agent-agent.ensures) at c.in-Ok.ensures.ok in
-    rw (← c.self.view_is) (happens c.self.inside.session.now c.self.inside.jobs c.self.inside.shelf c.self.invariant (Ask c.args.worker (Think c.args.parked.frame c.args.parked.agent)) legal c.ask.new.self done)
+    rw (← c.self.view_is) (happens c.self.inside.session.now c.self.inside.jobs c.self.inside.frame_store c.self.invariant (Ask c.args.worker (Think c.args.parked.frame c.args.parked.agent)) legal c.ask.new.self done)
 
 pub invariant_of-self : goal.invariant_of-self
 invariant_of-self c = rw c.in_default.ensures.unchanged c.self.invariant

@@ -1,0 +1,13 @@
+use Rattle.words.proofs.Statuses.{on_err_map}
+use Rattle.commands.specs.Texts.{digests_text}
+use Rattle.commands.proofs.Written.{on_ok_map, some_part}
+use Rattle.commands.proofs.digests.digest_files.Goals as goal
+
+pub returns-clause-ok : goal.returns-clause-ok
+returns-clause-ok g c = on_ok_map c.digest_bytes.result _ _ (λ h. (c.deref.result.now, c.deref-2.result.now, h)) c.digest_bytes.ensures.ok
+
+pub returns-clause-part : goal.returns-clause-part
+returns-clause-part g c =
+    on_err_map c.digest_bytes.result _ _
+    (some_part (λ g'. digests_text g' c.args.frames) (g.W.Write.contents c.args.out.now) (g.W.Write.contents c.digest_bytes.new.out) c.deref.result.now c.deref-2.result.now)
+    c.digest_bytes.ensures.part

@@ -1,5 +1,0 @@
-pub mod Written
-pub mod Parts
-pub mod Standing
-pub mod Leaves
-pub mod Asked
