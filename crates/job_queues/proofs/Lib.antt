@@ -3,6 +3,5 @@ pub mod Places
 pub mod Threes
 pub mod Picks
 pub mod Pools
-pub mod AfterPick
-pub mod Takings
+pub mod Founds
 pub mod Levels

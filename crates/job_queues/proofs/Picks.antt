@@ -1,12 +1,15 @@
 -- A pick takes the picked job or fiber out: an earlier entry of the same job would have been picked.
-use Rattle.std.proofs.Common.{◌≡◌, ℕ, length, Bool, true, false, List, [], ◌∷◌, Option, Some, None, find, drop, slice_get, cond, if◌then◌else◌, refl, sym, ap, ◌∙◌, arith}
+use Rattle.std.proofs.Common.{◌≡◌, ◌+◌, ℕ, length, Bool, true, false, not, List, [], ◌∷◌, Option, Some, None, find, position, nat_lt, slice_get, cond, if◌then◌else◌, refl, sym, ap, subst, ◌∙◌}
+use Rattle.std.specs.List.{position_or_len}
 use Rattle.job_core.specs.declared.names.JobName.{JobName}
 use Rattle.job_core.specs.Core.{same}
 use Rattle.job_core.proofs.ByCases.{by_same}
 use Rattle.board_model.specs.Lists.{has, drop_first}
 use Rattle.board_model.specs.Board.{Queues}
-use Rattle.board_model.specs.Pick.{Pick, Ready, New, first_new, lane, pick}
+use Rattle.board_model.specs.Pick.{Pick, New, first_new, lane, pick}
 use Rattle.board_model.proofs.Kit.{by_bool}
+use Rattle.job_queues.specs.Places.{IsFirst, IsFirstPlace}
+use Rattle.job_queues.proofs.Places.{first_place_found}
 
 abbrev or_else : Option Pick → Option Pick → Option Pick
 or_else None other = other
@@ -65,6 +68,27 @@ first_of_name may job (j ∷ js) e = by_bool (may j)
     let s : same job j ≡ false = same_start may job j h.0 f in
     (h.0, rw s h.1, rw s (ap (λ l. j ∷ l) h.2))) refl e
 
+same_place : (may : JobName → Bool) (job : JobName) (jobs : List JobName) → find may jobs ≡ Some job → position_or_len (same job) jobs ≡ position_or_len may jobs
+same_place may job [] e = absurd cc
+same_place may job (j ∷ js) e = by_bool (may j)
+    (λ b. may j ≡ b → cond b (Some j) (find may js) ≡ Some job → cond (not (same job j)) (1 + position_or_len (same job) js) 0 ≡ cond (not b) (1 + position_or_len may js) 0)
+    (λ d t g.
+    let i : j ≡ job = cc in
+    let s : same job j ≡ true = by_same job j (λ b. b ≡ true) (λ _. refl) (λ n. absurd (n (sym i))) in
+    rw s refl)
+    (λ d f g.
+    let s : same job j ≡ false = same_start may job j (first_of_name may job js g).0 f in
+    rw s (ap (λ n. 1 + n) (same_place may job js g))) refl e
+
+pub first_entry : (may : JobName → Bool) (job : JobName) (jobs : List JobName) (i : ℕ) → find may jobs ≡ Some job → Some i ≡ position may jobs → IsFirst (same job) jobs i
+first_entry may job jobs i f e =
+    let at : position (same job) jobs ≡ Some i = ap (λ n. cond (nat_lt n (length jobs)) (Some n) None) (same_place may job jobs f) ∙ sym e in
+    subst (IsFirstPlace (same job) jobs) at (first_place_found (same job) jobs)
+
+-- the very job is of its name
+pub own_name : (job : JobName) → same job job ≡ true
+own_name job = by_same job job (λ b. b ≡ true) (λ _. refl) (λ n. absurd (n refl))
+
 -- ---- what one priority gives, by what its lists are
 
 pub none_given : (may : JobName → Bool) (ready : List ℕ) (fresh : List JobName) → ready ≡ [] → find may fresh ≡ None → lane may ready fresh None ≡ None
@@ -79,19 +103,10 @@ nothing_there may [] [] e f = refl
 nothing_there may [] (j ∷ js) e f = absurd cc
 nothing_there may (r ∷ rs) fresh e f = absurd cc
 
-pub ready_given : (may : JobName → Bool) (ready : List ℕ) (fresh : List JobName) (fiber : ℕ) → slice_get ready 0 ≡ Some fiber → lane may ready fresh None ≡ Some (Ready fiber)
-ready_given may [] fresh fiber e = absurd cc
-ready_given may (r ∷ rs) fresh fiber e = let i : r ≡ fiber = cc in ap (λ f. Some (Ready f)) i
-
 pub first_given : (may : JobName → Bool) (ready : List ℕ) (fresh : List JobName) (job : JobName) → slice_get ready 0 ≡ None → slice_get fresh 0 ≡ Some job → may job ≡ true → lane may ready fresh None ≡ Some (New job)
 first_given may [] [] job e f t = absurd cc
 first_given may [] (j ∷ js) job e f t = let i : j ≡ job = cc in rw (i, t) refl
 first_given may (r ∷ rs) fresh job e f t = absurd cc
-
--- an item of a list without it
-pub no_item : {X : Type 0} (xs : List X) → length xs ≡ 0 → xs ≡ []
-no_item [] e = refl
-no_item (x ∷ xs) e = absurd (omega arith)
 
 -- ---- the three priorities
 
@@ -119,19 +134,6 @@ pub found_new-some : (o : Option JobName) (job : JobName) → Some (New job) ≡
 found_new-some None job e = absurd cc
 found_new-some (Some other) job e = let i : other ≡ job = cc in ap Some i
 
-pub found_new-ready : (o : Option JobName) (fiber : ℕ) → Some (Ready fiber) ≡ found_new o → ⊥
-found_new-ready None fiber e = absurd cc
-found_new-ready (Some job) fiber e = absurd cc
-
 pub given_may_start : (may : JobName → Bool) (ready : List ℕ) (fresh : List JobName) (job : JobName) → Some (New job) ≡ lane may ready fresh None → may job ≡ true
 given_may_start may [] fresh job e = (first_of_name may job fresh (found_new-some (find may fresh) job (e ∙ first_new_is may fresh))).0
 given_may_start may (f ∷ fs) fresh job e = absurd cc
-
--- what is given is there
-pub ready_there : (may : JobName → Bool) (ready : List ℕ) (fresh : List JobName) (fiber : ℕ) → Some (Ready fiber) ≡ lane may ready fresh None → ready ≡ fiber ∷ drop 1 ready
-ready_there may [] fresh fiber e = absurd (found_new-ready (find may fresh) fiber (e ∙ first_new_is may fresh))
-ready_there may (f ∷ fs) fresh fiber e = let i : fiber ≡ f = cc in ap (λ x. x ∷ fs) (sym i)
-
-pub new_there : (may : JobName → Bool) (ready : List ℕ) (fresh : List JobName) (job : JobName) → Some (New job) ≡ lane may ready fresh None → has (same job) fresh ≡ true
-new_there may [] fresh job e = (first_of_name may job fresh (found_new-some (find may fresh) job (e ∙ first_new_is may fresh))).1
-new_there may (f ∷ fs) fresh job e = absurd cc

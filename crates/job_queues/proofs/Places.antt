@@ -1,5 +1,5 @@
 -- The first item of a list that passes a test: what taking it out or changing it makes, by its place.
-use Rattle.std.proofs.Common.{◌≡◌, ◌<◌, ◌≤◌, ℕ, suc, ◌+◌, Bool, true, false, not, List, [], ◌∷◌, Some, None, cond, if◌then◌else◌, find, length, position, slice_index_or, slice_set, nat_lt, refl, ap, sym, ◌∙◌, arith}
+use Rattle.std.proofs.Common.{◌≡◌, ◌<◌, ◌≤◌, ℕ, suc, ◌+◌, Bool, true, false, not, List, [], ◌∷◌, Some, None, cond, if◌then◌else◌, find, length, position, slice_get, slice_index_or, slice_set, nat_lt, refl, ap, sym, ◌∙◌, arith}
 use Rattle.std.specs.List.{remove, position_or_len}
 use Rattle.std.specs.Option.{is_some}
 use Rattle.std.proofs.lemmas.List.Folds.{find_at}
@@ -8,7 +8,7 @@ use borrow.Author.Tests.{ltb-true, ltb-false}
 use Rattle.board_model.specs.Lists.{has, drop_first, change_first}
 use Rattle.board_model.proofs.Kit.{by_bool}
 use Rattle.board_model.proofs.Bridges.{has_is}
-use Rattle.job_queues.specs.Places.{IsFirstPlace}
+use Rattle.job_queues.specs.Places.{IsFirst, IsFirstPlace}
 
 -- `1 + n` is `suc n`
 at_next : {X : Type 0} (x : X) (xs : List X) (n : ℕ) (d : X) → slice_index_or (x ∷ xs) (1 + n) d ≡ slice_index_or xs n d
@@ -66,3 +66,11 @@ by_test p xs false e =
 
 pub first_place_found : {X : Type 0} (p : X → Bool) (xs : List X) → IsFirstPlace p xs (position p xs)
 first_place_found p xs = by_test p xs _ refl
+
+-- the first item, where it passes
+pub front_is_first : {X : Type 0} (p : X → Bool) (xs : List X) (x : X) → slice_get xs 0 ≡ Some x → p x ≡ true → IsFirst p xs 0
+front_is_first p [] x e t = absurd cc
+front_is_first p (y ∷ ys) x e t =
+    let i : y ≡ x = cc in
+    let h : p y ≡ true = ap p i ∙ t in
+    record { bound = omega arith; there = rw h refl; value = λ d. rw h refl; rest = rw h refl; changed = λ f d. rw h refl }

@@ -3,6 +3,5 @@ pub mod Waiting
 pub mod Lines
 pub mod Places
 pub mod Lanes
-pub mod Taken
 pub mod Pool
 pub mod Picks

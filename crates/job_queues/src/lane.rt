@@ -1,10 +1,9 @@
-ghost use Rattle.std.specs.Prelude.{◌≡◌, ◌<◌, ◌≤◌, ◌+◌, ◌++◌, ◌∷◌, [], ◌==◌, true, false, length, position, option_map, IfOk, OnOk, OnErr, None};
+ghost use Rattle.std.specs.Prelude.{◌≡◌, ◌<◌, ◌≤◌, ◌+◌, ◌++◌, ◌∷◌, [], ◌==◌, length, position, option_map, IfOk, IfSome, OnOk, OnErr, None};
 ghost use Rattle.job_core.specs.Core.{same};
-ghost use Rattle.board_model.specs.Lists.{has};
 ghost use Rattle.board_model.specs.Pick.{lane};
 ghost use Rattle.job_queues.specs.Names.{picked};
 ghost use Rattle.job_queues.specs.Places.{IsFirstPlace};
-ghost use Rattle.job_queues.specs.Lanes.{may_start, IsPickedFrom};
+ghost use Rattle.job_queues.specs.Lanes.{may_start, IsPlaceOf, IsTakenFrom};
 
 use super::fiber::Fiber;
 use super::free::Free;
@@ -28,7 +27,8 @@ fn position_to_start(jobs: &[JobName], free: Free) -> Option<usize>
 }
 
 fn first_to_start(jobs: &[JobName], free: Free) -> Option<usize>
-    ensures { IsFirstPlace (may_start free) jobs.now result }
+    ensures first { IsFirstPlace (may_start free) jobs.now result }
+    ensures place { result ≡ position (may_start free) jobs.now }
 {
     position_to_start(jobs, free)
 }
@@ -58,8 +58,6 @@ fn first_of_fiber(fibers: &[Fiber], fiber: Fiber) -> Option<usize>
 }
 
 impl Lane {
-    ghost use Rattle.job_queues.specs.Taken.{IsJobTaken, IsFiberTaken};
-
     pub(crate) fn new(alloc: Global, fibers: u32) -> Result<Lane, AllocError>
         ensures ready { IfOk result (λ l. l.ready.items ≡ []) }
         ensures fresh { IfOk result (λ l. l.fresh.items ≡ []) }
@@ -71,39 +69,53 @@ impl Lane {
         })
     }
 
+    /// What comes next, and its place.
     #[inline(always)]
-    pub(crate) fn peek(&self, free: Free) -> Option<Pick>
-        ensures { option_map picked result ≡ lane (may_start free) self.now.ready.items self.now.fresh.items None }
+    pub(crate) fn find(&self, free: Free) -> Option<(Pick, usize)>
+        ensures value { option_map (λ found. picked found.0) result ≡ lane (may_start free) self.now.ready.items self.now.fresh.items None }
+        ensures place { IfSome result (λ found. IsPlaceOf found.0 found.1 self.now.ready.items self.now.fresh.items) }
     {
         if let Some(fiber) = self.ready.first() {
-            return Some(Pick::Ready(fiber));
+            return Some((Pick::Ready(fiber), 0));
         }
         // Mostly no job is there, or the first one may start: then there is nothing to look through.
         let Some(job) = self.fresh.first() else {
             return None;
         };
         if free.may_start(job) {
-            return Some(Pick::New(job));
+            return Some((Pick::New(job), 0));
         }
         let waiting = self.fresh.waiting();
         let at = first_to_start(waiting, free)?;
-        Some(Pick::New(waiting[at]))
+        Some((Pick::New(waiting[at]), at))
     }
 
-    pub(crate) fn pick(&mut self, free: Free) -> Option<Pick>
-        ensures value { option_map picked result ≡ lane (may_start free) self.old.ready.items self.old.fresh.items None }
-        ensures after { IsPickedFrom result self.old.ready.items self.new.ready.items self.old.fresh.items self.new.fresh.items }
+    /// The place of a new job's first entry.
+    #[inline(always)]
+    pub(crate) fn find_job(&self, job: JobName) -> Option<usize>
+        ensures { IsFirstPlace (same job) self.now.fresh.items result }
+    {
+        first_of_job(self.fresh.waiting(), job)
+    }
+
+    /// The place of a ready fiber's first entry.
+    #[inline(always)]
+    pub(crate) fn find_ready(&self, fiber: Fiber) -> Option<usize>
+        ensures { IsFirstPlace (λ other. fiber == other) self.now.ready.items result }
+    {
+        first_of_fiber(self.ready.waiting(), fiber)
+    }
+
+    /// Takes out what was found at a place.
+    #[inline(always)]
+    pub(crate) fn take(&mut self, pick: Pick, at: usize)
+        requires { IsPlaceOf pick at self.old.ready.items self.old.fresh.items }
+        ensures after { IsTakenFrom pick self.old.ready.items self.new.ready.items self.old.fresh.items self.new.fresh.items }
         ensures room { self.new.ready.room ≡ self.old.ready.room }
     {
-        match self.peek(free)? {
-            Pick::Ready(fiber) => {
-                self.ready.step();
-                Some(Pick::Ready(fiber))
-            }
-            Pick::New(job) => {
-                let _there = self.take_out(job);
-                Some(Pick::New(job))
-            }
+        match pick {
+            Pick::Ready(_) => self.ready.take(at),
+            Pick::New(_) => self.fresh.take(at),
         }
     }
 
@@ -143,63 +155,5 @@ impl Lane {
         ensures ready { self.new.ready ≡ self.old.ready }
     {
         self.fresh.put_reserved(job);
-    }
-
-    pub(crate) fn has_job(&self, job: JobName) -> bool
-        ensures { result ≡ has (same job) self.now.fresh.items }
-    {
-        match first_of_job(self.fresh.waiting(), job) {
-            Some(_) => true,
-            None => false,
-        }
-    }
-
-    pub(crate) fn has_ready(&self, fiber: Fiber) -> bool
-        ensures { result ≡ has (λ other. fiber == other) self.now.ready.items }
-    {
-        match first_of_fiber(self.ready.waiting(), fiber) {
-            Some(_) => true,
-            None => false,
-        }
-    }
-
-    /// Takes the first entry of a new job out, and says whether there was one.
-    #[inline(always)]
-    pub(crate) fn take_out(&mut self, job: JobName) -> bool
-        ensures { IsJobTaken job self.old self.new result }
-    {
-        // Mostly no job is there, or it is the first one.
-        let Some(first) = self.fresh.first() else {
-            return false;
-        };
-        if is_same(job, first) {
-            self.fresh.step();
-            return true;
-        }
-        let Some(at) = first_of_job(self.fresh.waiting(), job) else {
-            return false;
-        };
-        self.fresh.remove(at);
-        true
-    }
-
-    /// Takes the first entry of a ready fiber out, and says whether there was one.
-    #[inline(always)]
-    pub(crate) fn take_ready(&mut self, fiber: Fiber) -> bool
-        ensures taken { IsFiberTaken fiber self.old self.new result }
-        ensures room { self.new.ready.room ≡ self.old.ready.room }
-    {
-        let Some(first) = self.ready.first() else {
-            return false;
-        };
-        if fiber.0 == first.0 {
-            self.ready.step();
-            return true;
-        }
-        let Some(at) = first_of_fiber(self.ready.waiting(), fiber) else {
-            return false;
-        };
-        self.ready.remove(at);
-        true
     }
 }

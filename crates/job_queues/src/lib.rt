@@ -2,18 +2,22 @@
 #![tactic(auto)]
 
 mod fiber;
+mod found;
 mod free;
 mod lane;
 mod line;
 mod pick;
+mod place;
 mod pool;
 mod priority;
 mod queues;
 
 pub use fiber::Fiber;
+pub use found::Found;
 pub use free::size_of;
 pub use job_core::names::{JobName, Priority, Size};
 pub use pick::Pick;
+pub use place::Place;
 pub use pool::{FiberPool, NoFiber, NotTaken};
 pub use priority::{is_same, job_priority};
 pub use queues::{QueueFault, Queues};

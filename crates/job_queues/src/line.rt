@@ -87,6 +87,20 @@ impl<T: Copy + Drop> Line<T> {
         let _taken = self.all.remove(self.gone + at);
     }
 
+    /// Takes the one at a place out. Mostly it is the first.
+    #[inline(always)]
+    pub(crate) fn take(&mut self, at: usize)
+        requires { at < length self.old.items }
+        ensures items { self.new.items ≡ remove self.old.items at }
+        ensures room { self.new.room ≡ self.old.room }
+    {
+        if at == 0 {
+            self.step();
+            return;
+        }
+        self.remove(at);
+    }
+
     // The places of those that were taken out are free again.
     fn shift(&mut self)
         ensures items { self.new.items ≡ self.old.items }

@@ -1,4 +1,4 @@
-ghost use Rattle.std.specs.Prelude.{◌≡◌, ◌<◌, length, ◌==◌, true, false, option_map, IfOk, IfErr, OnOk, OnErr};
+ghost use Rattle.std.specs.Prelude.{◌≡◌, ◌<◌, length, ◌==◌, true, false, Some, option_map, IfOk, IfErr, IfSome, OnOk, OnErr};
 ghost use Rattle.job_core.specs.Core.{same};
 ghost use Rattle.board_model.specs.Lists.{all, has};
 ghost use Rattle.board_model.specs.Board.{put_all};
@@ -6,12 +6,14 @@ ghost use Rattle.board_model.specs.Pick.{pick};
 ghost use Rattle.job_queues.specs.Names.{level, picked};
 ghost use Rattle.job_queues.specs.Lanes.{may_start, free_fibers};
 ghost use Rattle.job_queues.specs.Waiting.{empty, with_fresh, put_new, put_ready, without_job, without_fiber};
-ghost use Rattle.job_queues.specs.Picks.{after_pick};
+ghost use Rattle.job_queues.specs.Picks.{after_pick, IsAt, IsFirstOf};
 
 use super::fiber::Fiber;
+use super::found::Found;
 use super::free::Free;
 use super::lane::Lane;
 use super::pick::Pick;
+use super::place::Place;
 use super::priority::job_priority;
 use job_core::names::{JobName, Priority};
 use std::alloc::{AllocError, Global};
@@ -71,50 +73,141 @@ impl Queues {
         })
     }
 
-    /// What `pick` would answer, with nothing taken out. It takes no memory.
+    /// What comes next, and where it stands: of the highest priority that has one, the first ready fiber, or else the first new
+    /// job that may start where so many small and so many large fibers are free. It takes no memory, and the time of a look
+    /// at the jobs before it.
     #[inline(always)]
-    pub fn peek(&self, small_free: u32, large_free: u32) -> Option<Pick>
-        ensures { option_map picked result ≡ pick (may_start (free_fibers small_free large_free)) self.now.queues }
+    pub fn find(&self, small_free: u32, large_free: u32) -> Option<Found>
+        ensures value { option_map (λ found. picked found.pick) result ≡ pick (may_start (free_fibers small_free large_free)) self.now.queues }
+        ensures place { IfSome result (λ found. IsAt self.now.queues found.pick found.place) }
     {
         let free = Free {
             small: small_free,
             large: large_free,
         };
-        if let Some(pick) = self.high.peek(free) {
-            return Some(pick);
+        if let Some((pick, index)) = self.high.find(free) {
+            return Some(Found {
+                pick,
+                place: Place {
+                    priority: Priority::High,
+                    index,
+                },
+            });
         }
-        if let Some(pick) = self.normal.peek(free) {
-            return Some(pick);
+        if let Some((pick, index)) = self.normal.find(free) {
+            return Some(Found {
+                pick,
+                place: Place {
+                    priority: Priority::Normal,
+                    index,
+                },
+            });
         }
-        self.low.peek(free)
+        let Some((pick, index)) = self.low.find(free) else {
+            return None;
+        };
+        Some(Found {
+            pick,
+            place: Place {
+                priority: Priority::Low,
+                index,
+            },
+        })
+    }
+
+    /// What `pick` would answer, with nothing taken out. It takes no memory.
+    #[inline(always)]
+    pub fn peek(&self, small_free: u32, large_free: u32) -> Option<Pick>
+        ensures { option_map picked result ≡ pick (may_start (free_fibers small_free large_free)) self.now.queues }
+    {
+        let found = self.find(small_free, large_free)?;
+        Some(found.pick)
+    }
+
+    /// Where a new job's first entry stands, of the highest priority that has one.
+    #[inline(always)]
+    pub fn find_job(&self, job: JobName) -> Option<Place>
+        ensures { IsFirstOf (same job) self.now.queues.fresh result }
+    {
+        if let Some(index) = self.high.find_job(job) {
+            return Some(Place {
+                priority: Priority::High,
+                index,
+            });
+        }
+        if let Some(index) = self.normal.find_job(job) {
+            return Some(Place {
+                priority: Priority::Normal,
+                index,
+            });
+        }
+        let Some(index) = self.low.find_job(job) else {
+            return None;
+        };
+        Some(Place {
+            priority: Priority::Low,
+            index,
+        })
+    }
+
+    /// Where a ready fiber's first entry stands, of the highest priority that has one.
+    #[inline(always)]
+    pub fn find_ready(&self, fiber: Fiber) -> Option<Place>
+        ensures { IsFirstOf (λ other. fiber == other) self.now.queues.ready result }
+    {
+        if let Some(index) = self.high.find_ready(fiber) {
+            return Some(Place {
+                priority: Priority::High,
+                index,
+            });
+        }
+        if let Some(index) = self.normal.find_ready(fiber) {
+            return Some(Place {
+                priority: Priority::Normal,
+                index,
+            });
+        }
+        let Some(index) = self.low.find_ready(fiber) else {
+            return None;
+        };
+        Some(Place {
+            priority: Priority::Low,
+            index,
+        })
     }
 
     /// Whether a job is among the new ones.
-    #[tactic(auto, using(crate::proofs::Threes::has_all))]
     pub fn is_queued(&self, job: JobName) -> bool
         ensures { result ≡ has (same job) (all self.now.queues.fresh) }
     {
-        if self.high.has_job(job) {
-            return true;
+        match self.find_job(job) {
+            Some(_) => true,
+            None => false,
         }
-        if self.normal.has_job(job) {
-            return true;
-        }
-        self.low.has_job(job)
     }
 
     /// Whether a fiber is among the ready ones.
-    #[tactic(auto, using(crate::proofs::Threes::has_all))]
     pub fn is_ready(&self, fiber: Fiber) -> bool
         ensures { result ≡ has (λ other. fiber == other) (all self.now.queues.ready) }
     {
-        if self.high.has_ready(fiber) {
-            return true;
+        match self.find_ready(fiber) {
+            Some(_) => true,
+            None => false,
         }
-        if self.normal.has_ready(fiber) {
-            return true;
+    }
+
+    /// Takes out what was found, at its place.
+    #[inline(always)]
+    pub fn take_found(&mut self, found: Found)
+        requires { IsAt self.old.queues found.pick found.place }
+        ensures { self.new ≡ after_pick (Some found.pick) self.old }
+    {
+        let Found { pick, place } = found;
+        match place.priority {
+            Priority::High => self.high.take(pick, place.index),
+            Priority::Normal => self.normal.take(pick, place.index),
+            Priority::Low => self.low.take(pick, place.index),
         }
-        self.low.has_ready(fiber)
     }
 
     /// Takes out, of the highest priority that has one, the first ready fiber, or else the first new job that may
@@ -123,17 +216,12 @@ impl Queues {
         ensures value { option_map picked result ≡ pick (may_start (free_fibers small_free large_free)) self.old.queues }
         ensures after { self.new ≡ after_pick result self.old }
     {
-        let free = Free {
-            small: small_free,
-            large: large_free,
+        let Some(found) = self.find(small_free, large_free) else {
+            return None;
         };
-        if let Some(pick) = self.high.pick(free) {
-            return Some(pick);
-        }
-        if let Some(pick) = self.normal.pick(free) {
-            return Some(pick);
-        }
-        self.low.pick(free)
+        let pick = found.pick;
+        self.take_found(found);
+        Some(pick)
     }
 
     /// Queues a job at the end of its priority's queue.
@@ -202,16 +290,14 @@ impl Queues {
         ensures not_there { OnErr result (has (same job) (all self.old.queues.fresh) ≡ false) }
         ensures unchanged { OnErr result (self.new ≡ self.old) }
     {
-        if self.high.take_out(job) {
-            return Ok(());
-        }
-        if self.normal.take_out(job) {
-            return Ok(());
-        }
-        if self.low.take_out(job) {
-            return Ok(());
-        }
-        Err(QueueFault::NotThere)
+        let Some(place) = self.find_job(job) else {
+            return Err(QueueFault::NotThere);
+        };
+        self.take_found(Found {
+            pick: Pick::New(job),
+            place,
+        });
+        Ok(())
     }
 
     /// Takes the first entry of a ready fiber out, of the highest priority that has one.
@@ -223,15 +309,13 @@ impl Queues {
         ensures not_there { OnErr result (has (λ other. fiber == other) (all self.old.queues.ready) ≡ false) }
         ensures unchanged { OnErr result (self.new ≡ self.old) }
     {
-        if self.high.take_ready(fiber) {
-            return Ok(());
-        }
-        if self.normal.take_ready(fiber) {
-            return Ok(());
-        }
-        if self.low.take_ready(fiber) {
-            return Ok(());
-        }
-        Err(QueueFault::NotThere)
+        let Some(place) = self.find_ready(fiber) else {
+            return Err(QueueFault::NotThere);
+        };
+        self.take_found(Found {
+            pick: Pick::Ready(fiber),
+            place,
+        });
+        Ok(())
     }
 }

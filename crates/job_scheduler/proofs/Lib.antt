@@ -7,3 +7,4 @@ pub mod Kept
 pub mod Needed
 pub mod Turns
 pub mod Looked
+pub mod Fibers

@@ -1,11 +1,12 @@
 -- What may happen next, and why a call is refused: of a state that a legal list of events has reached.
-use Rattle.std.specs.Prelude.{◌≡◌, ◌≤◌, ◌<◌, ℕ, true, false, Option, Some, None, Result, Ok, Err}
+use Rattle.std.specs.Prelude.{◌≡◌, ◌==◌, ◌≤◌, ◌<◌, ℕ, true, false, Option, Some, None, Result, Ok, Err}
 use Rattle.job_core.specs.declared.names.JobName.{JobName}
 use Rattle.job_core.specs.declared.names.Event.TheVariants.{Start, Resume, Emit}
-use Rattle.job_core.specs.Core.{Setup, State, Runs, Waits, IsIdle, IsLegal, IsLegalList}
+use Rattle.job_core.specs.Core.{Setup, State, Runs, Waits, IsIdle, IsLegal, IsLegalList, same}
 use Rattle.board_model.specs.Lists.{first_place}
 use Rattle.board_model.specs.Board.{Core, Held, holds}
 use Rattle.board_model.specs.Pick.{Pick, Ready, New}
+use Rattle.job_queues.specs.Picks.{IsFirstAt}
 use Rattle.job_scheduler.specs.declared.board_fault.BoardFault.{BoardFault}
 use Rattle.job_scheduler.specs.declared.board_fault.BoardFault.TheVariants.{Stopped, NoWorker, Busy, NotRunning, Illegal}
 use Rattle.job_scheduler.specs.declared.next.Next.{Next}
@@ -41,14 +42,14 @@ IsRunning w (Err fault) s st = IsNotRunning s st w fault
 -- what an idle worker does next: nothing only where it can neither start nor resume a job
 abbrev pub IsGivenTo : ℕ → Result (Option Next) BoardFault → Setup → State → Type 0
 IsGivenTo w (Ok None) s st = IsOn s st w × IsIdle st w × ((j : JobName) → (IsLegal s st (Start w j) → ⊥) × (IsLegal s st (Resume w j) → ⊥))
-IsGivenTo w (Ok (Some (next.Start job))) s st = IsLegal s st (Start w job)
-IsGivenTo w (Ok (Some (next.Resume fiber held))) s st = IsLegal s st (Resume w held.job) × (st.phase held.job ≡ Waits held.step)
+IsGivenTo w (Ok (Some (next.Start job place))) s st = IsLegal s st (Start w job)
+IsGivenTo w (Ok (Some (next.Resume fiber held place))) s st = IsLegal s st (Resume w held.job) × (st.phase held.job ≡ Waits held.step)
 IsGivenTo w (Err fault) s st = IsIdleOr s st w fault
 
 -- as the queues give it
 abbrev pub as_pick : Next → Pick
-as_pick (next.Start job) = New job
-as_pick (next.Resume fiber held) = Ready fiber
+as_pick (next.Start job place) = New job
+as_pick (next.Resume fiber held place) = Ready fiber
 
 -- the frame that is shown next, or why there is none
 abbrev pub IsToShow : Result ℕ BoardFault → Setup → State → Type 0
@@ -57,7 +58,8 @@ IsToShow (Err Stopped) s st = st.stopped ≡ true
 IsToShow (Err Illegal) s st = (st.stopped ≡ false) × ((f : ℕ) → IsLegal s st (Emit f) → ⊥)
 IsToShow (Err _) s st = ⊥
 
--- the fiber that goes on is the one that holds the job
+-- what goes first stands there, and the fiber that goes on is the one that holds the job
 abbrev pub IsPlace : Core → Option Next → Type 0
-IsPlace c (Some (next.Resume fiber held)) = first_place (holds held.job) c.seats.jobs ≡ fiber
-IsPlace c _ = Unit {0}
+IsPlace c (Some (next.Start job place)) = IsFirstAt (same job) c.queues.fresh place
+IsPlace c (Some (next.Resume fiber held place)) = (first_place (holds held.job) c.seats.jobs ≡ fiber) × IsFirstAt (λ other. fiber == other) c.queues.ready place
+IsPlace c None = Unit {0}

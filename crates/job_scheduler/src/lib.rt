@@ -22,7 +22,7 @@ pub use counters::CounterKey;
 pub use fault::OutOfMemory;
 pub use held::Held;
 pub use job_core::names::{Event, JobName};
-pub use job_queues::{Fiber, Pick};
+pub use job_queues::{Fiber, Pick, Place};
 pub use jobs::JobLog;
 pub use next::Next;
 pub use scheduler::Scheduler;

@@ -1,8 +1,9 @@
-ghost use Rattle.std.specs.Prelude.{◌≡◌, ◌≤◌, ◌+◌, ℕ, IfOk, IfSome, None, false, option_map, ◌↔◌, IsTrue};
-ghost use Rattle.job_core.specs.Core.{Waits, IsIdle, IsLegal, IsLegalList};
+ghost use Rattle.std.specs.Prelude.{◌≡◌, ◌==◌, ◌≤◌, ◌+◌, ℕ, IfOk, IfSome, None, false, option_map, ◌↔◌, IsTrue};
+ghost use Rattle.job_core.specs.Core.{Waits, IsIdle, IsLegal, IsLegalList, same};
 ghost use Rattle.board_model.specs.Lists.{first_place};
 ghost use Rattle.board_model.specs.Board.{holds};
 ghost use Rattle.board_model.specs.Pick.{given};
+ghost use Rattle.job_queues.specs.Picks.{IsFirstAt};
 ghost use Rattle.job_scheduler.specs.Logged.{setup_of, kept};
 ghost use Rattle.job_scheduler.specs.Looks.{Always, IsOn, IsRunning, IsGivenTo, IsToShow, IsPlace, as_pick};
 
@@ -11,7 +12,7 @@ use super::held::Held;
 use super::jobs::JobLog;
 use super::next::Next;
 use job_core::names::{Event, JobName};
-use job_queues::{Fiber, Pick};
+use job_queues::{Fiber, Found, Pick, Place};
 
 // What may happen next. None of these takes memory.
 impl JobLog {
@@ -51,16 +52,16 @@ impl JobLog {
             Some(_) => return Err(BoardFault::Busy),
             None => {}
         }
-        let Some(pick) = self.scheduler.peek() else {
+        let Some(Found { pick, place }) = self.scheduler.find() else {
             return Ok(None);
         };
         match pick {
-            Pick::New(job) => Ok(Some(Next::Start(job))),
+            Pick::New(job) => Ok(Some(Next::Start(job, place))),
             Pick::Ready(fiber) => {
                 let Some(held) = self.scheduler.held_by(fiber) else {
                     return Ok(None);
                 };
-                Ok(Some(Next::Resume(fiber, held)))
+                Ok(Some(Next::Resume(fiber, held, place)))
             }
         }
     }
@@ -81,26 +82,30 @@ impl JobLog {
         true
     }
 
-    /// Whether a worker may start this job.
-    pub fn may_start(&self, worker: u32, job: JobName) -> bool
-        ensures { Always self.now (λ s st. IsTrue result ↔ IsLegal s st (Event.Start worker job)) }
+    /// Where a job is queued that a worker may start; None where it may not.
+    pub fn may_start(&self, worker: u32, job: JobName) -> Option<Place>
+        ensures some { IfSome result (λ place. Always self.now (λ s st. IsLegal s st (Event.Start worker job))) }
+        ensures place { IfSome result (λ place. (questions : ℕ → ℕ → ℕ) → IsFirstAt (same job) (kept self.now questions).queues.fresh place) }
+        ensures none { result ≡ None → Always self.now (λ s st. IsLegal s st (Event.Start worker job) → ⊥) }
     {
         if !self.is_free(worker) {
-            return false;
+            return None;
         }
-        if !self.scheduler.is_queued(job) {
-            return false;
-        }
+        let Some(place) = self.scheduler.find_job(job) else {
+            return None;
+        };
         if !self.scheduler.has_fiber(job) {
-            return false;
+            return None;
         }
-        true
+        Some(place)
     }
 
-    /// The fiber on which a worker may go on with this job, and how far the job has come; None where it may not.
-    pub fn may_resume(&self, worker: u32, job: JobName) -> Option<(Fiber, Held)>
+    /// The fiber on which a worker may go on with this job, how far the job has come, and where the fiber is ready; None where
+    /// the worker may not.
+    pub fn may_resume(&self, worker: u32, job: JobName) -> Option<(Fiber, Held, Place)>
         ensures some { IfSome result (λ next. Always self.now (λ s st. IsLegal s st (Event.Resume worker job) × (st.phase job ≡ Waits next.1.step))) }
-        ensures place { IfSome result (λ next. (questions : ℕ → ℕ → ℕ) → first_place (holds job) (kept self.now questions).seats.jobs ≡ next.0) }
+        ensures holder { IfSome result (λ next. (questions : ℕ → ℕ → ℕ) → first_place (holds job) (kept self.now questions).seats.jobs ≡ next.0) }
+        ensures place { IfSome result (λ next. (questions : ℕ → ℕ → ℕ) → IsFirstAt (λ other. next.0 == other) (kept self.now questions).queues.ready next.2) }
         ensures none { result ≡ None → Always self.now (λ s st. IsLegal s st (Event.Resume worker job) → ⊥) }
     {
         if !self.is_free(worker) {
@@ -109,13 +114,13 @@ impl JobLog {
         let Some(fiber) = self.scheduler.holder(job) else {
             return None;
         };
-        if !self.scheduler.is_ready(fiber) {
+        let Some(place) = self.scheduler.find_ready(fiber) else {
             return None;
-        }
+        };
         let Some(held) = self.scheduler.held_by(fiber) else {
             return None;
         };
-        Some((fiber, held))
+        Some((fiber, held, place))
     }
 
     /// The frame that is shown next.

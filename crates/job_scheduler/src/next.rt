@@ -1,11 +1,11 @@
 use super::held::Held;
 use job_core::names::JobName;
-use job_queues::Fiber;
+use job_queues::{Fiber, Place};
 
-/// What an idle worker does next.
+/// What an idle worker does next, and where it stands in the queues until they change.
 #[derive(Clone, Copy, Debug, PartialEq, Eq)]
 pub enum Next {
-    Start(JobName),
+    Start(JobName, Place),
     /// Goes on with the job that this fiber holds.
-    Resume(Fiber, Held),
+    Resume(Fiber, Held, Place),
 }

@@ -1,10 +1,11 @@
-ghost use Rattle.std.specs.Prelude.{◌≡◌, ◌<◌, ◌^◌, ◌==◌, None, MatchOption, option_map, length, ◌↔◌, IsTrue};
+ghost use Rattle.std.specs.Prelude.{◌≡◌, ◌<◌, ◌^◌, ◌==◌, None, MatchOption, IfSome, option_map, length, ◌↔◌, IsTrue};
 ghost use Rattle.job_core.specs.Core.{same, Draws};
-ghost use Rattle.board_model.specs.Lists.{all, has, tally, at};
+ghost use Rattle.board_model.specs.Lists.{tally, at};
 ghost use Rattle.board_model.specs.Board.{has_fiber, holds, first_row};
 ghost use Rattle.board_model.specs.Pick.{given};
 ghost use Rattle.board_model.specs.Passes.{on_fiber};
 ghost use Rattle.job_queues.specs.Names.{picked};
+ghost use Rattle.job_queues.specs.Picks.{IsAt, IsFirstOf};
 ghost use Rattle.job_scheduler.specs.Seats.{IsHolder};
 
 use super::held::Held;
@@ -12,10 +13,20 @@ use super::scheduler::Scheduler;
 use super::tables::{entry, place_of};
 use counters::CounterKey;
 use job_core::names::JobName;
-use job_queues::{Fiber, Pick, Size, size_of};
+use job_queues::{Fiber, Found, Pick, Place, Size, size_of};
 
 // What a board asks its scheduler before it does an event. None of these takes memory.
 impl Scheduler {
+    /// What an idle worker is given, and where it stands.
+    #[inline(always)]
+    pub fn find(&self) -> Option<Found>
+        ensures value { option_map (λ found. picked found.pick) result ≡ given self.now }
+        ensures place { IfSome result (λ found. IsAt self.now.queues found.pick found.place) }
+    {
+        self.queues
+            .find(self.pool.free(Size::Small), self.pool.free(Size::Large))
+    }
+
     /// What an idle worker is given, with nothing taken out.
     #[inline(always)]
     pub fn peek(&self) -> Option<Pick>
@@ -53,18 +64,18 @@ impl Scheduler {
         Some(Fiber(place as u32))
     }
 
-    /// Whether a job is queued, still to be started. Takes time linear in the number of queued jobs.
-    pub fn is_queued(&self, job: JobName) -> bool
-        ensures { result ≡ has (same job) (all self.now.queues.fresh) }
+    /// Where a job is queued, if it is. Takes time linear in the number of queued jobs.
+    pub fn find_job(&self, job: JobName) -> Option<Place>
+        ensures { IsFirstOf (same job) self.now.queues.fresh result }
     {
-        self.queues.is_queued(job)
+        self.queues.find_job(job)
     }
 
-    /// Whether a fiber is ready to go on. Takes time linear in the number of ready fibers.
-    pub fn is_ready(&self, fiber: Fiber) -> bool
-        ensures { result ≡ has (λ other. fiber == other) (all self.now.queues.ready) }
+    /// Where a fiber is ready to go on, if it is. Takes time linear in the number of ready fibers.
+    pub fn find_ready(&self, fiber: Fiber) -> Option<Place>
+        ensures { IsFirstOf (λ other. fiber == other) self.now.queues.ready result }
     {
-        self.queues.is_ready(fiber)
+        self.queues.find_ready(fiber)
     }
 
     /// Whether a fiber of a job's size is free.

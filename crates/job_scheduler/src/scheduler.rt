@@ -1,9 +1,10 @@
 ghost use Rattle.std.specs.Prelude.{◌≡◌, ◌<◌, ◌≤◌, ◌+◌, ◌-◌, ◌^◌, ◌==◌, ◌++◌, IsSome, IsSomeAnd, OnOk, OnErr, IfOk, Some, None, true, false, length, map, not, slice_get};
 ghost use Rattle.job_core.specs.Core.{Setup, same, size_of, Thinks, Way, Draws, Shown};
-ghost use Rattle.board_model.specs.Lists.{all, has, tally, at, first_place};
+ghost use Rattle.board_model.specs.Lists.{all, tally, at, first_place};
 ghost use Rattle.board_model.specs.Board.{core_after, core_opening, core_end, fiber_of, taken_of, is_taken, holds, first_row, first, next_logic, woken};
 ghost use Rattle.board_model.specs.Passes.{RunsAt, on_fiber};
 ghost use Rattle.counters.specs.Keys.{counter_of};
+ghost use Rattle.job_queues.specs.Picks.{IsFirstAt};
 ghost use Rattle.job_scheduler.specs.Opening.{opened};
 ghost use Rattle.job_scheduler.specs.Seats.{holding, left_by, less_one};
 
@@ -15,7 +16,7 @@ use super::tables::empty_table;
 use super::waking::{ready_at_once, wake};
 use counters::{BoardCounters, CounterKey};
 use job_core::names::{Event, JobName};
-use job_queues::{Fiber, FiberPool, Queues, size_of};
+use job_queues::{Fiber, FiberPool, Found, Pick, Place, Queues, size_of};
 use std::alloc::Global;
 use std::marker::Model;
 
@@ -139,18 +140,19 @@ impl Scheduler {
         };
     }
 
-    /// A worker starts a job that is queued, on the lowest free fiber of the job's size.
+    /// A worker starts a job whose first entry stands at this place, on the lowest free fiber of the job's size.
     #[inline(always)]
-    pub fn start(&mut self, worker: u32, job: JobName)
-        requires queued { has (same job) (all self.old.queues.fresh) ≡ true }
+    pub fn start(&mut self, worker: u32, job: JobName, place: Place)
+        requires place { IsFirstAt (same job) self.old.queues.fresh place }
         requires free { 0 < tally not (taken_of self.old.seats (size_of job)) }
         requires worker { worker < length self.old.seats.workers }
         requires table { self.old.seats.taken ≡ map is_taken self.old.seats.jobs }
         ensures { (s : Setup) → self.new ≡ core_after s self.old (Event.Start worker job) }
     {
-        let Ok(()) = self.queues.take_out(job) else {
-            unreachable!()
-        };
+        self.queues.take_found(Found {
+            pick: Pick::New(job),
+            place,
+        });
         let Ok(fiber) = self.pool.take(size_of(job)) else {
             unreachable!()
         };
@@ -165,10 +167,10 @@ impl Scheduler {
         );
     }
 
-    /// A worker goes on with a fiber that is ready.
+    /// A worker goes on with a fiber whose first entry stands at this place.
     #[inline(always)]
-    pub fn resume(&mut self, worker: u32, fiber: Fiber)
-        requires ready { has (λ other. fiber == other) (all self.old.queues.ready) ≡ true }
+    pub fn resume(&mut self, worker: u32, fiber: Fiber, place: Place)
+        requires place { IsFirstAt (λ other. fiber == other) self.old.queues.ready place }
         requires held { IsSome (at self.old.seats.jobs fiber) }
         requires fiber { fiber < length self.old.seats.jobs }
         requires worker { worker < length self.old.seats.workers }
@@ -176,9 +178,10 @@ impl Scheduler {
         ensures { (s : Setup) (job : JobName) → first_place (holds job) self.old.seats.jobs ≡ fiber
             → self.new ≡ core_after s self.old (Event.Resume worker job) }
     {
-        let Ok(()) = self.queues.take_ready(fiber) else {
-            unreachable!()
-        };
+        self.queues.take_found(Found {
+            pick: Pick::Ready(fiber),
+            place,
+        });
         let Some(held) = self.held_by(fiber) else {
             unreachable!()
         };

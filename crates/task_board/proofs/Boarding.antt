@@ -1,5 +1,5 @@
 -- A board that keeps itself, before an event and after it.
-use Rattle.std.proofs.Common.{◌≡◌, ◌≤◌, ◌<◌, ◌+◌, ◌-◌, ◌↔◌, ℕ, zero, suc, true, false, Err, Some, length, refl, sym, ap, ◌∙◌, subst, inl, inr, ⊎_elim, arith}
+use Rattle.std.proofs.Common.{◌==◌, ◌≡◌, ◌≤◌, ◌<◌, ◌+◌, ◌-◌, ◌↔◌, ℕ, zero, suc, true, false, Err, Some, length, refl, sym, ap, ◌∙◌, subst, inl, inr, ⊎_elim, arith}
 use Rattle.game_rules.specs.Game.{Game}
 use Rattle.job_core.specs.declared.names.Event.{Event}
 use Rattle.job_core.specs.Core.{Setup, State, IsJob, IsAtEnd, same, opening, Runs, Waits, IsLegal, IsLegalList, step_of}
@@ -11,7 +11,9 @@ use Rattle.job_core.proofs.Moves.{shape_of}
 use Rattle.bt_nodes.specs.Sizes.{size}
 use Rattle.game_rules.proofs.Ways.{few}
 use Rattle.game_jobs.specs.Instance.{asked_in, tree_of}
-use Rattle.job_scheduler.specs.Logged.{Logged, setup_of, IsNext, IsNextOn, IsNextAt, with_event as jobs_with_event}
+use Rattle.job_queues.specs.declared.place.Place.{Place}
+use Rattle.job_queues.specs.Picks.{IsFirstAt}
+use Rattle.job_scheduler.specs.Logged.{Logged, setup_of, IsNext, IsNextFrom, IsNextOn, IsNextAt, with_event as jobs_with_event}
 use Rattle.job_scheduler.specs.Looks.{Always, IsIdleOr, IsNotRunning, IsToShow}
 use Rattle.job_scheduler.specs.declared.board_fault.BoardFault.{BoardFault}
 use Rattle.job_scheduler.specs.declared.board_fault.BoardFault.TheVariants.{Stopped, NoWorker, Busy, NotRunning, WrongResult, Illegal, OutOfMemory}
@@ -23,7 +25,7 @@ use Rattle.board_model.specs.Board.{Held, core_of, holds}
 use Rattle.board_model.specs.Pick.{New}
 use Rattle.frame_params.specs.Tasks.{IsTaskAt}
 use Rattle.frame_params.specs.declared.task.Task.{Task}
-use Rattle.task_board.specs.Boards.{Played, jobs_of, setup_in, state_in, with_event, Happens, IsStart, IsResume, Starts, Resumes, IsOn, IsBeginning, NeedsBeginning, IsRefused, IsTakeRefused, IsEmitRefused, NoOther, IsBoard}
+use Rattle.task_board.specs.Boards.{Played, jobs_of, setup_in, state_in, kept_in, with_event, Happens, IsStart, IsResume, Starts, Resumes, IsOn, IsBeginning, NeedsBeginning, IsRefused, IsTakeRefused, IsEmitRefused, NoOther, IsBoard}
 use Rattle.frame_state.specs.Names.{QuestionOf}
 use Rattle.frame_state.specs.Contents.{questions_in, seen, memory_before, world_after, memories_after}
 use Rattle.task_board.specs.Dones.{game_done, job_done, IsOtherDone, IsDoneAt}
@@ -77,8 +79,8 @@ module _ (g : Game) (jobs : Logged) (frame_store : FrameStoreOf) (k : IsBoard (s
 
 -- ---- what is taken
 
-pub starts : (old new : Played) (w : ℕ) (j : JobName) (task : Task) → IsStart old w j → IsTaskAt old.game j 0 task → new ≡ with_event old (Start w j) → Starts old new w task
-starts old new w j task s t l =
+pub starts : (old new : Played) (w : ℕ) (j : JobName) (place : Place) (task : Task) → IsStart old w j place → IsTaskAt old.game j 0 task → new ≡ with_event old (Start w j) → Starts old new w task
+starts old new w j place task s t l =
     let same_job = sym (job_is old.game j 0 task t) in
     record {
       happens = subst (λ x. Happens old new (Start w x)) same_job (record { legal = s.legal; logged = l });
@@ -87,8 +89,8 @@ starts old new w j task s t l =
       picked = s.picked ∙ ap (λ x. Some (New x)) same_job;
     }
 
-pub resumes : (old new : Played) (w fiber : ℕ) (held : Held) (task : Task) → IsResume old w fiber held → IsTaskAt old.game held.job held.step task → new ≡ with_event old (Resume w held.job) → Resumes old new w task
-resumes old new w fiber held task s t l =
+pub resumes : (old new : Played) (w fiber : ℕ) (held : Held) (place : Place) (task : Task) → IsResume old w fiber held place → IsTaskAt old.game held.job held.step task → new ≡ with_event old (Resume w held.job) → Resumes old new w task
+resumes old new w fiber held place task s t l =
     let same_job = sym (job_is old.game held.job held.step task t) in
     record {
       step = held.step;
@@ -187,12 +189,13 @@ module _ (g : Game) (jobs : Logged) (frame_store : FrameStoreOf) (k : IsBoard (s
   pub known_of : (fact : Logged → (ℕ → ℕ → ℕ) → Type 0) → ((q : ℕ → ℕ → ℕ) → IsLegalList (setup_of jobs q) jobs.events → fact jobs q) → fact (jobs_of (seen_as g jobs)) (asked_in g)
   known_of fact a = subst (λ v. (q : ℕ → ℕ → ℕ) → IsLegalList (setup_of v q) v.events → fact v q) k.jobs_are a (asked_in g) k.lawful
 
-  pub next_at : (w fiber : ℕ) (j : JobName) → IsLegal (setup_in (seen_as g jobs)) (state_in (seen_as g jobs)) (Resume w j)
-      → first_place (holds j) (core_of (setup_in (seen_as g jobs)) jobs.events).seats.jobs ≡ fiber → IsNextOn jobs w j fiber
-  next_at w fiber j legal place = subst (λ v. IsNextOn v w j fiber) (sym k.jobs_are) (record { next = record { questions = asked_in g; lawful = k.lawful; legal = legal }; place = place })
+  pub next_from : (w : ℕ) (j : JobName) (place : Place) → IsLegal (setup_in (seen_as g jobs)) (state_in (seen_as g jobs)) (Start w j)
+      → IsFirstAt (same j) (kept_in (seen_as g jobs)).queues.fresh place → IsNextFrom jobs w j place
+  next_from w j place legal queued = subst (λ v. IsNextFrom v w j place) (sym k.jobs_are) (record { next = record { questions = asked_in g; lawful = k.lawful; legal = legal }; queued = queued })
 
-  pub next_on : (w fiber : ℕ) (held : Held) → IsResume (seen_as g jobs) w fiber held → IsNextOn jobs w held.job fiber
-  next_on w fiber held r = subst (λ v. IsNextOn v w held.job fiber) (sym k.jobs_are) (record { next = record { questions = asked_in g; lawful = k.lawful; legal = r.legal }; place = r.holder })
+  pub next_at : (w fiber : ℕ) (j : JobName) (place : Place) → IsLegal (setup_in (seen_as g jobs)) (state_in (seen_as g jobs)) (Resume w j)
+      → first_place (holds j) (kept_in (seen_as g jobs)).seats.jobs ≡ fiber → IsFirstAt (λ other. fiber == other) (kept_in (seen_as g jobs)).queues.ready place → IsNextOn jobs w j fiber place
+  next_at w fiber j place legal holder ready = subst (λ v. IsNextOn v w j fiber place) (sym k.jobs_are) (record { next = record { questions = asked_in g; lawful = k.lawful; legal = legal }; holder = holder; ready = ready })
 
   pub next_asked : (w f a i : ℕ) → IsLegal (setup_in (seen_as g jobs)) (state_in (seen_as g jobs)) (Ask w (Think f a))
       → (state_in (seen_as g jobs)).phase (Think f a) ≡ Runs w i → IsNextAt jobs w f a i

@@ -61,14 +61,8 @@ abbrev pub event_again : ℕ × (ℕ × JobName) → Event
 event_again p = event_of_kind p.0 p.1.0 p.1.1
 
 pub event_same : (e : Event) → event_again (event_parts e) ≡ e
-event_same (Start w j) = refl
-event_same (Resume w j) = refl
-event_same (Ask w j) = refl
-event_same (Spread w j) = refl
-event_same (Hold w j) = refl
-event_same (Finish w j) = refl
 event_same (Emit f) = refl
-event_same Stop = refl
+event_same e = refl
 
 abbrev pub event_code : Coded Event
 event_code = code_by (ℕ × (ℕ × JobName)) (coded× coded_ℕ (coded× coded_ℕ job_code)) event_parts event_again event_same

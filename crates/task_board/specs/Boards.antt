@@ -1,21 +1,23 @@
 -- What a board is seen as, and what its calls do and refuse.
-use Rattle.std.specs.Prelude.{◌≡◌, ◌≤◌, ◌<◌, ℕ, true, false, List, [], ◌∷◌, ◌++◌, ◌⊎◌, Option, Some, None, length}
+use Rattle.std.specs.Prelude.{◌≡◌, ◌==◌, ◌≤◌, ◌<◌, ℕ, true, false, List, [], ◌∷◌, ◌++◌, ◌⊎◌, Option, Some, None, length}
 use Rattle.game_rules.specs.Game.{Game}
 use Rattle.job_core.specs.declared.names.JobName.{JobName}
 use Rattle.job_core.specs.declared.names.JobName.TheVariants.{Logic}
 use Rattle.job_core.specs.declared.names.Event.{Event}
 use Rattle.job_core.specs.declared.names.Event.TheVariants.{Start, Resume, Emit, Stop as StopEvent}
-use Rattle.job_core.specs.Core.{Setup, State, Runs, Waits, IsIdle, IsLegal, IsLegalList, state}
+use Rattle.job_core.specs.Core.{Setup, State, Runs, Waits, IsIdle, IsLegal, IsLegalList, same, state}
 use Rattle.job_core.specs.Priorities.{GoesFirst}
 use Rattle.game_jobs.specs.Instance.{asked_in}
 use Rattle.board_model.specs.Lists.{first_place}
-use Rattle.board_model.specs.Board.{Held, core_of, holds}
+use Rattle.board_model.specs.Board.{Core, Held, core_of, holds}
 use Rattle.board_model.specs.Pick.{Pick, Ready, New, given}
 use Rattle.frame_state.specs.Names.{FrameOf}
 use Rattle.frame_state.specs.Contents.{bands_in}
 use Rattle.frame_params.specs.Tasks.{job_of, IsTaskAt}
 use Rattle.frame_params.specs.declared.task.Task.{Task}
 use Rattle.board_model.specs.Stored.{stored_after}
+use Rattle.job_queues.specs.declared.place.Place.{Place}
+use Rattle.job_queues.specs.Picks.{IsFirstAt}
 use Rattle.job_scheduler.specs.Numbers.{Numbers, IsWithinLimits}
 use Rattle.job_scheduler.specs.Logged.{Logged, setup_of}
 use Rattle.job_scheduler.specs.declared.board_fault.BoardFault.{BoardFault}
@@ -38,6 +40,10 @@ setup_in b = setup_of (jobs_of b) (asked_in b.game)
 
 abbrev pub state_in : Played → State
 state_in b = state (setup_in b) b.events
+
+-- what the events make of what the board keeps
+abbrev pub kept_in : Played → Core
+kept_in b = core_of (setup_in b) b.events
 
 abbrev pub with_event : Played → Event → Played
 with_event b e = record b { events = b.events ++ e ∷ [] }
@@ -84,17 +90,19 @@ IsTaken old new w None =
 IsTaken old new w (Some task) = Starts old new w task ⊎ Resumes old new w task
 
 -- a job that may start, and one that may go on: what a board found before it takes it
-pub record IsStart (b : Played) (w : ℕ) (j : JobName) : Type 0 where
+pub record IsStart (b : Played) (w : ℕ) (j : JobName) (place : Place) : Type 0 where
   pub legal : IsLegal (setup_in b) (state_in b) (Start w j)
   pub first : GoesFirst (setup_in b) (state_in b) j
   pub picked : pick_in b ≡ Some (New j)
+  pub queued : IsFirstAt (same j) (kept_in b).queues.fresh place
 
-pub record IsResume (b : Played) (w fiber : ℕ) (held : Held) : Type 0 where
+pub record IsResume (b : Played) (w fiber : ℕ) (held : Held) (place : Place) : Type 0 where
   pub legal : IsLegal (setup_in b) (state_in b) (Resume w held.job)
   pub stands : (state_in b).phase held.job ≡ Waits held.step
   pub first : GoesFirst (setup_in b) (state_in b) held.job
   pub picked : pick_in b ≡ Some (Ready fiber)
   pub holder : first_place (holds held.job) (core_of (setup_in b) b.events).seats.jobs ≡ fiber
+  pub ready : IsFirstAt (λ other. fiber == other) (kept_in b).queues.ready place
 
 -- a worker runs the Logic of a frame, at its start
 pub record IsBeginning (b : Played) (w frame : ℕ) : Type 0 where

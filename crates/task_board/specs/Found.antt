@@ -8,17 +8,17 @@ use Rattle.job_scheduler.specs.declared.next.Next.TheVariants.{Start, Resume}
 use Rattle.task_board.specs.Boards.{Played, IsStart, IsResume}
 
 abbrev pub job_next : Next → JobName
-job_next (Start job) = job
-job_next (Resume fiber held) = held.job
+job_next (Start job place) = job
+job_next (Resume fiber held place) = held.job
 
 abbrev pub step_next : Next → ℕ
-step_next (Start job) = zero
-step_next (Resume fiber held) = held.step
+step_next (Start job place) = zero
+step_next (Resume fiber held place) = held.step
 
 abbrev pub event_of : ℕ → Next → Event
-event_of w (Start job) = StartEvent w job
-event_of w (Resume fiber held) = ResumeEvent w held.job
+event_of w (Start job place) = StartEvent w job
+event_of w (Resume fiber held place) = ResumeEvent w held.job
 
 abbrev pub IsFound : Played → ℕ → Next → Type 0
-IsFound b w (Start job) = IsStart b w job
-IsFound b w (Resume fiber held) = IsResume b w fiber held
+IsFound b w (Start job place) = IsStart b w job place
+IsFound b w (Resume fiber held place) = IsResume b w fiber held place

@@ -9,20 +9,11 @@ use std::marker::Model;
 use std::mem;
 
 /// The question at which an agent's thought stands in the frame under way, and the answer to it.
+#[derive(Drop)]
 pub struct Asking<'t> {
     session: &'t Session,
     parked: Option<Parked<'t>>,
     way: Option<Way<'t>>,
-}
-
-impl<'t> Drop for Asking<'t> {
-    fn drop(self) {
-        let Self {
-            session: _,
-            parked: _,
-            way: _,
-        } = self;
-    }
 }
 
 impl<'t> Model for Asking<'t> {

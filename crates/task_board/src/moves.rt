@@ -1,19 +1,20 @@
-ghost use Rattle.std.specs.Prelude.{◌≡◌, ℕ, suc, ◌≤◌, ◌+◌, None, IfOk, IfSome, OnOk, OnErr, true, false, ◌↔◌, IsTrue};
+ghost use Rattle.std.specs.Prelude.{◌≡◌, ◌==◌, ℕ, suc, ◌≤◌, ◌+◌, None, IfOk, IfSome, OnOk, OnErr, true, false, ◌↔◌, IsTrue};
 ghost use Rattle.job_core.specs.declared.names.JobName.TheVariants.{Logic};
 ghost use Rattle.job_core.specs.declared.names.Event.TheVariants.{Start, Resume, Emit};
-ghost use Rattle.job_core.specs.Core.{Runs, Waits, IsLegal};
+ghost use Rattle.job_core.specs.Core.{Runs, Waits, IsLegal, same};
 ghost use Rattle.frame_state.specs.Names.{logic_of};
 ghost use Rattle.frame_params.specs.Tasks.{IsTaskAt};
 ghost use Rattle.board_model.specs.Lists.{first_place};
-ghost use Rattle.board_model.specs.Board.{core_of, holds};
-ghost use Rattle.task_board.specs.Boards.{setup_in, state_in, Happens};
+ghost use Rattle.board_model.specs.Board.{holds};
+ghost use Rattle.job_queues.specs.Picks.{IsFirstAt};
+ghost use Rattle.task_board.specs.Boards.{setup_in, state_in, kept_in, Happens};
 ghost use Rattle.task_board.specs.Given.{MayBeTakenUp, NothingToShow};
 
 use super::board::TaskBoard;
 use frame_params::{LogicTask, Task};
 use job_core::names::JobName;
 use job_queues::is_same;
-use job_scheduler::{Fiber, Held, OutOfMemory};
+use job_scheduler::{Fiber, Held, OutOfMemory, Place};
 
 // What is done for a given event, where it is legal.
 impl<'t> TaskBoard<'t> {
@@ -28,18 +29,25 @@ impl<'t> TaskBoard<'t> {
         }
     }
 
-    /// Whether a worker may start this job.
-    pub fn may_start(&self, worker: u32, job: JobName) -> bool
-        ensures { IsTrue result ↔ IsLegal (setup_in self.now) (state_in self.now) (Start worker job) }
+    /// Where a job is queued that a worker may start; None where it may not.
+    pub fn may_start(&self, worker: u32, job: JobName) -> Option<Place>
+        ensures some { IfSome result (λ place. IsLegal (setup_in self.now) (state_in self.now) (Start worker job)) }
+        ensures place { IfSome result (IsFirstAt (same job) (kept_in self.now).queues.fresh) }
+        ensures none { result ≡ None → IsLegal (setup_in self.now) (state_in self.now) (Start worker job) → ⊥ }
     {
-        self.jobs.may_start(worker, job)
+        let Some(place) = self.jobs.may_start(worker, job) else {
+            return None;
+        };
+        Some(place)
     }
 
-    /// The fiber on which a worker may go on with this job, and how far the job has come; None where it may not.
-    pub fn may_resume(&self, worker: u32, job: JobName) -> Option<(Fiber, Held)>
+    /// The fiber on which a worker may go on with this job, how far the job has come, and where the fiber is ready; None where
+    /// the worker may not.
+    pub fn may_resume(&self, worker: u32, job: JobName) -> Option<(Fiber, Held, Place)>
         ensures some { IfSome result (λ next. IsLegal (setup_in self.now) (state_in self.now) (Resume worker job)) }
         ensures stands { IfSome result (λ next. (state_in self.now).phase job ≡ Waits next.1.step) }
-        ensures place { IfSome result (λ next. first_place (holds job) (core_of (setup_in self.now) self.now.events).seats.jobs ≡ next.0) }
+        ensures holder { IfSome result (λ next. first_place (holds job) (kept_in self.now).seats.jobs ≡ next.0) }
+        ensures place { IfSome result (λ next. IsFirstAt (λ other. next.0 == other) (kept_in self.now).queues.ready next.2) }
         ensures none { result ≡ None → IsLegal (setup_in self.now) (state_in self.now) (Resume worker job) → ⊥ }
     {
         let Some(next) = self.jobs.may_resume(worker, job) else {
@@ -81,14 +89,15 @@ impl<'t> TaskBoard<'t> {
         }
     }
 
-    /// A worker starts a job.
+    /// A worker starts a job that is queued at this place.
     #[inline(always)]
-    pub fn begin(&mut self, worker: u32, job: JobName) -> Result<(), OutOfMemory>
-        requires { IsLegal (setup_in self.old) (state_in self.old) (Start worker job) }
+    pub fn begin(&mut self, worker: u32, job: JobName, place: Place) -> Result<(), OutOfMemory>
+        requires legal { IsLegal (setup_in self.old) (state_in self.old) (Start worker job) }
+        requires place { IsFirstAt (same job) (kept_in self.old).queues.fresh place }
         ensures ok { OnOk result (Happens self.old self.new (Start worker job)) }
         ensures unchanged { OnErr result (self.new ≡ self.old) }
     {
-        let Ok(()) = self.jobs.start(worker, job) else {
+        let Ok(()) = self.jobs.start(worker, job, place) else {
             return Err(OutOfMemory);
         };
         Ok(())
@@ -101,9 +110,11 @@ impl<'t> TaskBoard<'t> {
         worker: u32,
         fiber: Fiber,
         frame: u32,
+        place: Place,
     ) -> Result<LogicTask<'t>, OutOfMemory>
         requires legal { IsLegal (setup_in self.old) (state_in self.old) (Resume worker (Logic frame)) }
-        requires place { first_place (holds (Logic frame)) (core_of (setup_in self.old) self.old.events).seats.jobs ≡ fiber }
+        requires holder { first_place (holds (Logic frame)) (kept_in self.old).seats.jobs ≡ fiber }
+        requires place { IsFirstAt (λ other. fiber == other) (kept_in self.old).queues.ready place }
         requires spread { (k : ℕ) × ((state_in self.old).phase (Logic frame) ≡ Waits (suc k)) }
         ensures happens { OnOk result (Happens self.old self.new (Resume worker (Logic frame))) }
         ensures task { IfOk result (λ task. task ≡ logic_of self.old.game frame true) }
@@ -113,7 +124,7 @@ impl<'t> TaskBoard<'t> {
             return Err(OutOfMemory);
         };
         let logic = JobName::Logic { frame };
-        let Ok(()) = self.jobs.resume(worker, fiber, logic) else {
+        let Ok(()) = self.jobs.resume(worker, fiber, logic, place) else {
             self.frame_store.keep_room(room);
             return Err(OutOfMemory);
         };
@@ -122,13 +133,20 @@ impl<'t> TaskBoard<'t> {
 
     /// A worker goes on with a job, on the fiber that holds it.
     #[inline(always)]
-    pub fn go_on(&mut self, worker: u32, fiber: Fiber, job: JobName) -> Result<(), OutOfMemory>
+    pub fn go_on(
+        &mut self,
+        worker: u32,
+        fiber: Fiber,
+        job: JobName,
+        place: Place,
+    ) -> Result<(), OutOfMemory>
         requires legal { IsLegal (setup_in self.old) (state_in self.old) (Resume worker job) }
-        requires place { first_place (holds job) (core_of (setup_in self.old) self.old.events).seats.jobs ≡ fiber }
+        requires holder { first_place (holds job) (kept_in self.old).seats.jobs ≡ fiber }
+        requires place { IsFirstAt (λ other. fiber == other) (kept_in self.old).queues.ready place }
         ensures ok { OnOk result (Happens self.old self.new (Resume worker job)) }
         ensures unchanged { OnErr result (self.new ≡ self.old) }
     {
-        let Ok(()) = self.jobs.resume(worker, fiber, job) else {
+        let Ok(()) = self.jobs.resume(worker, fiber, job, place) else {
             return Err(OutOfMemory);
         };
         self.frame_store.go_on(job);

@@ -53,8 +53,8 @@ impl<'t> TaskBoard<'t> {
             return None;
         };
         match next {
-            Next::Start(job) => Some(Event::Start { worker, job }),
-            Next::Resume(_, held) => Some(Event::Resume {
+            Next::Start(job, _) => Some(Event::Start { worker, job }),
+            Next::Resume(_, held, _) => Some(Event::Resume {
                 worker,
                 job: held.job,
             }),

@@ -12,21 +12,12 @@ use std::marker::Model;
 use std::mem;
 
 /// What the agents thought in the frame under way, by agent number. There is room for the thoughts of all agents.
+#[derive(Drop)]
 pub(crate) struct Thoughts<'t> {
     session: &'t Session,
     all: Vec<Thought<'t>>,
     // Where they go once they are all there, if the turn before brought it already.
     room: Option<Box<Gathering<'t>>>,
-}
-
-impl<'t> Drop for Thoughts<'t> {
-    fn drop(self) {
-        let Self {
-            session: _,
-            all: _,
-            room: _,
-        } = self;
-    }
 }
 
 impl<'t> Model for Thoughts<'t> {

@@ -4,7 +4,7 @@ use Rattle.task_board.proofs.Boarding.{next_at, kept_after, happens, seen_as}
 use Rattle.task_board.proofs.board.TaskBoard.go_on.Goals as goal
 
 pub resume-requires : goal.resume-requires
-resume-requires c = next_at c.self.inside.session.now c.self.inside.jobs c.self.inside.frame_store c.self.invariant c.args.worker c.args.fiber c.args.job (rw (← c.self.view_is) at c.requires.legal) (rw (← c.self.view_is) at c.requires.place)
+resume-requires c = next_at c.self.inside.session.now c.self.inside.jobs c.self.inside.frame_store c.self.invariant c.args.worker c.args.fiber c.args.job c.args.place (rw (← c.self.view_is) at c.requires.legal) (rw (← c.self.view_is) at c.requires.holder) (rw (← c.self.view_is) at c.requires.place)
 
 pub invariant_of-self : goal.invariant_of-self
 invariant_of-self c = rw c.in_default.ensures.unchanged c.self.invariant

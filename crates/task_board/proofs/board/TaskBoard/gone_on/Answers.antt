@@ -18,11 +18,11 @@ pub task-requires : goal.task-requires
 task-requires c =
     let job : c.held.inside.job ≡ c.args.held.job = ap (λ (h : Held). h.job) c.held.view_is in
     let step : c.held.inside.step ≡ c.args.held.step = ap (λ (h : Held). h.step) c.held.view_is in
-    let is = subst (λ b. IsResume b c.args.worker c.args.fiber c.args.held) (sym c.self.view_is) c.requires in
+    let is = subst (λ b. IsResume b c.args.worker c.args.fiber c.args.held c.args.place) (sym c.self.view_is) c.requires in
     rw (job, step) (task_there c.self.inside.session.now c.self.inside.jobs c.self.inside.frame_store c.self.invariant c.args.held.job c.args.held.step (c.args.worker, inr (is.legal, is.stands)))
 
-pub go_on-requires-clause-place : goal.go_on-requires-clause-place
-go_on-requires-clause-place c =
+pub go_on-requires-clause-holder : goal.go_on-requires-clause-holder
+go_on-requires-clause-holder c =
     let b = c.args.self.now in
     let job : c.held.inside.job ≡ c.args.held.job = ap (λ (h : Held). h.job) c.held.view_is in
     subst (λ j. first_place (holds j) (core_of (setup_in b) b.events).seats.jobs ≡ c.args.fiber) (sym job) c.requires.holder

@@ -29,19 +29,18 @@ returns-then-not-is_at-clause-refused c =
     subst (λ b. IsRefused b c.args.worker (IsOtherDone c.args.done.now b.game) (Finish c.args.worker) Illegal) c.self.view_is
     (finish_refused (seen_as c.self.inside.session.now c.self.inside.jobs) c.self.invariant.lawful c.args.worker run.0 c.held.inside.job c.held.inside.step runs c.args.done.now job game (is_not _ _ c.is_at.ensures c.if-not-is_at.true))
 
-pub returns-clause-legal : goal.returns-clause-legal
-returns-clause-legal c =
+pub returns : goal.returns
+returns c =
+    let board = seen_as c.self.inside.session.now c.self.inside.jobs in
     let run = known c.self.inside.session.now c.self.inside.jobs c.self.inside.frame_store c.self.invariant (IsRunning c.args.worker (Ok c.in-Ok.held)) c.in-Ok.ensures in
-    let runs = subst (λ (h : Held). (state_in (seen_as c.self.inside.session.now c.self.inside.jobs)).phase h.job ≡ Runs c.args.worker h.step) (sym c.held.view_is) run.1 in
+    let runs = subst (λ (h : Held). (state_in board).phase h.job ≡ Runs c.args.worker h.step) (sym c.held.view_is) run.1 in
     let job = c.is_of.ensures.0 c.if-not-is_of.false in
     let game : game_done c.args.done.now ≡ c.self.inside.session.now = c.requires ∙ sym (ap (λ (b : Played). b.game) c.self.view_is) in
-    rw (← c.self.view_is) (subst (λ x. IsLegal (setup_in (seen_as c.self.inside.session.now c.self.inside.jobs)) (state_in (seen_as c.self.inside.session.now c.self.inside.jobs)) (Finish c.args.worker x)) (sym job)
-    (finish_legal (seen_as c.self.inside.session.now c.self.inside.jobs) c.self.invariant.lawful c.args.worker run.0 c.held.inside.job c.held.inside.step runs c.args.done.now job game (c.is_at.ensures.0 c.if-not-is_at.false)))
-
-pub returns-clause-full : goal.returns-clause-full
-returns-clause-full c =
-    let run = known c.self.inside.session.now c.self.inside.jobs c.self.inside.frame_store c.self.invariant (IsRunning c.args.worker (Ok c.in-Ok.held)) c.in-Ok.ensures in
-    let runs = subst (λ (h : Held). (state_in (seen_as c.self.inside.session.now c.self.inside.jobs)).phase h.job ≡ Runs c.args.worker h.step) (sym c.held.view_is) run.1 in
-    let job = c.is_of.ensures.0 c.if-not-is_of.false in
-    let game : game_done c.args.done.now ≡ c.self.inside.session.now = c.requires ∙ sym (ap (λ (b : Played). b.game) c.self.view_is) in
-    subst (λ b. IsRefused b c.args.worker (IsOtherDone c.args.done.now b.game) (Finish c.args.worker) OutOfMemory) c.self.view_is (finish_full (seen_as c.self.inside.session.now c.self.inside.jobs) c.self.invariant.lawful c.args.worker run.0 c.held.inside.job c.held.inside.step runs c.args.done.now job game (c.is_at.ensures.0 c.if-not-is_at.false))
+    let over = c.is_at.ensures.0 c.if-not-is_at.false in
+    record {
+      legal = rw (← c.self.view_is) (subst (λ x. IsLegal (setup_in board) (state_in board) (Finish c.args.worker x)) (sym job)
+          (finish_legal board c.self.invariant.lawful c.args.worker run.0 c.held.inside.job c.held.inside.step runs c.args.done.now job game over));
+      full = subst (λ b. IsRefused b c.args.worker (IsOtherDone c.args.done.now b.game) (Finish c.args.worker) OutOfMemory) c.self.view_is
+          (finish_full board c.self.invariant.lawful c.args.worker run.0 c.held.inside.job c.held.inside.step runs c.args.done.now job game over);
+      refused = tt;
+    }

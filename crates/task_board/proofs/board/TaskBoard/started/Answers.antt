@@ -10,9 +10,6 @@ task-requires c =
     let is = rw (← c.self.view_is) at c.requires in
     task_there c.self.inside.session.now c.self.inside.jobs c.self.inside.frame_store c.self.invariant c.args.job 0 (c.args.worker, inl (is.legal, refl))
 
-pub begin-requires : goal.begin-requires
-begin-requires c = c.requires.legal
-
 pub returns-clause-task : goal.returns-clause-task
 returns-clause-task c =
     let made = subst (λ (k : FrameStoreOf). IsTaskAt k.game c.args.job 0 c.in-Ok.task) c.self.invariant.frame_store_is c.in-Ok.ensures in

@@ -1,14 +1,10 @@
-use Rattle.std.proofs.Common.{◌≡◌, Ok, Err, None, refl, sym, ap, ◌∙◌, subst}
-use Rattle.board_model.specs.Board.{Held}
-use Rattle.frame_params.specs.Tasks.{IsTaskAt}
+use Rattle.std.proofs.Common.{Ok, Err, None, refl, subst}
 use Rattle.job_scheduler.specs.Looks.{Always, IsGivenTo}
-use Rattle.task_board.specs.FrameStore.{FrameStoreOf, sizes}
-use Rattle.board_model.specs.Needed.{HasParts}
 use Rattle.job_scheduler.specs.declared.board_fault.BoardFault.TheVariants.{OutOfMemory}
-use Rattle.task_board.specs.Boards.{Played, IsTaken, IsTakeRefused}
-use Rattle.task_board.specs.Found.{IsFound, job_next, step_next}
-use Rattle.task_board.proofs.Boarding.{known, idle_or, seen_as, task_there}
-use Rattle.task_board.proofs.Finding.{found, may_be_taken_up, want_of_memory, is_taken}
+use Rattle.task_board.specs.Boards.{IsTaken, IsTakeRefused}
+use Rattle.task_board.specs.Found.{IsFound}
+use Rattle.task_board.proofs.Boarding.{known, idle_or, seen_as}
+use Rattle.task_board.proofs.Finding.{found, want_of_memory, is_taken}
 use Rattle.task_board.proofs.board.TaskBoard.take.Goals as goal
 
 pub returns-in-Err-clause-refused : goal.returns-in-Err-clause-refused

@@ -16,7 +16,7 @@ ready-requires c =
     (task_there c.self.inside.session.now c.self.inside.jobs c.self.inside.frame_store c.self.invariant (Logic c.args.frame) (suc spread.0) (c.args.worker, inr (legal, spread.1))).0
 
 pub resume-requires : goal.resume-requires
-resume-requires c = next_at c.self.inside.session.now c.self.inside.jobs c.self.inside.frame_store c.self.invariant c.args.worker c.args.fiber (Logic c.args.frame) (rw (← c.self.view_is) at c.requires.legal) (rw (← c.self.view_is) at c.requires.place)
+resume-requires c = next_at c.self.inside.session.now c.self.inside.jobs c.self.inside.frame_store c.self.invariant c.args.worker c.args.fiber (Logic c.args.frame) c.args.place (rw (← c.self.view_is) at c.requires.legal) (rw (← c.self.view_is) at c.requires.holder) (rw (← c.self.view_is) at c.requires.place)
 
 pub turn-requires-clause-game : goal.turn-requires-clause-game
 turn-requires-clause-game c = ap (λ (p : FrameOf). p.game) c.in-Ok.ensures.start ∙ sym (ap (λ (k : FrameStoreOf). k.game) c.in-Ok.ensures.unchanged)

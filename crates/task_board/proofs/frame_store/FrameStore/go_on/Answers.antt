@@ -1,4 +1,4 @@
-use Rattle.std.proofs.Common.{[], ap, refl}
+use Rattle.std.proofs.Common.{ap}
 use Rattle.task_board.specs.FrameStore.{PartsOf}
 use Rattle.task_board.proofs.FrameStores.{with_no_thoughts}
 use Rattle.task_board.proofs.frame_store.FrameStore.go_on.Goals as goal

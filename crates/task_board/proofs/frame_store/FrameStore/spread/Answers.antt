@@ -1,4 +1,4 @@
-use Rattle.std.proofs.Common.{rules, ◌≡◌, ◌%◌, Some, None, length, map, sym, ap, ap₂}
+use Rattle.std.proofs.Common.{rules, ◌≡◌, ◌%◌, Some, None, length, map, sym, ap₂}
 use Rattle.task_board.specs.FrameStore.{frame_name}
 use Rattle.task_board.proofs.FrameStores.{with_frame, map_length}
 use Rattle.task_board.proofs.frame_store.FrameStore.spread.Goals as goal
