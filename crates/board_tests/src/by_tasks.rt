@@ -43,11 +43,15 @@ fn finds<'t>(alloc: Global, params: &FrameParams<'t>, parked: &Parked<'t>) -> Op
     requires frame { parked.now.frame ≡ params.now.frame }
     ensures { IfSome result (λ way. way ≡ parked.now) }
 {
-    let task = PathTask::of(alloc, params, parked).ok()?;
+    let Ok(task) = PathTask::of(alloc, params, parked) else {
+        return None;
+    };
     if task.name() != PATH {
         return None;
     }
-    let way = task.work(alloc).ok()?;
+    let Ok(way) = task.work(alloc) else {
+        return None;
+    };
     if way.answer() != Answer::Step(Dir::East, 2) {
         return None;
     }

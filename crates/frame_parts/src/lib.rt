@@ -13,4 +13,4 @@ pub use kept_distances::KeptDistances;
 pub use known::{Known, shared, to_place};
 pub use memories::zero_memories;
 pub use ticking::{begun, cell_on, gone_on};
-pub use turning::resolved;
+pub use turning::{resolve_in_place, resolved};

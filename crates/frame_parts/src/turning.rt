@@ -1,4 +1,4 @@
-ghost use Rattle.std.specs.Prelude.{◌≡◌, IfOk, length};
+ghost use Rattle.std.specs.Prelude.{◌≡◌, IfOk, OnOk, OnErr, length};
 ghost use Rattle.grid_world.specs.Intents.{apply_all};
 
 use grid_world::{Intent, ResolveFault, Signals, World, resolve};
@@ -16,6 +16,24 @@ pub fn resolved(
 {
     match resolve(alloc, world, signals, intents) {
         Ok(after) => Ok(after),
+        Err(ResolveFault::OutOfMemory) => Err(AllocError),
+        Err(ResolveFault::Count) => unreachable!(),
+    }
+}
+
+/// As `resolved`, in place: a world that no other reads. At Err it is as it was.
+pub fn resolve_in_place(
+    alloc: Global,
+    world: &mut World,
+    signals: Signals,
+    intents: &[Intent],
+) -> Result<(), AllocError>
+    requires { length intents.now ≡ length world.old.agents }
+    ensures ok { OnOk result (world.new ≡ apply_all world.old signals 0 intents.now) }
+    ensures err { OnErr result (world.new ≡ world.old) }
+{
+    match world.resolve(alloc, signals, intents) {
+        Ok(()) => Ok(()),
         Err(ResolveFault::OutOfMemory) => Err(AllocError),
         Err(ResolveFault::Count) => unreachable!(),
     }

@@ -1,4 +1,4 @@
-ghost use Rattle.std.specs.Prelude.{◌≡◌, ◌<◌, IfOk, OnOk, OnErr, length, slice_set};
+ghost use Rattle.std.specs.Prelude.{◌≡◌, ◌<◌, IfOk, OnOk, OnErr, length, slice_set, unwrap_or};
 
 use std::alloc::{AllocError, Global};
 use std::marker::Model;
@@ -60,5 +60,69 @@ impl Items {
     {
         Arc::make_mut(&mut self.table)?[cell] = lies;
         Ok(())
+    }
+}
+
+/// Items as they are changed, while what they were before is kept and shared until they do. They are seen as a pair: the
+/// items, and those of before.
+pub(crate) struct ChangedItems<'i> {
+    before: &'i Items,
+    own: Option<Items>,
+}
+
+impl<'i> Drop for ChangedItems<'i> {
+    fn drop(self) {
+        let Self { before: _, own: _ } = self;
+    }
+}
+
+impl<'i> Model for ChangedItems<'i> {
+    ghost use Rattle.std.specs.Prelude.{List, Bool, unwrap_or};
+
+    ghost Value = { List Bool × List Bool };
+
+    ghost view = { λ c. (unwrap_or c.own c.before.now, c.before.now) };
+}
+
+impl<'i> ChangedItems<'i> {
+    /// Items, none of which has changed.
+    pub(crate) fn of(before: &'i Items) -> ChangedItems<'i>
+        ensures { result ≡ (before.now, before.now) }
+    {
+        ChangedItems { before, own: None }
+    }
+
+    /// For each cell, row after row, whether an item lies there.
+    pub(crate) fn cells(&self) -> &[bool]
+        ensures { result.now ≡ self.now.0 }
+    {
+        match &self.own {
+            Some(own) => own.cells(),
+            None => self.before.cells(),
+        }
+    }
+
+    /// Whether an item lies on a cell from now on.
+    pub(crate) fn set(&mut self, cell: usize, lies: bool) -> Result<(), AllocError>
+        requires { cell < length self.old.0 }
+        ensures ok { OnOk result (self.new.0 ≡ slice_set self.old.0 cell lies) }
+        ensures before { self.new.1 ≡ self.old.1 }
+        ensures unchanged { OnErr result (self.new ≡ self.old) }
+    {
+        if self.own.is_none() {
+            self.own = Some(self.before.share()?);
+        }
+        match &mut self.own {
+            Some(own) => own.set(cell, lies),
+            None => unreachable!(),
+        }
+    }
+
+    /// The items; none where none has changed.
+    pub(crate) fn changed(self) -> Option<Items>
+        ensures { unwrap_or result self.entry.1 ≡ self.entry.0 }
+    {
+        let ChangedItems { before: _, own } = self;
+        own
     }
 }

@@ -4,6 +4,9 @@ use Rattle.grid_world.specs.Grid.{Grid}
 use Rattle.grid_world.specs.Ground.{emptied}
 use Rattle.frame_parts.specs.Distances.{KnownOf, known_of}
 
-pub ground_under : (first w : Grid) (k : KnownOf) (ground : Grid) (on : List Bool) → k ≡ known_of ground on → ground ≡ first → emptied first ≡ emptied w
-    → emptied k.ground ≡ emptied w
-ground_under first w k ground on known same is = ap (λ (k : KnownOf). emptied k.ground) known ∙ ap (λ (w : Grid). emptied w) same ∙ is
+module _ (first : Grid) (k before : KnownOf) (on under : List Bool) (brought : k ≡ known_of before.ground on) (known : before ≡ known_of first under) where
+  pub known_on : k ≡ known_of first on
+  known_on = brought ∙ ap (λ (b : KnownOf). known_of b.ground on) known
+
+  pub ground_under : (w : Grid) → emptied first ≡ emptied w → emptied k.ground ≡ emptied w
+  ground_under w is = ap (λ (k : KnownOf). emptied k.ground) known_on ∙ is

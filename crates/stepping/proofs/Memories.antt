@@ -1,6 +1,8 @@
 -- The numbers of a memory.
-use Rattle.std.proofs.Common.{◌≡◌, ◌<◌, ◌≤◌, ◌+◌, ◌^◌, ◌++◌, ◌∷◌, [], ℕ, List, length, get_or, drop, sym, ap, ◌∙◌, arith, append_assoc, append-nil}
+use Rattle.std.proofs.Common.{◌≡◌, ◌<◌, ◌≤◌, ◌+◌, ◌^◌, ◌++◌, ◌∷◌, [], ℕ, List, length, get_or, drop, sym, ap, ◌∙◌, arith, append_assoc, append-nil, Some}
+use Rattle.std.specs.Prelude.{slice_get}
 use Rattle.std.proofs.lemmas.List.{drop_more, drop_all}
+use Rattle.std.proofs.lemmas.Option.{get_or_from_slice_get}
 use Rattle.bt_nodes.specs.Bounds.{Fits, bounds}
 use Rattle.bt_nodes.specs.Trees.{plain_of}
 use Rattle.bt_nodes.specs.declared.tree.Tree.{Tree}
@@ -14,6 +16,10 @@ number_small t m i x fits l is =
     let inside : i < length (bounds (plain_of t)) = omega (arith, l, fits.same_length) in
     let bound : get_or (bounds (plain_of t)) i 0 ≤ 1001 = bounds-small (plain_of t) within.few within.counts i 0 inside in
     omega (arith, fits.below i l, bound, is)
+
+-- one that was looked up
+pub number_at : (m : List ℕ) (many i x : ℕ) → length m ≡ many → i < many → slice_get m i ≡ Some x → (i < length m) × (get_or m i x ≡ x)
+number_at m many i x long inside is = (omega (arith, long, inside), get_or_from_slice_get m i x x is)
 
 -- ---- a list that is copied element by element
 

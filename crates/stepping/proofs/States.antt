@@ -1,5 +1,5 @@
 -- What is kept of a game of a level is a state.
-use Rattle.std.proofs.Common.{◌≡◌, ◌∙◌, ◌<◌, ◌^◌, ℕ, Bool, true, false, cond, List, [], ◌∷◌, length, map, get_or, refl, sym, ap, subst, arith, None, Some, Option, replicate}
+use Rattle.std.proofs.Common.{◌≡◌, ◌∙◌, ◌<◌, ◌^◌, ℕ, Bool, true, false, cond, List, [], ◌∷◌, length, get_or, refl, sym, ap, subst, arith, None, Some, Option, replicate}
 use Rattle.std.specs.Prelude.{All, find, option_map, unwrap_or}
 use Rattle.std.specs.Option.{option_or}
 use Rattle.std.proofs.lemmas.List.{length-map, get_or-map}
@@ -61,4 +61,5 @@ kept_state level changes script f world memories statuses drawn on small is soun
   answered = is.one_each;
   asked = is.asked;
   first = λ begun. ap (signals changes) begun ∙ none_first changes is.ordered.first;
+  last = λ over. sym is.signals_are ∙ is.last over ∙ is.drawn_are;
 }

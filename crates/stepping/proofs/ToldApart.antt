@@ -1,5 +1,5 @@
 -- States of one level that have the same text are the same.
-use Rattle.std.proofs.Common.{◌≡◌, ◌∙◌, ◌<◌, ◌≤◌, ℕ, ◌+◌, ◌^◌, ◌*◌, Bool, false, replicate, List, [], ◌++◌, length, map, get_or, sym, ap, arith, append_assoc, Ok, None, codes, ⊎_elim}
+use Rattle.std.proofs.Common.{◌≡◌, ◌∙◌, ◌<◌, ◌≤◌, ℕ, ◌+◌, ◌^◌, ◌*◌, Bool, false, replicate, List, [], ◌++◌, length, map, get_or, refl, sym, ap, arith, append_assoc, Ok, None, codes, ⊎_elim}
 use Rattle.std.specs.Prelude.{Result, All}
 use Rattle.std.proofs.lemmas.Bool.{cases_lt}
 use Rattle.std.proofs.lemmas.List.{length-map, get_or-map, get_or_default}
@@ -12,12 +12,12 @@ use Rattle.bt_nodes.specs.Limits.{tree_fault}
 use Rattle.bt_nodes.specs.Sizes.{size}
 use Rattle.bt_nodes.proofs.MemoryBounds.{bounds-small, length-bounds}
 use Rattle.bt_nodes.proofs.WithinLimits.{within}
-use Rattle.game_rules.specs.Game.{signals}
+use Rattle.game_rules.specs.Game.{Game, signals}
 use Rattle.stepping.specs.declared.load_fault.LoadFault.{LoadFault}
 use Rattle.stepping.specs.LevelDigest.{level_digest_of}
 use Rattle.stepping.specs.Played.{Played, next_signals}
-use Rattle.stepping.specs.StateText.{state_head, signals_line, agent_lines, item_lines, state_text, IsState, AreOfOneLevel, AreAlike}
-use Rattle.stepping.specs.StateReading.{◌>>=◌, StateTold, no_crew, head_at, crew_from, items_from, state_at}
+use Rattle.stepping.specs.StateText.{state_head, signals_line, agent_lines, item_lines, state_text_at, state_text, IsState, AreOfOneLevel, AreAlike}
+use Rattle.stepping.specs.StateReading.{◌>>=◌, StateTold, no_crew, head_at, crew_from, items_from, state_at, told_of}
 use Rattle.stepping.proofs.Onward.{all_same}
 use Rattle.stepping.proofs.Playing.{as_many}
 use Rattle.stepping.proofs.ReadBack.{then_read, head_again}
@@ -51,13 +51,6 @@ module _ (p : Played) (is : IsState p) where
         rows = λ i l. let a = (is.world.standing i nobody l).row in let b = is.world.sized.most_rows in omega (arith, a, b);
       }
 
-  abbrev pub told_of : StateTold
-  told_of = record {
-    head = record { frame = p.frame; shown = signals p.game.changes p.frame; next = next_signals p };
-    crew = record { agents = p.position.world.agents; answers = p.answers; memories = p.position.memories };
-    items = p.position.world.items;
-  }
-
   few : length p.answers ≤ length p.position.world.agents
   few =
       ⊎_elim
@@ -66,7 +59,7 @@ module _ (p : Played) (is : IsState p) where
       (cases_lt (length p.answers) 1)
 
   -- a state's text is read as what it tells
-  pub state_again : state_at (level_digest_of p.game) p.position.world.width p.position.world.height (map size p.game.trees) (state_text p) ≡ Ok told_of
+  pub state_again : state_at (level_digest_of p.game) p.position.world.width p.position.world.height (map size p.game.trees) (state_text p) ≡ Ok (told_of p)
   unfolding state_at
   state_again =
       let w : Grid = p.position.world in
@@ -90,32 +83,62 @@ module _ (p : Played) (is : IsState p) where
         items = items;
       })) (items_again w is.world.sized.most_columns is.world.sized.most_rows is.world.all_items)))
 
--- where it is read so, it tells this
-read_as : {A : Type 0} (x y : A) (r : Result A LoadFault) → r ≡ Ok x → r ≡ Ok y → x ≡ y
-read_as x y r e f = let same : Ok x ≡ Ok y = sym e ∙ f in cc
+-- ---- by a level
 
 abbrev digest_of_parts : Grid → List Plain → ℕ
 digest_of_parts w trees = level_digest_of (record { world = w; trees = trees; changes = [] })
 
+-- as a level's game reads a text
+abbrev pub read_by : Game → List ℕ → Result StateTold LoadFault
+read_by g text = state_at (level_digest_of g) g.world.width g.world.height (map size g.trees) text
+
+module _ (g : Game) (p : Played) (is : IsState p) (level : AreOfOneLevel g p.game) where
+  on_ground : emptied g.world ≡ emptied p.position.world
+  on_ground = ap (λ w. emptied w) level.world ∙ is.ground
+
+  pub read_again : read_by g (state_text p) ≡ Ok (told_of p)
+  read_again =
+      let read : ℕ → ℕ → ℕ → List Plain → Result StateTold LoadFault = λ digest width height trees. state_at digest width height (map size trees) (state_text p) in
+      ap (λ w. read (digest_of_parts w g.trees) g.world.width g.world.height g.trees) level.world
+      ∙ ap (λ ts. read (digest_of_parts p.game.world ts) g.world.width g.world.height ts) level.trees
+      ∙ ap (λ (w : Grid). read (level_digest_of p.game) w.width w.height p.game.trees) on_ground
+      ∙ state_again p is
+
+-- what is read is one thing
+pub read_as : {A : Type 0} (x y : A) (r : Result A LoadFault) → r ≡ Ok x → r ≡ Ok y → x ≡ y
+read_as x y r e f = let same : Ok x ≡ Ok y = sym e ∙ f in cc
+
+module _ (p q : Played) (is : IsState p) (other : IsState q) (level : AreOfOneLevel p.game q.game) where
+  same_ground : emptied p.position.world ≡ emptied q.position.world
+  same_ground = sym is.ground ∙ on_ground p.game q other level
+
+  module _ (told : told_of p ≡ told_of q) where
+    told_alike : AreAlike p q
+    told_alike =
+        let world : p.position.world ≡ q.position.world =
+        ap (λ (g : Grid). furnished g p.position.world.items p.position.world.agents) same_ground
+        ∙ ap (λ (t : StateTold). furnished q.position.world t.items t.crew.agents) told in
+        record {
+          state = all_same p q (ap (λ (t : StateTold). t.head.frame) told) (ap (λ (t : StateTold). t.head.next) told) world level.trees (ap (λ (t : StateTold). t.crew.memories) told);
+          shown = ap (λ (t : StateTold). t.head.shown) told;
+          answers = ap (λ (t : StateTold). t.crew.answers) told;
+        }
+
+    abbrev text_told : Grid → List Plain → Grid → StateTold → List ℕ
+    text_told first trees w t =
+        state_text_at (record { world = first; trees = trees; changes = [] }) t.head.frame t.head.shown t.head.next
+        (record { world = furnished w t.items t.crew.agents; memories = t.crew.memories }) t.crew.answers
+
+    -- and written so
+    pub told_text : state_text p ≡ state_text q
+    told_text =
+        ap (λ w. text_told w p.game.trees p.position.world (told_of p)) level.world
+        ∙ ap (λ ts. text_told q.game.world ts p.position.world (told_of p)) level.trees
+        ∙ ap (λ (w : Grid). text_told q.game.world q.game.trees w (told_of p)) same_ground
+        ∙ ap (text_told q.game.world q.game.trees q.position.world) told
+
 pub told_apart : (p q : Played) → IsState p → IsState q → AreOfOneLevel p.game q.game → state_text p ≡ state_text q → AreAlike p q
 told_apart p q is other level same =
-    let read : ℕ → ℕ → ℕ → List Plain → List ℕ → Result StateTold LoadFault = λ digest width height trees text. state_at digest width height (map size trees) text in
-    let ground : emptied p.position.world ≡ emptied q.position.world = sym is.ground ∙ ap (λ w. emptied w) level.world ∙ other.ground in
-    let digests : level_digest_of p.game ≡ level_digest_of q.game =
-    ap (λ w. digest_of_parts w p.game.trees) level.world ∙ ap (λ ts. digest_of_parts q.game.world ts) level.trees in
-    let w : Grid = p.position.world in
-    let v : Grid = q.position.world in
-    let alike : read (level_digest_of p.game) w.width w.height p.game.trees (state_text p) ≡ read (level_digest_of q.game) v.width v.height q.game.trees (state_text q) =
-    ap (λ d. read d w.width w.height p.game.trees (state_text p)) digests
-    ∙ ap (λ (g : Grid). read (level_digest_of q.game) g.width g.height p.game.trees (state_text p)) ground
-    ∙ ap (λ ts. read (level_digest_of q.game) v.width v.height ts (state_text p)) level.trees
-    ∙ ap (read (level_digest_of q.game) v.width v.height q.game.trees) same in
-    let told : told_of p is ≡ told_of q other = read_as (told_of p is) (told_of q other) _ (state_again p is) (alike ∙ state_again q other) in
-    let world : w ≡ v =
-    ap (λ (g : Grid). furnished g w.items w.agents) ground
-    ∙ ap (λ (t : StateTold). furnished v t.items t.crew.agents) told in
-    record {
-      state = all_same p q (ap (λ (t : StateTold). t.head.frame) told) (ap (λ (t : StateTold). t.head.next) told) world level.trees (ap (λ (t : StateTold). t.crew.memories) told);
-      shown = ap (λ (t : StateTold). t.head.shown) told;
-      answers = ap (λ (t : StateTold). t.crew.answers) told;
-    }
+    let back : AreOfOneLevel q.game p.game = record { world = sym level.world; trees = sym level.trees } in
+    told_alike p q is other level
+    (read_as (told_of p) (told_of q) (read_by q.game (state_text p)) (read_again q.game p is back) (ap (read_by q.game) same ∙ read_again q.game q other (record { world = refl; trees = refl })))

@@ -1,5 +1,5 @@
 -- What a text of a state tells, read from left to right, with the first fault that is met.
-use Rattle.std.specs.Prelude.{ℕ, zero, suc, ◌≡◌, ◌+◌, ◌-◌, ◌*◌, ◌^◌, ◌==◌, ◌&&◌, nat_eq, nat_lt, nat_le, Bool, true, false, if◌then◌else◌, List, [], ◌∷◌, ◌++◌, length, take, drop, replicate, slice_set, codes, Option, Some, None, option_to_list, Result, Ok, Err}
+use Rattle.std.specs.Prelude.{ℕ, zero, suc, ◌≡◌, ◌≢◌, ◌+◌, ◌-◌, ◌*◌, ◌^◌, ◌==◌, ◌&&◌, nat_eq, nat_lt, nat_le, Bool, true, false, if◌then◌else◌, List, [], ◌∷◌, ◌++◌, length, take, drop, replicate, slice_set, codes, Option, Some, None, option_to_list, Result, Ok, Err}
 use Rattle.std.specs.Char.{is_ascii_digit, is_ascii_hexdigit}
 use Rattle.std.specs.Cmp.Lexicographic.{pointwise}
 use Rattle.std.specs.List.{list_all}
@@ -8,8 +8,12 @@ use Rattle.grid_world.specs.declared.cell.Agent.{Agent}
 use Rattle.grid_world.specs.Ground.{no_signals}
 use Rattle.bt_nodes.specs.declared.node.Status.{Status}
 use Rattle.bt_nodes.specs.declared.node.Status.TheVariants.{Success, Failure, Running}
+use Rattle.game_rules.specs.Game.{Game, signals}
 use Rattle.stepping.specs.declared.load_fault.LoadFault.{LoadFault}
 use Rattle.stepping.specs.declared.load_fault.LoadFault.TheVariants.{OutOfMemory, Text, Level, World}
+use Rattle.stepping.specs.declared.state_lines.Told.{Told}
+use Rattle.stepping.specs.Played.{Played, next_signals}
+use Rattle.stepping.specs.StateText.{AreOfOneLevel, IsState}
 
 infixl 10 ◌>>=◌
 abbrev pub ◌>>=◌ : {A B : Type 0} → Result A LoadFault → (A → Result B LoadFault) → Result B LoadFault
@@ -188,3 +192,24 @@ state_at digest width height sizes bytes = do
   crew ← crew_from no_crew sizes head.1
   items ← items_from width height (width * height) (replicate (width * height) false) crew.1
   Ok (record { head = head.0; crew = crew.0; items = items })
+
+-- ---- what is told of a game
+
+abbrev pub told_of : Played → StateTold
+told_of p = record {
+  head = record { frame = p.frame; shown = signals p.game.changes p.frame; next = next_signals p };
+  crew = record { agents = p.position.world.agents; answers = p.answers; memories = p.position.memories };
+  items = p.position.world.items;
+}
+
+-- as it is read
+abbrev pub told_in : Told → StateTold
+told_in t = record {
+  head = record { frame = t.head.frame; shown = t.head.shown; next = t.head.next };
+  crew = record { agents = t.crew.agents.items; answers = t.crew.answers.items; memories = t.crew.memories.items };
+  items = t.items.items;
+}
+
+-- of no state of a game's level
+abbrev pub IsOfNone : Game → StateTold → Type 0
+IsOfNone g told = (p : Played) → IsState p → AreOfOneLevel g p.game → told ≢ told_of p

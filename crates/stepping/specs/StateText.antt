@@ -1,5 +1,5 @@
 -- The text of a state: what two machines write of a frame, to see what differs.
-use Rattle.std.specs.Prelude.{ℕ, zero, suc, ◌≡◌, ◌<◌, ◌+◌, ◌^◌, All, Bool, if◌then◌else◌, List, [], ◌∷◌, ◌++◌, length, Option, Some, None, slice_get, slice_index_or, codes, decimal}
+use Rattle.std.specs.Prelude.{ℕ, zero, suc, ◌≡◌, ◌≢◌, ◌<◌, ◌+◌, ◌^◌, All, Bool, if◌then◌else◌, List, [], ◌∷◌, ◌++◌, length, Option, Some, None, slice_get, slice_index_or, codes, decimal}
 use Rattle.std.specs.List.{flat_map}
 use Rattle.byte_streams.specs.Hex.{hex}
 use Rattle.grid_world.specs.Grid.{Grid, agent_of, has_item}
@@ -85,7 +85,7 @@ scripted_state_text g f = state_text_at g f (handed_in g.changes f) (handed_in g
 -- ---- told apart
 
 -- what each game of a level keeps: the level's ground, an agent for each tree, a memory that fits it, and an answer of each but
--- before the first frame
+-- before the first frame; behind the last frame that is counted no signal changes
 pub record IsState (p : Played) : Type 0 where
   pub frame : p.frame < 2 ^ 32
   pub ground : emptied p.game.world ≡ emptied p.position.world
@@ -96,6 +96,7 @@ pub record IsState (p : Played) : Type 0 where
   pub answered : 0 < p.frame → length p.answers ≡ length p.game.trees
   pub asked : 0 < length p.answers → 0 < p.frame
   pub first : p.frame ≡ 0 → signals p.game.changes p.frame ≡ signals [] 0
+  pub last : p.frame + 1 ≡ 2 ^ 32 → next_signals p ≡ signals p.game.changes p.frame
 
 -- but for the names in it
 pub record AreOfOneLevel (g h : Game) : Type 0 where
@@ -107,3 +108,7 @@ pub record AreAlike (p q : Played) : Type 0 where
   pub state : state_of p ≡ state_of q
   pub shown : signals p.game.changes p.frame ≡ signals q.game.changes q.frame
   pub answers : p.answers ≡ q.answers
+
+-- no state of a game's level has this text
+abbrev pub IsNoText : Game → List ℕ → Type 0
+IsNoText g text = (p : Played) → IsState p → AreOfOneLevel g p.game → state_text p ≢ text

@@ -3,7 +3,7 @@ ghost use Rattle.std.specs.Prelude.{◌≡◌, ◌<◌, ◌*◌, ◌++◌, [], f
 ghost use Rattle.bt_nodes.specs.Sizes.{size};
 ghost use Rattle.game_session.specs.Faults.{world_of};
 ghost use Rattle.game_session.specs.Levels.{value_of, agent_trees};
-ghost use Rattle.stepping.specs.StateReading.{Gives, told_at, answer_at, load_at, small_at, memory_from, line_at, no_crew, crew_from, item_at, items_from, state_at};
+ghost use Rattle.stepping.specs.StateReading.{Gives, told_at, answer_at, load_at, small_at, memory_from, line_at, no_crew, crew_from, item_at, items_from, state_at, told_in};
 
 use crate::load_fault::LoadFault;
 use crate::state_words::{Head, behind, number, point, read_head};
@@ -207,11 +207,7 @@ pub(crate) fn read_state(
     digest: u64,
     text: &[u8],
 ) -> Result<Told, LoadFault>
-    ensures { Gives (λ told. record {
-      head = record { frame = told.head.frame; shown = told.head.shown; next = told.head.next };
-      crew = record { agents = told.crew.agents.items; answers = told.crew.answers.items; memories = told.crew.memories.items };
-      items = told.items.items;
-    }) result
+    ensures { Gives told_in result
         (state_at digest (world_of (value_of level.now)).width (world_of (value_of level.now)).height (map size (agent_trees (value_of level.now))) text.now) }
 {
     let (head, rest) = match read_head(alloc, text, digest) {

@@ -1,11 +1,14 @@
 // A game in the state that a text tells.
-ghost use Rattle.std.specs.Prelude.{◌≡◌, ◌+◌, true, IfOk, OnOk};
+ghost use Rattle.std.specs.Prelude.{◌≡◌, ◌≢◌, ◌+◌, ◌^◌, [], true, false, IfErr, IfOk, OnOk};
+ghost use Rattle.grid_world.specs.Ground.{no_signals};
 ghost use Rattle.game_rules.specs.Game.{signals};
 ghost use Rattle.game_session.specs.Levels.{value_of, agent_trees};
 ghost use Rattle.game_session.specs.Sessions.{game_of};
 ghost use Rattle.frame_parts.specs.Memories.{AllFit};
-ghost use Rattle.stepping.specs.Played.{Played, IsAt, IsTurnedBy};
-ghost use Rattle.stepping.specs.StateText.{AreAlike, AreOfOneLevel, IsState, state_text};
+ghost use Rattle.stepping.specs.Played.{Played, IsTurnedBy};
+ghost use Rattle.stepping.specs.StateReading.{IsOfNone, told_in, told_of};
+ghost use Rattle.stepping.specs.StateText.{AreAlike, AreOfOneLevel, IsNoText, IsState, state_text};
+ghost use Rattle.stepping.specs.declared.load_fault.LoadFault.TheVariants.{OutOfMemory};
 
 use super::Stepping;
 use crate::digest_of_level::level_digest;
@@ -14,24 +17,25 @@ use crate::same::are_same_signals;
 use crate::state_lines::{Crew, Told, read_state};
 use crate::state_words::Head;
 use crate::turns::turn_all;
-use bt_nodes::Status;
 use bt_tick::Memory;
 use frame_parts::Known;
 use game_rules::Change;
 use game_session::{Level, Script};
-use grid_world::{Signals, World};
-use std::alloc::{AllocError, Global};
+use grid_world::Signals;
+use std::alloc::Global;
 use std::sync::Arc;
 
 fn are_same_bytes(bytes: &[u8], others: &[u8]) -> bool
-    ensures { result ≡ true → bytes.now ≡ others.now }
+    ensures same { result ≡ true → bytes.now ≡ others.now }
+    ensures differs { result ≡ false → bytes.now ≢ others.now }
 {
     bytes == others
 }
 
 // Whether each agent's memory fits its tree.
 fn all_fit(level: &Level, memories: &[Memory]) -> bool
-    ensures { result ≡ true → AllFit (agent_trees (value_of level.now)) memories.now }
+    ensures fit { result ≡ true → AllFit (agent_trees (value_of level.now)) memories.now }
+    ensures other { result ≡ false → AllFit (agent_trees (value_of level.now)) memories.now → ⊥ }
 {
     let count = level.world().agents().len();
     if memories.len() != count {
@@ -48,7 +52,9 @@ fn all_fit(level: &Level, memories: &[Memory]) -> bool
 // The changes by which a frame has these signals.
 #[tactic(auto, using(crate::proofs::Playing::none_turned))]
 fn changes_to(alloc: Global, frame: u32, shown: Signals) -> Result<Vec<Change>, LoadFault>
-    ensures { IfOk result (λ changes. IsTurnedBy frame changes.items shown) }
+    ensures turned { IfOk result (λ changes. IsTurnedBy frame changes.items shown) }
+    ensures first { IfErr result (λ e. e ≢ OutOfMemory → frame ≡ 0) }
+    ensures refused { IfErr result (λ e. e ≢ OutOfMemory → shown ≢ no_signals) }
 {
     let mut changes = Vec::new(alloc);
     let mut now = Signals::off();
@@ -72,6 +78,9 @@ fn turn_next(
     requires { IsTurnedBy frame changes.old.items shown }
     ensures shown { OnOk result (shown ≡ signals changes.new.items frame) }
     ensures next { OnOk result (IsTurnedBy (frame + 1) changes.new.items next) }
+    ensures still { OnOk result (frame + 1 ≡ 2 ^ 32 → next ≡ shown) }
+    ensures last { IfErr result (λ e. e ≢ OutOfMemory → frame + 1 ≡ 2 ^ 32) }
+    ensures refused { IfErr result (λ e. e ≢ OutOfMemory → shown ≢ next) }
 {
     let Some(following) = frame.checked_add(1) else {
         if are_same_signals(shown, next) {
@@ -84,19 +93,12 @@ fn turn_next(
     Ok(())
 }
 
-// What is kept of a game after a frame.
-struct Kept {
-    changes: Vec<Change>,
-    frame: u32,
-    world: World,
-    memories: Vec<Memory>,
-    statuses: Vec<Status>,
-    drawn: Signals,
-    signals: Signals,
-}
-
-fn placed(alloc: Global, level: &Level, told: Told) -> Result<Kept, LoadFault>
-    ensures { IfOk result (λ k. IsAt (game_of (value_of level.now) k.changes.items) k.frame k.world k.memories.items k.statuses.items k.drawn k.signals) }
+// The game of a level after the frame of which this is told.
+fn placed(alloc: Global, level: Level, script: Script, told: Told) -> Result<Stepping, LoadFault>
+    ensures level { IfOk result (λ s. s.game ≡ game_of (value_of level) s.game.changes) }
+    ensures script { IfOk result (λ s. s.script ≡ script) }
+    ensures told { IfOk result (λ s. told_of s ≡ told_in told) }
+    ensures refused { IfErr result (λ e. e ≢ OutOfMemory → IsOfNone (game_of (value_of level) []) (told_in told)) }
 {
     let Told { head, crew, items } = told;
     let Head { frame, shown, next } = head;
@@ -116,36 +118,11 @@ fn placed(alloc: Global, level: &Level, told: Told) -> Result<Kept, LoadFault>
     let Some(world) = level.world().furnished(alloc, items, agents)? else {
         return Err(LoadFault::World);
     };
-    if !all_fit(level, &memories) {
+    if !all_fit(&level, &memories) {
         return Err(LoadFault::World);
     }
     let mut changes = changes_to(alloc, frame, shown)?;
     turn_next(&mut changes, frame, shown, next)?;
-    Ok(Kept {
-        changes,
-        frame,
-        world,
-        memories,
-        statuses: answers,
-        drawn: shown,
-        signals: next,
-    })
-}
-
-fn of_kept(alloc: Global, level: Level, script: Script, kept: Kept) -> Result<Stepping, AllocError>
-    requires { IsAt (game_of (value_of level) kept.changes.items) kept.frame kept.world kept.memories.items kept.statuses.items kept.drawn kept.signals }
-    ensures level { IfOk result (λ s. s.game ≡ game_of (value_of level) s.game.changes) }
-    ensures script { IfOk result (λ s. s.script ≡ script) }
-{
-    let Kept {
-        changes,
-        frame,
-        world,
-        memories,
-        statuses,
-        drawn,
-        signals,
-    } = kept;
     let ground = Arc::new(alloc, level.world().copy(alloc)?)?;
     Ok(Stepping {
         level: Arc::new(alloc, level)?,
@@ -154,10 +131,11 @@ fn of_kept(alloc: Global, level: Level, script: Script, kept: Kept) -> Result<St
         frame,
         world,
         memories,
-        statuses,
-        drawn,
-        signals,
-        known: Known::none(alloc, ground, Signals::off())?,
+        statuses: answers,
+        drawn: shown,
+        signals: next,
+        known: Known::none(alloc, ground, shown)?,
+        known_under: shown,
     })
 }
 
@@ -165,7 +143,8 @@ impl Stepping {
     /// The game of a level in the state whose text this is, as `state_text` writes it, with a script beside it. It goes on as a
     /// game that was in this state does, whether play leads there or not. Level: the text is of another level. World: it tells
     /// agents or items in walls or off the map, two agents on one cell, or a memory that doesn't fit its tree. Text: it is no
-    /// state's text in any other way, in any byte. It takes time linear in the number of cells and nodes.
+    /// state's text in any other way, in any byte. So each state's text of the level is loaded, where memory is not refused. It
+    /// takes time linear in the number of cells and nodes.
     pub fn load(
         alloc: Global,
         level: Level,
@@ -176,10 +155,10 @@ impl Stepping {
         ensures state { IfOk result (λ s. (p : Played) → IsState p → AreOfOneLevel s.game p.game → state_text p ≡ text.now → AreAlike s p) }
         ensures level { IfOk result (λ s. s.game ≡ game_of (value_of level) s.game.changes) }
         ensures script { IfOk result (λ s. s.script ≡ script) }
+        ensures complete { IfErr result (λ e. e ≢ OutOfMemory → IsNoText (game_of (value_of level) []) text.now) }
     {
         let told = read_state(alloc, &level, level_digest(&level), text)?;
-        let kept = placed(alloc, &level, told)?;
-        let game = of_kept(alloc, level, script, kept)?;
+        let game = placed(alloc, level, script, told)?;
         let own = game.state_text(alloc)?;
         if !are_same_bytes(&own, text) {
             return Err(LoadFault::Text);

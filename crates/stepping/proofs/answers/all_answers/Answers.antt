@@ -44,7 +44,5 @@ asked-preserved c =
 
 pub unreachable-requires : goal.unreachable-requires
 unreachable-requires c =
-    let v = view_of c.args.view.now in
-    let h = c.asked-test.false in
-    let e = c.size-asked-end.ensures.value in
-    no_more v (plain_of c.args.tree.now) c.args.memory.now c.asked._asked c.asked.outcome c.asked.invariant.thinks (omega (arith, h, e))
+    no_more (view_of c.args.view.now) (plain_of c.args.tree.now) c.args.memory.now c.asked._asked c.asked.outcome c.asked.invariant.thinks
+    (omega (arith, c.asked-test.false, c.size-asked-end.ensures.value))

@@ -1,14 +1,10 @@
-use Rattle.std.proofs.Common.{◌≡◌, ◌<◌, ◌∙◌, ◌++◌, ℕ, List, length, get_or, sym, subst, codes, decimal}
-use Rattle.std.proofs.lemmas.Option.{get_or_from_slice_get}
+use Rattle.std.proofs.Common.{◌∙◌, ◌++◌, sym, codes, decimal}
 use Rattle.stepping.specs.StateText.{memory_text}
 use Rattle.stepping.proofs.Texts.{written_more}
+use Rattle.stepping.proofs.Memories.{number_at}
 use Rattle.stepping.proofs.state_text.push_memory.Goals as goal
 
 pub nodes-preserved : goal.nodes-preserved
 nodes-preserved c =
-    let m : List ℕ = c.args.memory.now in
-    let i : ℕ = c.nodes.node in
-    let x : ℕ = c.in-Some.number in
-    let lt : i < length m = subst (λ (n : ℕ). i < n) (sym c.requires) c.nodes-test.true in
-    let is : get_or m i x ≡ x = get_or_from_slice_get m i x x (sym c.at.ensures ∙ c.in-Some.is) in
-    written_more (λ n. codes " " ++ decimal n) m i c.nodes.text.items c.push_number.new.text.items (c.args.text.now.items ++ memory_text m) x x lt is c.in_ok-push_number.ensures c.nodes.invariant
+    let at = number_at c.args.memory.now _ c.nodes.node c.in-Some.number c.requires c.nodes-test.true (sym c.at.ensures ∙ c.in-Some.is) in
+    written_more (λ n. codes " " ++ decimal n) c.args.memory.now c.nodes.node c.nodes.text.items c.push_number.new.text.items (c.args.text.now.items ++ memory_text c.args.memory.now) c.in-Some.number _ at.0 at.1 c.in_ok-push_number.ensures c.nodes.invariant

@@ -1,4 +1,4 @@
-use Rattle.std.proofs.Common.{◌≡◌, ◌<◌, ◌^◌, ap, arith}
+use Rattle.std.proofs.Common.{◌≡◌, ap, arith}
 use Rattle.std.specs.Arc.{arc_value}
 use Rattle.stepping.specs.Played.{Played}
 use Rattle.stepping.proofs.States.{kept_state}
