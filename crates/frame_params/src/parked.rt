@@ -11,24 +11,13 @@ use std::marker::Model;
 use std::sync::Arc;
 
 // An agent's tick in a frame that stands at one of its path questions, as it was cut there.
+#[derive(Drop)]
 pub(crate) struct ParkedTick<'t> {
     pub(crate) session: &'t Session,
     pub(crate) frame: u32,
     pub(crate) agent: u32,
     pub(crate) question: u32,
     pub(crate) pending: Pending<'t, Global, Global>,
-}
-
-impl<'t> Drop for ParkedTick<'t> {
-    fn drop(self) {
-        let Self {
-            session: _,
-            frame: _,
-            agent: _,
-            question: _,
-            pending: _,
-        } = self;
-    }
 }
 
 impl<'t> Model for ParkedTick<'t> {

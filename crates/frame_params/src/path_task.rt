@@ -11,6 +11,7 @@ use std::marker::Model;
 use std::sync::Arc;
 
 /// A path question of an agent in a frame that is to be answered.
+#[derive(Drop)]
 pub struct PathTask<'t> {
     start: Arc<FrameStart<'t>>,
     agent: u32,
@@ -18,18 +19,6 @@ pub struct PathTask<'t> {
     place: Place,
     // The distances to the place, where a search of the frame found them.
     found: Option<KeptDistances>,
-}
-
-impl<'t> Drop for PathTask<'t> {
-    fn drop(self) {
-        let Self {
-            start: _,
-            agent: _,
-            question: _,
-            place: _,
-            found: _,
-        } = self;
-    }
 }
 
 impl<'t> Model for PathTask<'t> {

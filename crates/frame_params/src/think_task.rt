@@ -13,20 +13,11 @@ use std::marker::Model;
 use std::sync::Arc;
 
 /// An agent's thought in a frame, at its start or with the answer to the question at which it stood.
+#[derive(Drop)]
 pub struct ThinkTask<'t> {
     start: Arc<FrameStart<'t>>,
     agent: u32,
     resume_point: ResumePoint<'t>,
-}
-
-impl<'t> Drop for ThinkTask<'t> {
-    fn drop(self) {
-        let Self {
-            start: _,
-            agent: _,
-            resume_point: _,
-        } = self;
-    }
 }
 
 impl<'t> Model for ThinkTask<'t> {

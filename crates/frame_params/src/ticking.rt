@@ -27,29 +27,7 @@ pub(crate) fn begun<'t, A: Allocator + Clone>(
     Ok(frame_parts::begun(alloc, scratch, tree, &view, start.memory_of(agent))?)
 }
 
-// Goes on with an agent's tick that stands, by the way to the place for which it asks.
-fn gone_on<'t, A: Allocator + Clone>(
-    scratch: A,
-    start: &FrameStart<'t>,
-    agent: u32,
-    pending: Pending<'t, Global, A>,
-    answer: Answer,
-) -> Result<Outcome<'t, Global, A>, AllocError>
-    requires { agent < length start.now.game.trees }
-    ensures { IfOk result (λ o. (i : ℕ)
-        → StandsAt start.now.game start.now.frame agent i pending.entry
-        → IsWayOf start.now.game start.now.frame agent i answer
-        → ThinksTo start.now.game start.now.frame agent (i + 1) o) }
-{
-    let view = View {
-        world: start.world(),
-        signals: start.signals(),
-        agent,
-    };
-    Ok(frame_parts::gone_on(scratch, &view, pending, answer)?)
-}
-
-// Goes on with a copy in `scratch` of such a tick.
+// Goes on with a copy in `scratch` of an agent's tick that stands, by the way to the place for which it asks.
 pub(crate) fn copy_gone_on<'t, A: Allocator + Clone, B: Allocator + Clone>(
     scratch: A,
     start: &FrameStart<'t>,
@@ -63,6 +41,11 @@ pub(crate) fn copy_gone_on<'t, A: Allocator + Clone, B: Allocator + Clone>(
         → IsWayOf start.now.game start.now.frame agent i answer
         → ThinksTo start.now.game start.now.frame agent (i + 1) o) }
 {
+    let view = View {
+        world: start.world(),
+        signals: start.signals(),
+        agent,
+    };
     let copy = pending.copy_in(scratch.clone()?)?;
-    Ok(gone_on(scratch, start, agent, copy, answer)?)
+    Ok(frame_parts::gone_on(scratch, &view, copy, answer)?)
 }

@@ -39,18 +39,4 @@ impl<'t> BandMark<'t> {
             band: self.number,
         }
     }
-
-    /// The frame whose band it is.
-    pub fn frame(&self) -> u32
-        ensures { result ≡ self.now.frame }
-    {
-        self.frame
-    }
-
-    /// Which of the frame's bands it is, from the top, counted from 0.
-    pub fn number(&self) -> u32
-        ensures { result ≡ self.now.number }
-    {
-        self.number
-    }
 }

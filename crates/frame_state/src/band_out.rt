@@ -4,24 +4,14 @@ ghost use Rattle.frame_state.specs.Contents.{band_in};
 use crate::band_mark::BandMark;
 use draw_list::Band;
 use game_session::Session;
-use job_core::names::JobName;
 use std::marker::Model;
 
 /// A band of a frame, drawn.
+#[derive(Drop)]
 pub struct BandOut<'t> {
     pub(crate) session: &'t Session,
     pub(crate) frame: u32,
     pub(crate) band: Band,
-}
-
-impl<'t> Drop for BandOut<'t> {
-    fn drop(self) {
-        let Self {
-            session: _,
-            frame: _,
-            band: _,
-        } = self;
-    }
 }
 
 impl<'t> Model for BandOut<'t> {
@@ -39,23 +29,6 @@ impl<'t> Model for BandOut<'t> {
 }
 
 impl<'t> BandOut<'t> {
-    /// The session itself, as it was lent.
-    pub fn session(&self) -> &'t Session
-        ensures { result.now ≡ self.now.game }
-    {
-        self.session
-    }
-
-    /// The job whose work it is.
-    pub fn name(&self) -> JobName
-        ensures { result ≡ JobName.Draw self.now.frame self.now.number }
-    {
-        JobName::Draw {
-            frame: self.frame,
-            band: self.band.number,
-        }
-    }
-
     /// The frame whose band it is.
     pub fn frame(&self) -> u32
         ensures { result ≡ self.now.frame }

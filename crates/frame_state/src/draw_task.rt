@@ -12,22 +12,12 @@ use std::marker::Model;
 use std::sync::Arc;
 
 /// A band of a turned frame that is to be drawn.
+#[derive(Drop)]
 pub struct DrawTask<'t> {
     session: &'t Session,
     frame: u32,
     band: u32,
     world: Arc<World>,
-}
-
-impl<'t> Drop for DrawTask<'t> {
-    fn drop(self) {
-        let Self {
-            session: _,
-            frame: _,
-            band: _,
-            world: _,
-        } = self;
-    }
 }
 
 impl<'t> Model for DrawTask<'t> {

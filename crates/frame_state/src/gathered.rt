@@ -17,6 +17,7 @@ use std::marker::Model;
 use std::sync::Arc;
 
 // What a turn is made of: what its frame starts from, and what all agents came to there, by agent number.
+#[derive(Drop)]
 pub(crate) struct Gathered<'t> {
     start: Arc<FrameStart<'t>>,
     intents: Vec<Intent>,
@@ -24,18 +25,6 @@ pub(crate) struct Gathered<'t> {
     memories: Arc<Vec<KeptMemory>>,
     // The distances that were found in the frame.
     found: Vec<KeptDistances>,
-}
-
-impl<'t> Drop for Gathered<'t> {
-    fn drop(self) {
-        let Self {
-            start: _,
-            intents: _,
-            statuses: _,
-            memories: _,
-            found: _,
-        } = self;
-    }
 }
 
 impl<'t> Model for Gathered<'t> {

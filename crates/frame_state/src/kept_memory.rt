@@ -6,14 +6,9 @@ use std::marker::Model;
 use std::sync::Arc;
 
 /// An agent's memory after a frame. The thought that left it, the turn and the parameters of the next frame share it.
+#[derive(Drop)]
 pub struct KeptMemory {
     memory: Arc<Memory>,
-}
-
-impl Drop for KeptMemory {
-    fn drop(self) {
-        let Self { memory: _ } = self;
-    }
 }
 
 impl Model for KeptMemory {

@@ -19,18 +19,10 @@ use std::marker::Model;
 use std::sync::Arc;
 
 // What a frame starts from, and what is gathered in it.
+#[derive(Drop)]
 struct Spread<'t> {
     start: Arc<FrameStart<'t>>,
     gathering: Box<Gathering<'t>>,
-}
-
-impl<'t> Drop for Spread<'t> {
-    fn drop(self) {
-        let Self {
-            start: _,
-            gathering: _,
-        } = self;
-    }
 }
 
 impl<'t> Model for Spread<'t> {
@@ -66,20 +58,11 @@ impl<'t> Spread<'t> {
 }
 
 /// A frame's logic, at its start or with the thoughts of all agents.
+#[derive(Drop)]
 pub struct LogicTask<'t> {
     session: &'t Session,
     frame: u32,
     spread: Option<Spread<'t>>,
-}
-
-impl<'t> Drop for LogicTask<'t> {
-    fn drop(self) {
-        let Self {
-            session: _,
-            frame: _,
-            spread: _,
-        } = self;
-    }
 }
 
 impl<'t> Model for LogicTask<'t> {

@@ -17,16 +17,11 @@ use std::sync::Arc;
 const PLACES: usize = 10;
 
 // What a frame starts from, and the distances that were found since under its signals.
+#[derive(Drop)]
 struct Params<'t> {
     start: Arc<FrameStart<'t>>,
     // To a place once at most; there is room for those to all places.
     found: Vec<KeptDistances>,
-}
-
-impl<'t> Drop for Params<'t> {
-    fn drop(self) {
-        let Self { start: _, found: _ } = self;
-    }
 }
 
 impl<'t> Model for Params<'t> {

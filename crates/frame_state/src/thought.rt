@@ -13,6 +13,7 @@ use std::alloc::AllocError;
 use std::marker::Model;
 
 /// What an agent thought in a frame: its tick's answer, its memory after it, and what it wants to do.
+#[derive(Drop)]
 pub struct Thought<'t> {
     session: &'t Session,
     frame: u32,
@@ -21,20 +22,6 @@ pub struct Thought<'t> {
     status: Status,
     memory: KeptMemory,
     intent: Intent,
-}
-
-impl<'t> Drop for Thought<'t> {
-    fn drop(self) {
-        let Self {
-            session: _,
-            frame: _,
-            agent: _,
-            questions: _,
-            status: _,
-            memory: _,
-            intent: _,
-        } = self;
-    }
 }
 
 impl<'t> Model for Thought<'t> {

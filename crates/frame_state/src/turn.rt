@@ -14,6 +14,7 @@ use std::marker::Model;
 use std::sync::Arc;
 
 // What came of a frame: the world and the memories after it, and the answers of the agents' ticks.
+#[derive(Drop)]
 pub(crate) struct Turned<'t> {
     pub(crate) session: &'t Session,
     pub(crate) frame: u32,
@@ -25,20 +26,6 @@ pub(crate) struct Turned<'t> {
     pub(crate) known: Known,
     // Made with the turn, so that whoever keeps the turn makes nothing.
     pub(crate) next: Option<NextFrame<'t>>,
-}
-
-impl<'t> Drop for Turned<'t> {
-    fn drop(self) {
-        let Self {
-            session: _,
-            frame: _,
-            world: _,
-            memories: _,
-            statuses: _,
-            known: _,
-            next: _,
-        } = self;
-    }
 }
 
 impl<'t> Model for Turned<'t> {

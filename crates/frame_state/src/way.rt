@@ -10,6 +10,7 @@ use job_core::names::JobName;
 use std::marker::Model;
 
 /// The answer to a path question of an agent in a frame.
+#[derive(Drop)]
 pub struct Way<'t> {
     session: &'t Session,
     pub(crate) frame: u32,
@@ -18,19 +19,6 @@ pub struct Way<'t> {
     answer: Answer,
     // The distances that its search found; they are under the signals of the frame.
     found: Option<KeptDistances>,
-}
-
-impl<'t> Drop for Way<'t> {
-    fn drop(self) {
-        let Self {
-            session: _,
-            frame: _,
-            agent: _,
-            question: _,
-            answer: _,
-            found: _,
-        } = self;
-    }
 }
 
 impl<'t> Model for Way<'t> {

@@ -87,20 +87,9 @@ before : (p : Event → Bool) (e : Event) (es : List Event) → count_by p (e �
 before p e es = grind (arith, common_steps)
 
 emitted-after : (s : Setup) (st : State) (e : Event) → (after s st e).emitted ≡ count_by is_emit (e ∷ []) + st.emitted
-emitted-after s st (Start w j) = omega arith
-emitted-after s st (Resume w j) = omega arith
 emitted-after s st (Ask w (Logic f)) = omega arith
-emitted-after s st (Ask w (Think f a)) = omega arith
-emitted-after s st (Ask w (Path f a i)) = omega arith
-emitted-after s st (Ask w (Draw f b)) = omega arith
 emitted-after s st (Spread w (Logic f)) = omega arith
-emitted-after s st (Spread w (Think f a)) = omega arith
-emitted-after s st (Spread w (Path f a i)) = omega arith
-emitted-after s st (Spread w (Draw f b)) = omega arith
-emitted-after s st (Hold w j) = omega arith
-emitted-after s st (Finish w j) = omega arith
-emitted-after s st (Emit f) = omega arith
-emitted-after s st Stop = omega arith
+emitted-after s st e = omega arith
 
 emitted-after_all : (s : Setup) (es : List Event) (st : State) → (after_all s st es).emitted ≡ count_by is_emit es + st.emitted
 emitted-after_all s [] st = omega arith

@@ -6,14 +6,9 @@ use Rattle.frame_params.specs.declared.board_step.BoardStep.{BoardStep}
 use Rattle.frame_params.specs.declared.board_step.BoardStep.TheVariants.{Draw}
 
 abbrev pub names_worker : Event → Bool
-names_worker (Start w j) = true
-names_worker (Resume w j) = true
-names_worker (Ask w j) = true
-names_worker (Spread w j) = true
-names_worker (Hold w j) = true
-names_worker (Finish w j) = true
 names_worker (Emit f) = false
 names_worker Stop = false
+names_worker event = true
 
 abbrev pub is_emit : Event → Bool
 is_emit (Emit f) = true

@@ -20,20 +20,11 @@ const LOOKS: u32 = 2_000;
 /// do calls afterwards.
 ///
 /// A call is one word, which the kernel compares before it lets a thread sleep.
+#[derive(Drop)]
 pub struct Parking {
     call: CachePadded<AtomicU64>,
     waiting: CachePadded<AtomicU64>,
     asleep: CachePadded<AtomicU64>,
-}
-
-impl Drop for Parking {
-    fn drop(self) {
-        let Self {
-            call: _,
-            waiting: _,
-            asleep: _,
-        } = self;
-    }
 }
 
 impl Parking {

@@ -26,8 +26,7 @@ pub returns-in-Some-clause-err : goal.returns-in-Some-clause-err
 returns-in-Some-clause-err c =
     let parts : Parts = parts_view c.args.draft in
     let at = counted parts _ _ c.in_ok-world.world _ (ap texts_view c.deref.ensures.value) c.in_ok-world.ensures.ok (ap texts_view c.deref-2.ensures.value) c.is_counted.ensures c.if-not-is_counted.false in
-    let agents : agent_fault 0 parts.names parts.trees ≡ None =
-    sym (agent_fault-same parts _ _ (ap texts_view c.deref-3.ensures.value) (ap trees_view c.deref-4.ensures.value ∙ c.in_ok-trees.ensures.ok.1)) ∙ c.in_ok-picks.ensures.ok.0 in
+    let agents = sym (agent_fault-same parts _ _ (ap texts_view c.deref-3.ensures.value) (ap trees_view c.deref-4.ensures.value ∙ c.in_ok-trees.ensures.ok.1)) ∙ c.in_ok-picks.ensures.ok.0 in
     let r : NamedTree = c.remove.result in
     let places : place_fault (world_of parts) parts.trees ≡ Some (no_place (string_bytes r.name)) =
     sym (place_fault-same parts _ _ at.world (ap trees_view c.deref-5.ensures.value ∙ c.in_ok-trees.ensures.ok.1)) ∙ c.in-Some.ensures.some.1 r
@@ -38,11 +37,9 @@ pub returns-in-Some-first_uncrewed-clause-err : goal.returns-in-Some-first_uncre
 returns-in-Some-first_uncrewed-clause-err c =
     let parts : Parts = parts_view c.args.draft in
     let at = counted parts _ _ c.in_ok-world.world _ (ap texts_view c.deref.ensures.value) c.in_ok-world.ensures.ok (ap texts_view c.deref-2.ensures.value) c.is_counted.ensures c.if-not-is_counted.false in
-    let agents : agent_fault 0 parts.names parts.trees ≡ None =
-    sym (agent_fault-same parts _ _ (ap texts_view c.deref-3.ensures.value) (ap trees_view c.deref-4.ensures.value ∙ c.in_ok-trees.ensures.ok.1)) ∙ c.in_ok-picks.ensures.ok.0 in
+    let agents = sym (agent_fault-same parts _ _ (ap texts_view c.deref-3.ensures.value) (ap trees_view c.deref-4.ensures.value ∙ c.in_ok-trees.ensures.ok.1)) ∙ c.in_ok-picks.ensures.ok.0 in
     let same_trees : trees_view c.in_ok-trees.trees.items ≡ parts.trees = c.in_ok-trees.ensures.ok.1 in
-    let places : place_fault (world_of parts) parts.trees ≡ None =
-    sym (place_fault-same parts _ _ at.world (ap trees_view c.deref-5.ensures.value ∙ same_trees)) ∙ c.in_default.ensures.none in
+    let places = sym (place_fault-same parts _ _ at.world (ap trees_view c.deref-5.ensures.value ∙ same_trees)) ∙ c.in_default.ensures.none in
     let r : NamedTree = c.remove-in-Some-first_uncrewed.result in
     let crew : crew_fault (world_of parts) parts.trees ≡ Some (no_agent (string_bytes r.name)) =
     sym (crew_fault-same parts _ _ at.world (ap trees_view c.deref-6.ensures.value ∙ same_trees)) ∙ c.in-Some-first_uncrewed.ensures.some.1 r
@@ -53,11 +50,9 @@ pub new-requires-clause-faultless : goal.new-requires-clause-faultless
 new-requires-clause-faultless c =
     let parts : Parts = parts_view c.args.draft in
     let at = counted parts _ _ c.in_ok-world.world _ (ap texts_view c.deref.ensures.value) c.in_ok-world.ensures.ok (ap texts_view c.deref-2.ensures.value) c.is_counted.ensures c.if-not-is_counted.false in
-    let agents : agent_fault 0 parts.names parts.trees ≡ None =
-    sym (agent_fault-same parts _ _ (ap texts_view c.deref-3.ensures.value) (ap trees_view c.deref-4.ensures.value ∙ c.in_ok-trees.ensures.ok.1)) ∙ c.in_ok-picks.ensures.ok.0 in
+    let agents = sym (agent_fault-same parts _ _ (ap texts_view c.deref-3.ensures.value) (ap trees_view c.deref-4.ensures.value ∙ c.in_ok-trees.ensures.ok.1)) ∙ c.in_ok-picks.ensures.ok.0 in
     let same_trees : trees_view c.in_ok-trees.trees.items ≡ parts.trees = c.in_ok-trees.ensures.ok.1 in
-    let places : place_fault (world_of parts) parts.trees ≡ None =
-    sym (place_fault-same parts _ _ at.world (ap trees_view c.deref-5.ensures.value ∙ same_trees)) ∙ c.in_default.ensures.none in
+    let places = sym (place_fault-same parts _ _ at.world (ap trees_view c.deref-5.ensures.value ∙ same_trees)) ∙ c.in_default.ensures.none in
     let crew : crew_fault (world_of parts) parts.trees ≡ None =
     sym (crew_fault-same parts _ _ at.world (ap trees_view c.deref-6.ensures.value ∙ same_trees)) ∙ c.in_default-first_uncrewed.ensures.none in
     ap (λ ts. parts_fault (record { rows = parts.rows; names = parts.names; trees = ts })) same_trees
