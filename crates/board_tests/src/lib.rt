@@ -3,20 +3,4 @@
 #![tactic(auto)]
 
 #[cfg(test)]
-mod by_calls;
-#[cfg(test)]
-mod by_tasks;
-#[cfg(test)]
-mod frame_slots;
-#[cfg(test)]
-mod machines;
-#[cfg(test)]
-mod queues;
-#[cfg(test)]
-mod refusals;
-#[cfg(test)]
-mod sessions;
-#[cfg(test)]
-mod wait_lists;
-#[cfg(test)]
-mod walk;
+mod tests;

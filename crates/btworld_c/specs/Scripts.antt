@@ -1,5 +1,5 @@
 -- A script of what was handed in to a handle's game.
-use Rattle.std.specs.Prelude.{ℕ, ◌≡◌, ◌<◌, ◌≤◌, if◌then◌else◌, ◌+◌, ◌++◌, List, ◌∷◌, Any, Option, Some, None, Ok, codes, decimal}
+use Rattle.std.specs.Prelude.{ℕ, ◌≡◌, ◌<◌, ◌≤◌, if◌then◌else◌, ◌+◌, ◌++◌, List, ◌∷◌, Any, Option, IsSomeAnd, Ok, codes, decimal}
 use Rattle.std.specs.List.{flat_map}
 use Rattle.game_rules.specs.declared.change.Change.{Change}
 use Rattle.level_text.specs.Scripts.{script_of}
@@ -32,14 +32,11 @@ SpellsSoFar p text = script_of text ≡ Ok (changes_so_far p)
 
 -- such a text stands at the start of a buffer, which is kept behind it
 abbrev pub IsScript : Option Played → ℕ → (old new : List ℕ) → Type 0
-IsScript None size old new = ⊥
-IsScript (Some p) size old new = (text : List ℕ) × SpellsSoFar p text × IsFilled text size old new
+IsScript held size old new = IsSomeAnd held (λ p. (text : List ℕ) × SpellsSoFar p text × IsFilled text size old new)
 
 -- such a text is so long, and longer than a buffer
 abbrev pub IsScriptTooLong : Option Played → ℕ → List ℕ → Type 0
-IsScriptTooLong None size buffer = ⊥
-IsScriptTooLong (Some p) size buffer = (text : List ℕ) × SpellsSoFar p text × IsShort text size buffer
+IsScriptTooLong held size buffer = IsSomeAnd held (λ p. (text : List ℕ) × SpellsSoFar p text × IsShort text size buffer)
 
 abbrev pub IsTooLate : Option Played → Type 0
-IsTooLate None = ⊥
-IsTooLate (Some p) = HasLate (changes_so_far p)
+IsTooLate held = IsSomeAnd held (λ p. HasLate (changes_so_far p))

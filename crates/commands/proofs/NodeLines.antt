@@ -25,12 +25,10 @@ module _ (t : Tick) (n depth : ℕ) where
   lines-listed (Composite kind children) e = refl
   lines-listed (Star kind children) e = refl
   lines-listed (Par m children) e = refl
-  lines-listed (Not d) e = absurd (cc)
-  lines-listed (Tries k d) e = absurd (cc)
-  lines-listed (Ticks k d) e = absurd (cc)
   lines-listed (Wait k) e = sym (append-nil (node_line t (Wait k) n depth))
   lines-listed (Move q) e = sym (append-nil (node_line t (Move q) n depth))
   lines-listed (Does leaf) e = sym (append-nil (node_line t (Does leaf) n depth))
+  lines-listed _ e = absurd (cc)
 
   module _ (p : Plain) (text one all : List ℕ) (root : one ≡ text ++ node_line t p n depth) where
     pub decorated_told : (c : Plain) → Some c ≡ decorated p → all ≡ one ++ node_lines t c (n + 1) (depth + 1) → all ≡ text ++ node_lines t p n depth

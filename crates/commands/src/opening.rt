@@ -28,14 +28,8 @@ pub(crate) fn open(alloc: Global, level: &[u8], script: &[u8]) -> Result<Opened,
     ensures script { IfOk result (λ o. IsSomeAnd (spelled_game level.now script.now) (λ g. o.script_digest ≡ script_digest_of g.changes)) }
     ensures fault { IfErr result (IsSessionFault level.now script.now) }
 {
-    let level = match read_level(alloc, level) {
-        Ok(level) => level,
-        Err(fault) => return Err(Fault::from(fault)),
-    };
-    let script = match read_script(alloc, script) {
-        Ok(script) => script,
-        Err(fault) => return Err(Fault::from(fault)),
-    };
+    let level = read_level(alloc, level)?;
+    let script = read_script(alloc, script)?;
     let level_digest = level_digest(&level);
     let script_digest = script_digest(&script);
     match Stepping::open(alloc, level, script) {

@@ -22,7 +22,7 @@ use level_text::{head_of, mark_in};
 use std::alloc::{AllocError, Global};
 use std::io::Write;
 use std::rt::Files;
-use stepping::{AgentState, Stepping};
+use stepping::{AgentState, Stepping, push_status};
 use words::{Fault, put, read_file, read_optional_file};
 
 /// An agent's tick in the frame after the one of a game.
@@ -40,12 +40,10 @@ pub(crate) struct SeenTick<'g> {
 fn push_answer(text: &mut Vec<u8>, answer: Option<Status>) -> Result<(), AllocError>
     ensures { OnOk result (text.new.items ≡ text.old.items ++ answer_mark answer) }
 {
-    text.extend_from_slice(match answer {
-        None => b".",
-        Some(Status::Success) => b"S",
-        Some(Status::Failure) => b"F",
-        Some(Status::Running) => b"R",
-    })
+    match answer {
+        None => text.extend_from_slice(b"."),
+        Some(status) => push_status(text, status),
+    }
 }
 
 fn push_indent(text: &mut Vec<u8>, depth: u64) -> Result<(), AllocError>

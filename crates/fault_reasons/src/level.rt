@@ -1,6 +1,6 @@
 use crate::json_text::json_reason;
 use crate::limits::limit_flaw;
-use crate::map_flaws::{character_flaw, letters_flaw, marks_on, size_flaw};
+use crate::map_flaws::{character_flaw, letters_flaw, marks_on, rows_of, size_flaw};
 use crate::names::{agent_count_flaw, named_flaw, no_tree_flaw};
 use crate::place::place_of;
 use crate::pointer::Pointer;
@@ -22,9 +22,15 @@ fn flaw_in(
     match fault {
         LevelFault::OutOfMemory | LevelFault::Json => Ok(None),
         LevelFault::Shape => shape_flaw(alloc, level, at),
-        LevelFault::MapSize => size_flaw(alloc, level, at),
+        LevelFault::MapSize => {
+            at.member("map")?;
+            size_flaw(alloc, rows_of(level), at)
+        }
         LevelFault::MapChar { x, y } => character_flaw(alloc, level, *x, *y, at),
-        LevelFault::Letters => letters_flaw(alloc, level, at),
+        LevelFault::Letters => {
+            at.member("map")?;
+            letters_flaw(alloc, rows_of(level), at)
+        }
         LevelFault::AgentCount => agent_count_flaw(alloc, level, at),
         LevelFault::BadTree { name, fault } => limit_flaw(alloc, level, name, *fault, at),
         LevelFault::NoTree { agent } => no_tree_flaw(alloc, level, *agent, at),

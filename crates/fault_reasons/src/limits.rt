@@ -1,7 +1,7 @@
 // Limits of trees that are broken.
 use crate::forms::{Arguments, kind_of};
 use crate::pointer::Pointer;
-use crate::search::{Flaw, first_child, first_flaw};
+use crate::search::{Flaw, first_child, first_flaw, root_of};
 use bt_nodes::TreeFault;
 use serde_json::Value;
 use std::alloc::{AllocError, Global};
@@ -82,11 +82,9 @@ pub(crate) fn limit_flaw(
     fault: TreeFault,
     at: &mut Pointer,
 ) -> Result<Option<String>, AllocError> {
-    let Some(root) = level.get("trees").and_then(|trees| trees.get(name)) else {
+    let Some(root) = root_of(level, name, at)? else {
         return Ok(None);
     };
-    at.member("trees")?;
-    at.member(name)?;
     let flaw = match fault {
         TreeFault::TooManyNodes => {
             let nodes = nodes_of(root);

@@ -58,14 +58,12 @@ fn width_flaw(alloc: Global, width: usize, first: usize) -> Result<Option<String
     Ok(None)
 }
 
-/// What is wrong of the number of rows, or of the length of the first row that has a wrong one.
+/// What is wrong of the number of a map's rows, or of the length of the first row that has a wrong one.
 pub(crate) fn size_flaw(
     alloc: Global,
-    level: &Value,
+    rows: &[Value],
     at: &mut Pointer,
 ) -> Result<Option<String>, AllocError> {
-    at.member("map")?;
-    let rows = rows_of(level);
     let [first, ..] = rows else {
         return Ok(Some(String::from_str(alloc, "0 rows, at least 1")?));
     };
@@ -118,14 +116,12 @@ fn twice(alloc: Global, rows: &[Value]) -> Result<Option<(usize, char)>, AllocEr
     Ok(None)
 }
 
-/// What is wrong of the letters and digits.
+/// What is wrong of the letters and digits of a map's rows.
 pub(crate) fn letters_flaw(
     alloc: Global,
-    level: &Value,
+    rows: &[Value],
     at: &mut Pointer,
 ) -> Result<Option<String>, AllocError> {
-    at.member("map")?;
-    let rows = rows_of(level);
     if let Some((y, c)) = twice(alloc, rows)? {
         at.item(y)?;
         return Ok(Some(format!(in alloc; "{c} twice")?));

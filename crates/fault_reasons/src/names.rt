@@ -2,7 +2,7 @@
 use crate::forms::{Arguments, kind_of};
 use crate::map_flaws::marks_on;
 use crate::pointer::Pointer;
-use crate::search::{Flaw, first_flaw};
+use crate::search::{Flaw, first_flaw, root_of};
 use serde_json::Value;
 use std::alloc::{AllocError, Global};
 
@@ -49,28 +49,30 @@ pub(crate) fn no_tree_flaw(
     Ok(Some(words))
 }
 
-/// The one character of a node's argument, where its kind takes such a one and it isn't among some.
-fn strange_mark(node: &Value, takes: Arguments, marks: &[char]) -> Option<char> {
+/// The one character of a node's argument, where its kind takes such a one.
+fn mark_of(node: &Value, takes: Arguments) -> Option<char> {
     let (form, arguments) = kind_of(node)?;
     let [mark] = arguments else {
         return None;
     };
     let c = mark.as_str()?.chars().next()?;
-    if form.arguments == takes && !marks.contains(&c) {
+    if form.arguments == takes {
         Some(c)
     } else {
         None
     }
 }
 
-pub(crate) fn place_flaw(
-    alloc: Global,
-    node: &Value,
-    places: &[char],
-) -> Result<Option<String>, AllocError> {
-    if strange_mark(node, Arguments::Digit, places).is_none() {
-        return Ok(None);
+/// Whether a node's kind takes such a character, and its own isn't among these.
+pub(crate) fn names_other(node: &Value, takes: Arguments, marks: &[char]) -> bool {
+    match mark_of(node, takes) {
+        Some(mark) => !marks.contains(&mark),
+        None => false,
     }
+}
+
+/// Which places there are.
+pub(crate) fn places_text(alloc: Global, places: &[char]) -> Result<String, AllocError> {
     let mut words = String::from_str(alloc, "places:")?;
     for place in places {
         words.push(' ')?;
@@ -79,23 +81,16 @@ pub(crate) fn place_flaw(
     if places.is_empty() {
         words.push_str(" none")?;
     }
-    Ok(Some(words))
+    Ok(words)
 }
 
-pub(crate) fn agent_flaw(
-    alloc: Global,
-    node: &Value,
-    agents: &[char],
-) -> Result<Option<String>, AllocError> {
-    if strange_mark(node, Arguments::Capital, agents).is_none() {
-        return Ok(None);
+/// Which agents there are.
+pub(crate) fn agents_text(alloc: Global, agents: &[char]) -> Result<String, AllocError> {
+    match agents {
+        [] => String::from_str(alloc, "agents: none"),
+        [only] => format!(in alloc; "agents: {only}"),
+        [first, .., last] => format!(in alloc; "agents: {first} to {last}"),
     }
-    let words = match agents {
-        [] => String::from_str(alloc, "agents: none")?,
-        [only] => format!(in alloc; "agents: {only}")?,
-        [first, .., last] => format!(in alloc; "agents: {first} to {last}")?,
-    };
-    Ok(Some(words))
 }
 
 /// Which places, or agents, there are, at the first node of a tree that names another.
@@ -106,10 +101,8 @@ pub(crate) fn named_flaw(
     flaw: Flaw<'_>,
     at: &mut Pointer,
 ) -> Result<Option<String>, AllocError> {
-    let Some(root) = level.get("trees").and_then(|trees| trees.get(name)) else {
+    let Some(root) = root_of(level, name, at)? else {
         return Ok(None);
     };
-    at.member("trees")?;
-    at.member(name)?;
     first_flaw(alloc, root, 1, flaw, at)
 }

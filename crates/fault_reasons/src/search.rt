@@ -1,7 +1,7 @@
 // The first node of a tree, in preorder, of which something is wrong.
-use crate::forms::kind_of;
+use crate::forms::{Arguments, kind_of};
 use crate::limits::{children_flaw, count_flaw, depth_flaw, threshold_flaw};
-use crate::names::{agent_flaw, place_flaw};
+use crate::names::{agents_text, names_other, places_text};
 use crate::pointer::Pointer;
 use crate::shape::form_flaw;
 use serde_json::Value;
@@ -39,8 +39,13 @@ fn flaw_of(
         Flaw::Children => children_flaw(alloc, node),
         Flaw::Threshold => threshold_flaw(alloc, node),
         Flaw::Count => count_flaw(alloc, node),
-        Flaw::Place(places) => place_flaw(alloc, node, places),
-        Flaw::Agent(agents) => agent_flaw(alloc, node, agents),
+        Flaw::Place(places) if names_other(node, Arguments::Digit, places) => {
+            Ok(Some(places_text(alloc, places)?))
+        }
+        Flaw::Agent(agents) if names_other(node, Arguments::Capital, agents) => {
+            Ok(Some(agents_text(alloc, agents)?))
+        }
+        Flaw::Place(_) | Flaw::Agent(_) => Ok(None),
     }
 }
 
@@ -50,6 +55,20 @@ pub(crate) fn first_child(node: &Value) -> usize {
         Some((form, _)) => form.arguments.before_nodes().unwrap_or(usize::MAX),
         None => usize::MAX,
     }
+}
+
+/// The root of a tree, to which the pointer is led.
+pub(crate) fn root_of<'v>(
+    level: &'v Value,
+    name: &str,
+    at: &mut Pointer,
+) -> Result<Option<&'v Value>, AllocError> {
+    let Some(root) = level.get("trees").and_then(|trees| trees.get(name)) else {
+        return Ok(None);
+    };
+    at.member("trees")?;
+    at.member(name)?;
+    Ok(Some(root))
 }
 
 /// What is wrong of the first node, from the one at `at` on, of which this is wrong. The pointer then leads to that node; else it

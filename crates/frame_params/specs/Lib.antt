@@ -1,3 +1,4 @@
 pub mod Thinks
 pub mod BoardSteps
 pub mod Tasks
+pub mod Leases

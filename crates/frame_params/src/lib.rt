@@ -3,6 +3,7 @@
 #![tactic(auto)]
 
 mod board_step;
+mod lease;
 mod parked;
 mod path_task;
 mod resume_point;
@@ -15,8 +16,9 @@ mod ticking;
 pub use board_step::BoardStep;
 pub use frame_state::{
     BandMark, BandOut, DrawTask, FrameParams, FrameStart, Gathering, LogicStep, LogicTask,
-    NextFrame, Slots, Thought, Turn, Way,
+    NextFrame, Slots, Thought, Turn, TurnedWorld, Way,
 };
+pub use lease::Lease;
 pub use parked::Parked;
 pub use path_task::PathTask;
 pub use step::Step;

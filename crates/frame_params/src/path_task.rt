@@ -1,4 +1,5 @@
 ghost use Rattle.std.specs.Prelude.{◌≡◌, IfOk};
+ghost use Rattle.std.specs.Arc.{arc_value};
 ghost use Rattle.frame_state.specs.Contents.{signals_in, way_in};
 ghost use Rattle.frame_parts.specs.Distances.{IsUnderIf};
 
@@ -59,10 +60,25 @@ impl<'t> PathTask<'t> {
         requires frame { parked.now.frame ≡ params.now.frame }
         ensures { IfOk result (λ t. t ≡ parked.now) }
     {
+        Ok(PathTask::with(params.share()?, params, parked)?)
+    }
+
+    /// The same with what the frame starts from itself.
+    #[inline(always)]
+    pub fn with(
+        start: Arc<FrameStart<'t>>,
+        params: &FrameParams<'t>,
+        parked: &Parked<'t>,
+    ) -> Result<PathTask<'t>, AllocError>
+        requires start { arc_value start ≡ params.now }
+        requires game { parked.now.game ≡ params.now.game }
+        requires frame { parked.now.frame ≡ params.now.frame }
+        ensures { IfOk result (λ t. t ≡ parked.now) }
+    {
         let tick: &ParkedTick<'t> = &parked.tick;
         let place = tick.place();
         Ok(PathTask {
-            start: params.share()?,
+            start,
             agent: tick.agent(),
             question: tick.question(),
             place,
@@ -79,6 +95,20 @@ impl<'t> PathTask<'t> {
             agent: self.agent,
             question: self.question,
         }
+    }
+
+    /// What its frame starts from.
+    pub fn into_start(self) -> Arc<FrameStart<'t>>
+        ensures { arc_value result ≡ record { game = self.entry.game; frame = self.entry.frame } }
+    {
+        let PathTask {
+            start,
+            agent: _,
+            question: _,
+            place: _,
+            found: _found,
+        } = self;
+        start
     }
 
     // The way, and the distances if they were not known.

@@ -1,6 +1,8 @@
 ghost use Rattle.std.specs.Prelude.{◌≡◌, IfOk, IsOk};
-ghost use Rattle.frame_params.specs.Tasks.{job_of, IsStepOf, IsBeginning};
+ghost use Rattle.frame_params.specs.Tasks.{game_of, job_of, IsStepOf, IsBeginning};
+ghost use Rattle.frame_params.specs.Leases.{IsLeaseOf};
 
+use crate::lease::Lease;
 use crate::path_task::PathTask;
 use crate::step::Step;
 use crate::think_task::ThinkTask;
@@ -34,6 +36,21 @@ impl<'t> Task<'t> {
             Task::Think(task) => task.name(),
             Task::Path(task) => task.name(),
             Task::Draw(task) => task.name(),
+        }
+    }
+
+    /// Lets go of the task, whose work is done. What all tasks of its frame share goes into the lease, and what the lease had in
+    /// that place is let go too.
+    #[inline(always)]
+    pub fn give_back(self, lease: &mut Lease<'t>)
+        requires { IsLeaseOf (game_of self) lease.old }
+        ensures { IsLeaseOf (game_of self.entry) lease.new }
+    {
+        match self {
+            Task::Logic(_task) => {}
+            Task::Think(task) => lease.start = Some(task.into_start()),
+            Task::Path(task) => lease.start = Some(task.into_start()),
+            Task::Draw(task) => lease.world = Some(task.into_world()),
         }
     }
 

@@ -1,4 +1,5 @@
 ghost use Rattle.std.specs.Prelude.{◌≡◌, ◌+◌, ◌<◌, IfOk, length};
+ghost use Rattle.std.specs.Arc.{arc_value};
 
 use crate::parked::{Parked, ParkedTick};
 use crate::resume_point::ResumePoint;
@@ -54,11 +55,20 @@ impl<'t> ThinkTask<'t> {
         requires { agent < length params.now.game.trees }
         ensures { IfOk result (λ t. t ≡ record { game = params.now.game; frame = params.now.frame; agent = agent; answered = 0 }) }
     {
-        Ok(ThinkTask {
-            start: params.share()?,
+        Ok(ThinkTask::start_with(params.share()?, agent))
+    }
+
+    /// The same with what the frame starts from itself. Takes no memory.
+    #[inline(always)]
+    pub fn start_with(start: Arc<FrameStart<'t>>, agent: u32) -> ThinkTask<'t>
+        requires { agent < length (arc_value start).game.trees }
+        ensures { result ≡ record { game = (arc_value start.entry).game; frame = (arc_value start.entry).frame; agent = agent; answered = 0 } }
+    {
+        ThinkTask {
+            start,
             agent,
             resume_point: ResumePoint::Start,
-        })
+        }
     }
 
     /// The thought of a parked tick of the frame, with the way of its question. The tick is shared with the parked one.
@@ -74,12 +84,27 @@ impl<'t> ThinkTask<'t> {
         requires way { way.now ≡ parked.now }
         ensures { IfOk result (λ t. t ≡ record { game = parked.now.game; frame = parked.now.frame; agent = parked.now.agent; answered = parked.now.question + 1 }) }
     {
+        Ok(ThinkTask::resume_with(params.share()?, parked, way)?)
+    }
+
+    /// The same with what the frame starts from itself.
+    #[inline(always)]
+    pub fn resume_with(
+        start: Arc<FrameStart<'t>>,
+        parked: &Parked<'t>,
+        way: &Way<'t>,
+    ) -> Result<ThinkTask<'t>, AllocError>
+        requires game { parked.now.game ≡ (arc_value start).game }
+        requires frame { parked.now.frame ≡ (arc_value start).frame }
+        requires way { way.now ≡ parked.now }
+        ensures { IfOk result (λ t. t ≡ record { game = parked.now.game; frame = parked.now.frame; agent = parked.now.agent; answered = parked.now.question + 1 }) }
+    {
         // A tick asks at most as often as its tree has nodes.
         let tick: &ParkedTick<'t> = &parked.tick;
         let nodes = tick.session().tree_of(tick.agent()).size();
         prove!(u64::from(tick.question()) < nodes);
         Ok(ThinkTask {
-            start: params.share()?,
+            start,
             agent: tick.agent(),
             resume_point: ResumePoint::Answered {
                 tick: Arc::try_clone(&parked.tick)?,
@@ -108,6 +133,18 @@ impl<'t> ThinkTask<'t> {
         ensures { result ≡ self.now.frame }
     {
         self.start.frame()
+    }
+
+    /// What its frame starts from.
+    pub fn into_start(self) -> Arc<FrameStart<'t>>
+        ensures { arc_value result ≡ record { game = self.entry.game; frame = self.entry.frame } }
+    {
+        let ThinkTask {
+            start,
+            agent: _,
+            resume_point: _resume_point,
+        } = self;
+        start
     }
 
     // How many of its questions are answered.

@@ -78,6 +78,14 @@ impl Model for KeptDistances {
     ghost invariant = { λ d. (arc_value d.found).place ≡ d.place };
 }
 
+impl Clone for KeptDistances {
+    ghost is_clone = { λ d e. e ≡ d };
+
+    fn clone(&self) -> Result<KeptDistances, AllocError> {
+        self.share()
+    }
+}
+
 impl KeptDistances {
     ghost use Rattle.frame_parts.specs.Distances.{distances_of};
 

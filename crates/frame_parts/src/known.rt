@@ -1,6 +1,7 @@
-ghost use Rattle.std.specs.Prelude.{◌≡◌, true, Contains, IfOk, IfSome};
+ghost use Rattle.std.specs.Prelude.{◌≡◌, true, Contains, IfOk, IfSome, OnOk, OnErr};
+ghost use Rattle.std.specs.List.Sorted.{IsPermutation};
 ghost use Rattle.std.specs.Arc.{arc_value};
-ghost use Rattle.grid_world.specs.Grid.{is_on_map};
+ghost use Rattle.grid_world.specs.Grid.{Grid, is_on_map};
 ghost use Rattle.grid_world.specs.Way.{way};
 ghost use Rattle.grid_world.specs.World.{point};
 ghost use Rattle.frame_parts.specs.Distances.{AllOn, IsUnderIf};
@@ -58,6 +59,30 @@ pub fn shared(alloc: Global, all: &[KeptDistances]) -> Result<Vec<KeptDistances>
     Ok(them)
 }
 
+// Moves those under these signals before the others; both keep their order.
+fn put_under_first(all: &mut [KeptDistances], signals: Signals)
+    ensures { IsPermutation all.old all.new }
+{
+    let mut first = 0;
+    'all: for at in 0..all.len() {
+        if all[at].is_under(signals) {
+            all[first..at + 1].rotate_right(1);
+            first += 1;
+        }
+    }
+}
+
+// Puts those that were found before the others, of which as many stay as there is room for.
+fn put_first(all: &mut Vec<KeptDistances>, found: &[KeptDistances]) -> Result<(), AllocError>
+    ensures { (g : Grid) → AllOn g found.now → AllOn g all.old.items → AllOn g all.new.items }
+{
+    all.truncate(MOST.saturating_sub(found.len()));
+    'found: for at in 0..found.len() {
+        all.insert(at, found[at].share()?)?;
+    }
+    Ok(())
+}
+
 impl Known {
     ghost use Rattle.frame_parts.specs.Distances.{known_of, distances_of};
 
@@ -83,38 +108,27 @@ impl Known {
         })
     }
 
-    // Those under these signals once more, and the others behind them.
-    fn ordered(&self, alloc: Global, signals: Signals) -> Result<Vec<KeptDistances>, AllocError>
-        ensures { IfOk result (λ them. AllOn self.now.ground them.items) }
-    {
-        let mut them = Vec::with_capacity(alloc, self.all.len())?;
-        'these: for known in self.all.iter() {
-            if known.is_under(signals) {
-                them.push(known.share()?)?;
-            }
-        }
-        'others: for known in self.all.iter() {
-            if !known.is_under(signals) {
-                them.push(known.share()?)?;
-            }
-        }
-        Ok(them)
-    }
-
-    /// What is known under these signals: the same ones while they are equal, and else those that were found when the
-    /// signals were these before.
-    pub fn under(&self, alloc: Global, signals: Signals) -> Result<Known, AllocError>
-        ensures { IfOk result (λ k. k ≡ known_of self.now.ground signals) }
+    /// Brings them under these signals: they stay while those are equal, and else become those that were found when the signals
+    /// were these before. No table is counted, but where others share the list.
+    pub fn bring_under(&mut self, signals: Signals) -> Result<(), AllocError>
+        ensures ok { OnOk result (self.new ≡ known_of self.old.ground signals) }
+        ensures err { OnErr result (self.new ≡ self.old) }
     {
         if signals == self.signals {
-            return Ok(self.share()?);
+            return Ok(());
         }
-        let all = self.ordered(alloc, signals)?;
-        Ok(Known {
-            ground: Arc::try_clone(&self.ground)?,
-            signals,
-            all: Arc::new(alloc, all)?,
-        })
+        put_under_first(Arc::make_mut(&mut self.all)?, signals);
+        self.signals = signals;
+        Ok(())
+    }
+
+    /// The same ones once more, brought under these signals.
+    pub fn under(&self, signals: Signals) -> Result<Known, AllocError>
+        ensures { IfOk result (λ k. k ≡ known_of self.now.ground signals) }
+    {
+        let mut known = self.share()?;
+        known.bring_under(signals)?;
+        Ok(known)
     }
 
     // Those to a place, where they are known.
@@ -146,39 +160,25 @@ impl Known {
         }
     }
 
-    // These once more behind those that were found, as many as are kept.
-    fn behind(
-        &self,
-        alloc: Global,
-        found: &[KeptDistances],
-    ) -> Result<Vec<KeptDistances>, AllocError>
-        requires { AllOn self.now.ground found.now }
-        ensures { IfOk result (λ them. AllOn self.now.ground them.items) }
+    /// Keeps those that were found since, too. Of all forty are kept, those under the latest states of the signals before
+    /// others. No table that was kept is counted, but where others share the list.
+    pub fn learn(&mut self, found: &[KeptDistances]) -> Result<(), AllocError>
+        requires { AllOn self.old.ground found.now }
+        ensures { self.new ≡ self.old }
     {
-        let mut them = Vec::with_capacity(alloc, MOST)?;
-        'found: for new in found {
-            them.push(new.share()?)?;
+        if !found.is_empty() {
+            put_first(Arc::make_mut(&mut self.all)?, found)?;
         }
-        'known: for known in self.all.iter().take(MOST.saturating_sub(found.len())) {
-            them.push(known.share()?)?;
-        }
-        Ok(them)
+        Ok(())
     }
 
-    /// These and those that were found since. Of all forty are kept, those under the latest states of the signals before
-    /// others.
-    pub fn with(&self, alloc: Global, found: &[KeptDistances]) -> Result<Known, AllocError>
+    /// The same ones once more, with those that were found since.
+    pub fn with(&self, found: &[KeptDistances]) -> Result<Known, AllocError>
         requires { AllOn self.now.ground found.now }
         ensures { IfOk result (λ k. k ≡ self.now) }
     {
-        if found.is_empty() {
-            return Ok(self.share()?);
-        }
-        let all = self.behind(alloc, found)?;
-        Ok(Known {
-            ground: Arc::try_clone(&self.ground)?,
-            signals: self.signals,
-            all: Arc::new(alloc, all)?,
-        })
+        let mut known = self.share()?;
+        known.learn(found)?;
+        Ok(known)
     }
 }

@@ -3,6 +3,7 @@ ghost use Rattle.frame_state.specs.Contents.{bands_in};
 
 use crate::band_out::BandOut;
 use crate::turn::Turn;
+use crate::turned_world::TurnedWorld;
 use draw_list::{DrawFault, draw_band};
 use game_session::Session;
 use grid_world::World;
@@ -43,13 +44,42 @@ impl<'t> DrawTask<'t> {
         requires { band < bands_in turn.now.game }
         ensures { IfOk result (λ t. t ≡ record { game = turn.now.game; frame = turn.now.frame; number = band }) }
     {
-        let turned = turn.turned();
-        Ok(DrawTask {
-            session: turned.session,
-            frame: turned.frame,
+        Ok(DrawTask::with(turn.share_world()?, band))
+    }
+
+    /// The same on a world that is shared already.
+    pub fn with(world: TurnedWorld<'t>, band: u32) -> DrawTask<'t>
+        requires { band < bands_in world.game }
+        ensures { result ≡ record { game = world.entry.game; frame = world.entry.frame; number = band } }
+    {
+        let TurnedWorld {
+            session,
+            frame,
+            world,
+        } = world;
+        DrawTask {
+            session,
+            frame,
             band,
-            world: Arc::try_clone(&turned.world)?,
-        })
+            world,
+        }
+    }
+
+    /// The world that it was to draw on.
+    pub fn into_world(self) -> TurnedWorld<'t>
+        ensures { result ≡ record { game = self.entry.game; frame = self.entry.frame } }
+    {
+        let DrawTask {
+            session,
+            frame,
+            band: _,
+            world,
+        } = self;
+        TurnedWorld {
+            session,
+            frame,
+            world,
+        }
     }
 
     /// The job whose task it is.

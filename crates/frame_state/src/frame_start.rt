@@ -89,7 +89,7 @@ impl<'t> FrameStart<'t> {
 
     // That of the frame after a turn's. The world, the memories and the distances, those that were found under its signals,
     // are the turn's own, so nothing is copied.
-    pub(crate) fn after(alloc: Global, turn: &Turn<'t>) -> Result<FrameStart<'t>, AllocError>
+    pub(crate) fn after(turn: &Turn<'t>) -> Result<FrameStart<'t>, AllocError>
         requires { turn.now.frame + 1 < 2 ^ 32 }
         ensures { IfOk result (λ s. s ≡ record { game = turn.now.game; frame = turn.now.frame + 1 }) }
     {
@@ -102,7 +102,7 @@ impl<'t> FrameStart<'t> {
             signals,
             world: Arc::try_clone(&turned.world)?,
             memories: Arc::try_clone(&turned.memories)?,
-            known: turned.known.under(alloc, signals)?,
+            known: turned.known.under(signals)?,
         })
     }
 

@@ -104,7 +104,7 @@ impl<'t> Gathered<'t> {
     {
         let start: &FrameStart<'t> = &self.start;
         let world = resolved(alloc, start.world(), start.signals(), &self.intents)?;
-        let known = start.known().with(alloc, &self.found)?;
+        let known = start.known().with(&self.found)?;
         Ok(Turned {
             session: start.session(),
             frame: start.frame(),

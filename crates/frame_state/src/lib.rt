@@ -18,6 +18,7 @@ mod params;
 mod slots;
 mod thought;
 mod turn;
+mod turned_world;
 mod way;
 
 pub use band_mark::BandMark;
@@ -34,4 +35,5 @@ pub use params::FrameParams;
 pub use slots::Slots;
 pub use thought::Thought;
 pub use turn::Turn;
+pub use turned_world::TurnedWorld;
 pub use way::Way;

@@ -138,7 +138,7 @@ impl<'t> FrameParams<'t> {
         requires { turn.now.frame + 1 < 2 ^ 32 }
         ensures { IfOk result (λ p. p ≡ record { game = turn.now.game; frame = turn.now.frame + 1 }) }
     {
-        let params = Params::of(alloc, FrameStart::after(alloc, turn)?)?;
+        let params = Params::of(alloc, FrameStart::after(turn)?)?;
         Ok(FrameParams {
             params: Box::new(alloc, params)?,
         })

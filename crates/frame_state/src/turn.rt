@@ -3,6 +3,7 @@ ghost use Rattle.frame_state.specs.Contents.{world_after, statuses_in, bands_in}
 
 use crate::kept_memory::KeptMemory;
 use crate::next_frame::NextFrame;
+use crate::turned_world::TurnedWorld;
 use bt_nodes::Status;
 use draw_list::band_count;
 use frame_parts::Known;
@@ -68,6 +69,17 @@ impl<'t> Turned<'t> {
         ensures agents { length result.now.agents ≡ length self.now.game.trees }
     {
         &self.world
+    }
+
+    // The same, once more.
+    fn share_world(&self) -> Result<TurnedWorld<'t>, AllocError>
+        ensures { IfOk result (λ w. w ≡ self.now) }
+    {
+        Ok(TurnedWorld {
+            session: self.session,
+            frame: self.frame,
+            world: Arc::try_clone(&self.world)?,
+        })
     }
 
     // How many bands the frame has.
@@ -194,6 +206,13 @@ impl<'t> Turn<'t> {
         ensures agents { length result.now.agents ≡ length self.now.game.trees }
     {
         self.turned.world()
+    }
+
+    /// The same, once more; nothing is copied.
+    pub fn share_world(&self) -> Result<TurnedWorld<'t>, AllocError>
+        ensures { IfOk result (λ w. w ≡ self.now) }
+    {
+        self.turned.share_world()
     }
 
     /// How many bands the frame has.

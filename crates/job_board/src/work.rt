@@ -160,26 +160,9 @@ impl<'t> Work<'t> {
         ensures back { IfErr result (λ back. back ≡ self.entry) }
         ensures asks_nothing { IfErr result (λ _. AsksNothing self.entry.game self.entry.job self.entry.step) }
     {
-        let Work {
-            session,
-            job,
-            step,
-            result,
-        } = self;
-        let result = match result {
-            BoardStep::Think(think) => match think {
-                ThinkStep::Asks(parked) => return Ok(parked),
-                ThinkStep::Ended(thought) => BoardStep::Think(ThinkStep::Ended(thought)),
-            },
-            BoardStep::Logic(logic) => BoardStep::Logic(logic),
-            BoardStep::Path(way) => BoardStep::Path(way),
-            BoardStep::Draw(mark) => BoardStep::Draw(mark),
-        };
-        Err(Work {
-            session,
-            job,
-            step,
-            result,
-        })
+        match self.result {
+            BoardStep::Think(ThinkStep::Asks(parked)) => Ok(parked),
+            result => Err(Work { result, ..self }),
+        }
     }
 }

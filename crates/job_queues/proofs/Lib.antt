@@ -5,3 +5,4 @@ pub mod Picks
 pub mod Pools
 pub mod Founds
 pub mod Levels
+pub mod Ranges

@@ -1,5 +1,6 @@
 ghost use Rattle.std.specs.Prelude.{◌≡◌, ◌<◌, ◌≤◌, ◌+◌, ◌++◌, ◌∷◌, [], ◌==◌, length, position, option_map, IfOk, IfSome, OnOk, OnErr, None};
 ghost use Rattle.job_core.specs.Core.{same};
+ghost use Rattle.board_model.specs.Board.{first};
 ghost use Rattle.board_model.specs.Pick.{lane};
 ghost use Rattle.job_queues.specs.Names.{picked};
 ghost use Rattle.job_queues.specs.Places.{IsFirstPlace};
@@ -155,5 +156,27 @@ impl Lane {
         ensures ready { self.new.ready ≡ self.old.ready }
     {
         self.fresh.put_reserved(job);
+    }
+
+    /// Queues the thinks of a frame, for which there is room, by agent.
+    pub(crate) fn put_thinks(&mut self, frame: u32, agents: u32)
+        requires { self.old.fresh.used + agents ≤ self.old.fresh.room }
+        ensures fresh { self.new.fresh.items ≡ self.old.fresh.items ++ first agents (JobName.Think frame) }
+        ensures ready { self.new.ready ≡ self.old.ready }
+    {
+        'agents: for agent in 0..agents {
+            self.put_reserved(JobName::Think { frame, agent });
+        }
+    }
+
+    /// Queues the draws of a frame, for which there is room, by band.
+    pub(crate) fn put_draws(&mut self, frame: u32, bands: u32)
+        requires { self.old.fresh.used + bands ≤ self.old.fresh.room }
+        ensures fresh { self.new.fresh.items ≡ self.old.fresh.items ++ first bands (JobName.Draw frame) }
+        ensures ready { self.new.ready ≡ self.old.ready }
+    {
+        'bands: for band in 0..bands {
+            self.put_reserved(JobName::Draw { frame, band });
+        }
     }
 }

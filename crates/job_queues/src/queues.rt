@@ -1,11 +1,11 @@
 ghost use Rattle.std.specs.Prelude.{◌≡◌, ◌<◌, length, ◌==◌, true, false, Some, option_map, IfOk, IfErr, IfSome, OnOk, OnErr};
 ghost use Rattle.job_core.specs.Core.{same};
 ghost use Rattle.board_model.specs.Lists.{all, has};
-ghost use Rattle.board_model.specs.Board.{put_all};
+ghost use Rattle.board_model.specs.Board.{put_all, first};
 ghost use Rattle.board_model.specs.Pick.{pick};
 ghost use Rattle.job_queues.specs.Names.{level, picked};
 ghost use Rattle.job_queues.specs.Lanes.{may_start, free_fibers};
-ghost use Rattle.job_queues.specs.Waiting.{empty, with_fresh, put_new, put_ready, without_job, without_fiber};
+ghost use Rattle.job_queues.specs.Waiting.{empty, with_fresh, put_new, put_ready, logic_after, without_job, without_fiber};
 ghost use Rattle.job_queues.specs.Picks.{after_pick, IsAt, IsFirstOf};
 
 use super::fiber::Fiber;
@@ -278,6 +278,40 @@ impl Queues {
                 Priority::Low => self.low.put_reserved(*job),
             }
         }
+        Ok(())
+    }
+
+    /// Queues the thinks of a frame, by agent, or none.
+    pub fn put_thinks(&mut self, frame: u32, agents: u32) -> Result<(), QueueFault>
+        ensures after { OnOk result (self.new ≡ with_fresh self.old (put_all self.old.queues.fresh (first agents (JobName.Think frame)))) }
+        ensures fault { IfErr result (λ e. e ≡ QueueFault.OutOfMemory) }
+        ensures unchanged { OnErr result (self.new ≡ self.old) }
+    {
+        if self.normal.reserve(agents as usize).is_err() {
+            return Err(QueueFault::OutOfMemory);
+        }
+        self.normal.put_thinks(frame, agents);
+        Ok(())
+    }
+
+    /// Queues what follows a frame's Logic: its draws, by band, and then the next frame's Logic, if there is one. Or none.
+    pub fn put_followers(&mut self, frame: u32, bands: u32, frames: u32) -> Result<(), QueueFault>
+        ensures after { OnOk result (self.new ≡ with_fresh self.old (put_all (put_all self.old.queues.fresh (first bands (JobName.Draw frame))) (logic_after frame frames))) }
+        ensures fault { IfErr result (λ e. e ≡ QueueFault.OutOfMemory) }
+        ensures unchanged { OnErr result (self.new ≡ self.old) }
+    {
+        if self.low.reserve(bands as usize).is_err() {
+            return Err(QueueFault::OutOfMemory);
+        }
+        if frame >= frames {
+            self.low.put_draws(frame, bands);
+            return Ok(());
+        }
+        if self.high.reserve(1).is_err() {
+            return Err(QueueFault::OutOfMemory);
+        }
+        self.low.put_draws(frame, bands);
+        self.high.put_reserved(JobName::Logic { frame: frame + 1 });
         Ok(())
     }
 

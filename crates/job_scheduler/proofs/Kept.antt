@@ -1,12 +1,11 @@
 -- What is kept after more events.
-use Rattle.std.proofs.Common.{◌+◌, ◌≡◌, ◌<◌, ◌≤◌, ℕ, zero, suc, false, Option, None, List, [], ◌∷◌, ◌++◌, length, length-append, refl, sym, ap, ◌∙◌, arith}
+use Rattle.std.proofs.Common.{◌+◌, ◌≡◌, ◌<◌, ◌≤◌, ℕ, false, Option, None, List, [], ◌∷◌, ◌++◌, length, refl, sym, ap, ◌∙◌, arith}
 use Rattle.std.proofs.lemmas.List.{length-replicate}
-use Rattle.job_core.specs.declared.names.JobName.{JobName}
 use Rattle.job_core.specs.declared.names.JobName.TheVariants.{Logic, Think, Path, Draw}
 use Rattle.job_core.specs.declared.names.Event.{Event}
 use Rattle.job_core.specs.declared.names.Event.TheVariants.{Start, Resume, Ask, Spread, Hold, Finish, Emit, Stop}
 use Rattle.job_core.specs.Core.{Setup}
-use Rattle.board_model.specs.Board.{Core, Held, core_after, core_from, core_opening, core_of, first}
+use Rattle.board_model.specs.Board.{Core, Held, core_after, core_from, core_opening, core_of}
 use Rattle.board_model.proofs.Kit.{length_write}
 use Rattle.job_scheduler.specs.Logged.{Logged, setup_of, kept, IsKept}
 
@@ -22,10 +21,6 @@ kept_after v c d now capacity length_then room later e k written does place =
       core = λ q. does q ∙ (ap (λ x. core_after (setup_of v q) x e) (k.core q) ∙ (sym (core_along (setup_of v q) (core_opening (setup_of v q)) v.events (e ∷ [])) ∙ ap (core_of (setup_of v q)) (sym written)));
       room = place;
     }
-
-pub length_first : (n : ℕ) (name : ℕ → JobName) → length (first n name) ≡ n
-length_first zero name = refl
-length_first (suc n) name = let h = length_first n name in let a = length-append (first n name) (name n ∷ []) in omega arith
 
 -- ---- no event changes how many fibers there are
 

@@ -1,4 +1,5 @@
 pub mod Entries
+pub mod Fronts
 pub mod Writes
 pub mod Rows
 pub mod Woken

@@ -6,3 +6,4 @@ pub mod Logged
 pub mod Ends
 pub mod Looks
 pub mod Turns
+pub mod Fronts

@@ -10,7 +10,6 @@ ghost use Rattle.job_scheduler.specs.Seats.{IsHolder};
 
 use super::held::Held;
 use super::scheduler::Scheduler;
-use super::tables::{entry, place_of};
 use counters::CounterKey;
 use job_core::names::JobName;
 use job_queues::{Fiber, Found, Pick, Place, Size, size_of};
@@ -41,7 +40,7 @@ impl Scheduler {
     pub fn runs(&self, worker: u32) -> Option<Held>
         ensures { result ≡ on_fiber self.now.seats (at self.now.seats.workers worker) }
     {
-        let fiber = entry(&self.workers, worker)?;
+        let fiber = self.workers.get(worker)?;
         self.held_by(fiber)
     }
 
@@ -50,7 +49,7 @@ impl Scheduler {
     pub fn held_by(&self, fiber: Fiber) -> Option<Held>
         ensures { result ≡ at self.now.seats.jobs fiber }
     {
-        entry(&self.jobs, fiber.0)
+        self.jobs.get(fiber.0)
     }
 
     /// The fiber that holds a job, if one does.
@@ -58,10 +57,10 @@ impl Scheduler {
         requires { length self.now.seats.jobs < 2 ^ 32 }
         ensures { MatchOption result (tally (holds job) self.now.seats.jobs ≡ 0) (IsHolder job self.now.seats.jobs) }
     {
-        let Some(place) = place_of(&self.jobs, job) else {
+        let Some(fiber) = self.jobs.holder(job) else {
             return None;
         };
-        Some(Fiber(place as u32))
+        Some(Fiber(fiber as u32))
     }
 
     /// Where a job is queued, if it is. Takes time linear in the number of queued jobs.

@@ -1,7 +1,7 @@
-ghost use Rattle.std.specs.Prelude.{◌≡◌, ◌<◌, ◌≤◌, ◌+◌, ◌-◌, ◌^◌, ◌==◌, ◌++◌, IsSome, IsSomeAnd, OnOk, OnErr, IfOk, Some, None, true, false, length, map, not, slice_get};
+ghost use Rattle.std.specs.Prelude.{◌≡◌, ◌<◌, ◌≤◌, ◌+◌, ◌-◌, ◌^◌, ◌==◌, IsSome, IsSomeAnd, OnOk, OnErr, IfOk, Some, None, true, false, length, map, not, slice_get};
 ghost use Rattle.job_core.specs.Core.{Setup, same, size_of, Thinks, Way, Draws, Shown};
 ghost use Rattle.board_model.specs.Lists.{all, tally, at, first_place};
-ghost use Rattle.board_model.specs.Board.{core_after, core_opening, core_end, fiber_of, taken_of, is_taken, holds, first_row, first, next_logic, woken};
+ghost use Rattle.board_model.specs.Board.{core_after, core_opening, core_end, fiber_of, taken_of, is_taken, holds, first_row, woken};
 ghost use Rattle.board_model.specs.Passes.{RunsAt, on_fiber};
 ghost use Rattle.counters.specs.Keys.{counter_of};
 ghost use Rattle.job_queues.specs.Picks.{IsFirstAt};
@@ -11,9 +11,11 @@ ghost use Rattle.job_scheduler.specs.Seats.{holding, left_by, less_one};
 use super::counting::{raise, raise_awaited, raise_frame, without_frame};
 use super::fault::OutOfMemory;
 use super::held::Held;
+use super::job_table::JobTable;
 use super::settings::Settings;
-use super::tables::empty_table;
+use super::slot_table::SlotTable;
 use super::waking::{ready_at_once, wake};
+use super::worker_table::WorkerTable;
 use counters::{BoardCounters, CounterKey};
 use job_core::names::{Event, JobName};
 use job_queues::{Fiber, FiberPool, Found, Pick, Place, Queues, size_of};
@@ -22,17 +24,18 @@ use std::marker::Model;
 
 /// What the board keeps: which jobs are queued, which fibers are ready and taken, what each fiber holds and each
 /// worker runs, the counters, and which frame lies in each slot. It has one method for each event, which tests
-/// nothing again: that the event may happen is the caller's to show. What most events touch lies together, in two runs: up to
-/// the front of the pool, and from the queues of normal priority on.
+/// nothing again: that the event may happen is the caller's to show. All but the lists of the queues and the counters lies in one
+/// block, and what most events touch in two runs of it: up to the front of the pool, and from the queues of normal priority to the
+/// first workers.
 pub struct Scheduler {
     pub(crate) emitted: u32,
     pub(crate) stopped: bool,
-    pub(crate) workers: Vec<Option<Fiber>>,
-    pub(crate) jobs: Vec<Option<Held>>,
     pub(crate) pool: FiberPool,
-    pub(crate) slots: Vec<Option<u32>>,
     pub(crate) queues: Queues,
     pub(crate) counters: BoardCounters,
+    pub(crate) workers: WorkerTable,
+    pub(crate) jobs: JobTable,
+    pub(crate) slots: SlotTable,
 }
 
 impl Drop for Scheduler {
@@ -58,14 +61,14 @@ impl Model for Scheduler {
 
     ghost view = { λ m. record {
       queues = m.queues.queues;
-      seats = record { small = m.pool.small; taken = m.pool.taken; jobs = m.jobs.items; workers = m.workers.items };
+      seats = record { small = m.pool.small; taken = m.pool.taken; jobs = m.jobs; workers = m.workers };
       counters = m.counters;
-      slots = m.slots.items;
+      slots = m.slots;
       emitted = m.emitted;
       stopped = m.stopped;
     } };
 
-    ghost invariant = { λ m. m.queues.fibers ≡ length m.jobs.items };
+    ghost invariant = { λ m. m.queues.fibers ≡ length m.jobs };
 }
 
 fn opening_queues(alloc: Global, frames: u32, fibers: u32) -> Result<Queues, OutOfMemory>
@@ -91,16 +94,13 @@ impl Scheduler {
     {
         let (small, large) = (settings.small(), settings.large());
         let queues = opening_queues(alloc, settings.frames(), small + large)?;
-        let jobs = empty_table(alloc, small + large)?;
-        let workers = empty_table(alloc, settings.workers())?;
-        let slots = empty_table(alloc, settings.slots())?;
         Ok(Scheduler {
             queues,
             pool: FiberPool::new(small, large),
-            jobs,
-            workers,
+            jobs: JobTable::new(small + large),
+            workers: WorkerTable::new(settings.workers()),
             counters: BoardCounters::new(alloc),
-            slots,
+            slots: SlotTable::new(settings.slots()),
             emitted: 0,
             stopped: false,
         })
@@ -120,7 +120,7 @@ impl Scheduler {
         requires { worker < length self.now.seats.workers }
         ensures { result ≡ fiber_of self.now.seats worker }
     {
-        match self.workers[worker as usize] {
+        match self.workers.get(worker) {
             Some(fiber) => fiber,
             None => Fiber(0),
         }
@@ -132,12 +132,10 @@ impl Scheduler {
         requires fiber { fiber < length self.old.seats.jobs }
         ensures { self.new ≡ holding self.old worker fiber held }
     {
-        self.jobs[fiber.0 as usize] = held;
-        self.workers[worker as usize] = if held.is_some_and(|held| held.worker.is_some()) {
-            Some(fiber)
-        } else {
-            None
-        };
+        self.jobs.set(fiber.0, held);
+        let runs = held.is_some_and(|held| held.worker.is_some());
+        self.workers
+            .set(worker, if runs { Some(fiber) } else { None });
     }
 
     /// A worker starts a job whose first entry stands at this place, on the lowest free fiber of the job's size.
@@ -208,7 +206,7 @@ impl Scheduler {
     {
         let fiber = self.fiber_of(worker);
         let key = CounterKey::Shown {
-            frame: frame - self.slots.len() as u32,
+            frame: frame - self.slots.len(),
         };
         if self.counters.wait(key, fiber).is_err() {
             return Err(OutOfMemory);
@@ -226,28 +224,25 @@ impl Scheduler {
     }
 
     /// A worker's Logic fills its slot and queues the thinks of its frame, and waits for them.
-    pub fn spread(&mut self, worker: u32, frame: u32, thinks: &[JobName]) -> Result<(), OutOfMemory>
+    pub fn spread(&mut self, worker: u32, frame: u32, agents: u32) -> Result<(), OutOfMemory>
         requires runs { RunsAt self.old.seats worker (JobName.Logic frame) 0 }
         requires table { self.old.seats.taken ≡ map is_taken self.old.seats.jobs }
         requires thinks_key { first_row (Thinks frame) self.old.counters ≡ None }
         requires shown_key { first_row (Shown frame) self.old.counters ≡ None }
-        requires few { length thinks.now < 2 ^ 32 }
         requires slots { 0 < length self.old.slots }
-        requires room { length thinks.now ≡ 0 → length (all self.old.queues.ready) < length self.old.seats.jobs }
-        ensures ok { OnOk result ((s : Setup) → s.slots ≡ length self.old.slots → s.agents ≡ length thinks.now
-            → thinks.now ≡ first s.agents (JobName.Think frame) → self.new ≡ core_after s self.old (Event.Spread worker (JobName.Logic frame))) }
+        requires room { agents ≡ 0 → length (all self.old.queues.ready) < length self.old.seats.jobs }
+        ensures ok { OnOk result ((s : Setup) → s.slots ≡ length self.old.slots → s.agents ≡ agents
+            → self.new ≡ core_after s self.old (Event.Spread worker (JobName.Logic frame))) }
         ensures unchanged { OnErr result (self.new ≡ self.old) }
     {
         let fiber = self.fiber_of(worker);
-        let count = thinks.len() as u32;
-        raise_frame(&mut self.counters, frame, count, fiber)?;
-        let Ok(()) = self.queues.put_all(thinks) else {
+        raise_frame(&mut self.counters, frame, agents, fiber)?;
+        let Ok(()) = self.queues.put_thinks(frame, agents) else {
             without_frame(&mut self.counters, frame);
             return Err(OutOfMemory);
         };
-        ready_at_once(&mut self.queues, count, fiber);
-        let at = frame as usize % self.slots.len();
-        self.slots[at] = Some(frame);
+        ready_at_once(&mut self.queues, agents, fiber);
+        self.slots.set(frame, Some(frame));
         self.hold_on(
             worker,
             fiber,
@@ -350,18 +345,18 @@ impl Scheduler {
         worker: u32,
         frame: u32,
         bands: u32,
-        followers: &[JobName],
+        frames: u32,
     ) -> Result<(), OutOfMemory>
         requires runs { IsSome (on_fiber self.old.seats (at self.old.seats.workers worker)) }
         requires table { self.old.seats.taken ≡ map is_taken self.old.seats.jobs }
         requires key { first_row (Draws frame) self.old.counters ≡ None }
-        ensures ok { OnOk result ((s : Setup) → s.bands ≡ bands → followers.now ≡ first s.bands (JobName.Draw frame) ++ next_logic s frame
+        ensures ok { OnOk result ((s : Setup) → s.frames ≡ frames → s.bands ≡ bands
             → self.new ≡ core_after s self.old (Event.Finish worker (JobName.Logic frame))) }
         ensures unchanged { OnErr result (self.new ≡ self.old) }
     {
         let fiber = self.fiber_of(worker);
         raise(&mut self.counters, CounterKey::Draws { frame }, bands)?;
-        let Ok(()) = self.queues.put_all(followers) else {
+        let Ok(()) = self.queues.put_followers(frame, bands, frames) else {
             self.counters.cancel(CounterKey::Draws { frame });
             return Err(OutOfMemory);
         };
@@ -378,8 +373,7 @@ impl Scheduler {
         ensures { (s : Setup) → s.slots ≡ length self.old.slots → self.new ≡ core_after s self.old (Event.Emit frame) }
     {
         self.lower(CounterKey::Shown { frame });
-        let at = frame as usize % self.slots.len();
-        self.slots[at] = None;
+        self.slots.set(frame, None);
         self.emitted += 1;
     }
 }

@@ -4,16 +4,15 @@ ghost use Rattle.board_model.specs.Board.{priority_on, wake};
 ghost use Rattle.job_queues.specs.Names.{level};
 ghost use Rattle.job_queues.specs.Waiting.{with_ready};
 
-use super::held::Held;
-use super::tables::entry;
+use super::job_table::JobTable;
 use counters::Waiters;
 use job_queues::{Fiber, Priority, Queues, job_priority};
 
 #[inline(always)]
-fn priority_at(jobs: &[Option<Held>], fiber: Fiber) -> Priority
+fn priority_at(jobs: &JobTable, fiber: Fiber) -> Priority
     ensures { level result ≡ priority_on (at jobs.now fiber) }
 {
-    match entry(jobs, fiber.0) {
+    match jobs.get(fiber.0) {
         Some(held) => job_priority(held.job),
         None => Priority::High,
     }
@@ -21,14 +20,14 @@ fn priority_at(jobs: &[Option<Held>], fiber: Fiber) -> Priority
 
 // Makes a fiber ready, at the priority of the job that it holds.
 #[inline(always)]
-fn wake_one(queues: &mut Queues, jobs: &[Option<Held>], fiber: Fiber)
+fn wake_one(queues: &mut Queues, jobs: &JobTable, fiber: Fiber)
     requires { length (all queues.old.queues.ready) < queues.old.fibers }
     ensures { queues.new ≡ with_ready queues.old (add (priority_on (at jobs.now fiber)) fiber queues.old.queues.ready) }
 {
     queues.put_ready(priority_at(jobs, fiber), fiber);
 }
 
-fn wake_all(queues: &mut Queues, jobs: &[Option<Held>], fibers: &[Fiber])
+fn wake_all(queues: &mut Queues, jobs: &JobTable, fibers: &[Fiber])
     requires { length (all queues.old.queues.ready) + length fibers.now ≤ queues.old.fibers }
     ensures { queues.new ≡ with_ready queues.old (wake jobs.now queues.old.queues.ready fibers.now) }
 {
@@ -39,7 +38,7 @@ fn wake_all(queues: &mut Queues, jobs: &[Option<Held>], fibers: &[Fiber])
 
 // Makes fibers ready, in order, each at the priority of the job that it holds. Mostly one waits.
 #[inline(always)]
-pub(crate) fn wake(queues: &mut Queues, jobs: &[Option<Held>], waiters: &Waiters)
+pub(crate) fn wake(queues: &mut Queues, jobs: &JobTable, waiters: &Waiters)
     requires { length (all queues.old.queues.ready) + length waiters.now ≤ queues.old.fibers }
     ensures { queues.new ≡ with_ready queues.old (wake jobs.now queues.old.queues.ready waiters.now) }
 {

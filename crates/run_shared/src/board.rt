@@ -7,6 +7,7 @@ ghost use Rattle.job_core.specs.Draws.{ends_draw};
 ghost use Rattle.job_core.specs.declared.names.Event.TheVariants.{Emit};
 ghost use Rattle.job_scheduler.specs.Numbers.{Numbers};
 ghost use Rattle.frame_params.specs.BoardSteps.{IsToldIn};
+ghost use Rattle.frame_params.specs.Leases.{IsLeaseOf};
 ghost use Rattle.task_board.specs.Boards.{setup_in, state_in, GivesJob, IsTaken, IsTakeRefused, IsShown, IsEmitRefused, IsStopped};
 ghost use Rattle.task_board.specs.HandedIn.{IsHandedIn, IsHandInRefused};
 ghost use Rattle.task_board.specs.Setups.{setup_for};
@@ -14,7 +15,7 @@ ghost use Rattle.run_shared.specs.Counts.{names_worker, is_emit, draws_ended};
 
 use crate::ledger::RunLedger;
 use crate::run_task::RunTask;
-use frame_params::BoardStep;
+use frame_params::{BoardStep, Lease};
 use std::marker::Model;
 use std::sync::ledger::{Book, Ledger, Share};
 use task_board::{BoardFault, Event, Retired, Shown, TaskBoard};
@@ -80,21 +81,25 @@ impl<'t, L: RunLedger, M: Ledger, D: Ledger> SharedBoard<'t, L, M, D> {
         }
     }
 
-    /// Takes a task for an idle worker. None where it can neither start nor resume a job.
+    /// Takes a task for an idle worker, made out of its lease where that has its frame. None where it can neither start nor
+    /// resume a job.
     #[inline(always)]
     pub(crate) fn take(
         &mut self,
         worker: u32,
+        lease: &mut Lease<'t>,
         mine: &mut Share<L>,
     ) -> Result<Option<RunTask<'t, L>>, BoardFault>
+        requires lease { IsSomeAnd L.game (λ g. IsLeaseOf g lease.old) }
         requires part { 0 < mine.old.parts }
         ensures taken { IfOk result (λ t. IsTaken self.old self.new worker (option_map (λ r. r.task) t)) }
         ensures refused { IfErr result (IsTakeRefused self.old worker) }
         ensures unchanged { OnErr result (self.new ≡ self.old) }
         ensures parts { mine.new.parts ≡ mine.old.parts }
+        ensures lease { IsSomeAnd L.game (λ g. IsLeaseOf g lease.new) }
         ensures counted { MatchResult result (λ t. MatchOption t (mine.new.amount ≡ mine.old.amount) (λ _. mine.new.amount ≡ mine.old.amount + 1)) (λ _. mine.new.amount ≡ mine.old.amount) }
     {
-        match self.board.take(worker) {
+        match self.board.take_leased(worker, lease) {
             Ok(Some(task)) => {
                 self.named.add(mine, 1);
                 Ok(Some(RunTask::new(task)))

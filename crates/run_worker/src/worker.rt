@@ -4,6 +4,7 @@ ghost use Rattle.game_session.specs.GameCode.{game_code};
 ghost use Rattle.band_mail.specs.Mails.{IsPutterOf, with_put};
 ghost use Rattle.frame_params.specs.BoardSteps.{IsToldIn};
 ghost use Rattle.frame_params.specs.Tasks.{game_of};
+ghost use Rattle.frame_params.specs.Leases.{IsLeaseOf};
 ghost use Rattle.run_shared.specs.Counts.{draws_ended};
 ghost use Rattle.run_worker.specs.Own.{IsWorkIn};
 ghost use Rattle.run_worker.specs.declared.delivered.Delivered.TheVariants.{Told, Stopped};
@@ -12,7 +13,7 @@ use crate::delivered::Delivered;
 use crate::gate::Gate;
 use crate::scratch::Scratch;
 use band_mail::Putter;
-use frame_params::{BoardStep, Step, Task};
+use frame_params::{BoardStep, Lease, Step, Task};
 use game_session::Session;
 use run_shared::{
     Cause, Given, HandedIn, Rest, RunBand, RunLedger, RunTask, Shared, Worked, draws_in,
@@ -49,11 +50,13 @@ struct Worker<'h, 't, L: RunLedger, M: Ledger, D: Ledger, G: Gate, R: Wait> {
 impl<'h, 't, L: RunLedger, M: Ledger, D: Ledger, G: Gate, R: Wait> Worker<'h, 't, L, M, D, G, R> {
     // Looks for a task once.
     #[inline(always)]
-    fn look(&self, share: &mut Share<L>) -> Result<Given<'t, L>, Cause>
+    fn look(&self, lease: &mut Lease<'t>, share: &mut Share<L>) -> Result<Given<'t, L>, Cause>
+        requires lease { IsLeaseOf self.now.session.now lease.old }
         requires part { 0 < share.old.parts }
+        ensures lease { IsLeaseOf self.now.session.now lease.new }
         ensures part { share.new.parts ≡ share.old.parts }
     {
-        match self.shared.lock(self.rt).take(self.number, share) {
+        match self.shared.lock(self.rt).take(self.number, lease, share) {
             Ok(given) => Ok(given),
             Err(fault) => Err(cause_of(fault)),
         }
@@ -61,8 +64,14 @@ impl<'h, 't, L: RunLedger, M: Ledger, D: Ledger, G: Gate, R: Wait> Worker<'h, 't
 
     // Waits until there is a task, or none any more. Whoever waits counts as idle before it looks, so that a call for what it
     // doesn't see reaches it. Before that it rests, where enough others are awake.
-    fn wait_for_task(&self, share: &mut Share<L>) -> Result<Given<'t, L>, Cause>
+    fn wait_for_task(
+        &self,
+        lease: &mut Lease<'t>,
+        share: &mut Share<L>,
+    ) -> Result<Given<'t, L>, Cause>
+        requires lease { IsLeaseOf self.now.session.now lease.old }
         requires part { 0 < share.old.parts }
+        ensures lease { IsLeaseOf self.now.session.now lease.new }
         ensures part { share.new.parts ≡ share.old.parts }
     {
         let waiting = &self.shared.waiting;
@@ -70,7 +79,7 @@ impl<'h, 't, L: RunLedger, M: Ledger, D: Ledger, G: Gate, R: Wait> Worker<'h, 't
         for _ in self.rt.forever() {
             waiting.rest(self.rt);
             waiting.workers.enter();
-            let given = self.look(share);
+            let given = self.look(lease, share);
             if let Ok(Given::Nothing) = &given {
                 waiting.workers.wait(self.rt, &mut rest);
             }
@@ -84,16 +93,22 @@ impl<'h, 't, L: RunLedger, M: Ledger, D: Ledger, G: Gate, R: Wait> Worker<'h, 't
     }
 
     // The next task. None where the board is done or stopped. Where another could be taken, calls a worker for that.
-    fn next_task(&self, share: &mut Share<L>) -> Result<Option<RunTask<'t, L>>, Cause>
+    fn next_task(
+        &self,
+        lease: &mut Lease<'t>,
+        share: &mut Share<L>,
+    ) -> Result<Option<RunTask<'t, L>>, Cause>
+        requires lease { IsLeaseOf self.now.session.now lease.old }
         requires part { 0 < share.old.parts }
+        ensures lease { IsLeaseOf self.now.session.now lease.new }
         ensures part { share.new.parts ≡ share.old.parts }
     {
         let waiting = &self.shared.waiting;
         let given = if waiting.are_too_many() {
-            self.wait_for_task(share)
+            self.wait_for_task(lease, share)
         } else {
-            match self.look(share) {
-                Ok(Given::Nothing) => self.wait_for_task(share),
+            match self.look(lease, share) {
+                Ok(Given::Nothing) => self.wait_for_task(lease, share),
                 given => given,
             }
         };
@@ -277,10 +292,12 @@ impl<'h, 't, L: RunLedger, M: Ledger, D: Ledger, G: Gate, R: Wait> Worker<'h, 't
     fn work_on(
         &self,
         scratch: &mut Scratch,
+        lease: &mut Lease<'t>,
         putter: &mut Putter<RunBand<'t, L>>,
         share: &mut Share<L>,
         draws: &mut Share<D>,
     ) -> Result<(), Cause>
+        requires lease { IsLeaseOf self.now.session.now lease.old }
         requires part { (0 < share.old.parts) × (0 < draws.old.parts) }
         requires putter { IsPutterOf self.now.shared.now.mail putter.old }
         requires told { length putter.old.put ≤ draws.old.amount }
@@ -289,18 +306,18 @@ impl<'h, 't, L: RunLedger, M: Ledger, D: Ledger, G: Gate, R: Wait> Worker<'h, 't
         ensures part { (share.new.parts ≡ share.old.parts) × (draws.new.parts ≡ draws.old.parts) }
         ensures told { OnOk result (length putter.new.put ≤ draws.new.amount) }
     {
-        let mut next = self.next_task(share)?;
+        let mut next = self.next_task(lease, share)?;
         for _ in self.rt.forever() {
             let Some(task) = next else {
                 return Ok(());
             };
             let step = self.work_of(scratch, &task.task)?;
-            drop(task);
+            task.task.give_back(lease);
             let (delivered, retired) = self.deliver(step, putter, share, draws)?;
             if delivered == Delivered::Stopped {
                 return Ok(());
             }
-            next = self.next_task(share)?;
+            next = self.next_task(lease, share)?;
             drop(retired);
         }
         unreachable!()
@@ -336,8 +353,15 @@ pub fn work<'t, L: RunLedger, M: Ledger, D: Ledger, G: Gate, R: Wait>(
     };
     let (mut share, mut draws, mut putter) = (share, draws, putter);
     let mut scratch = Scratch::new(alloc);
+    let mut lease = Lease::new();
     let fault = worker
-        .work_on(&mut scratch, &mut putter, &mut share, &mut draws)
+        .work_on(
+            &mut scratch,
+            &mut lease,
+            &mut putter,
+            &mut share,
+            &mut draws,
+        )
         .err();
     if fault.is_some() {
         shared.stop(rt);

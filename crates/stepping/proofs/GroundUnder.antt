@@ -4,9 +4,9 @@ use Rattle.grid_world.specs.Grid.{Grid}
 use Rattle.grid_world.specs.Ground.{emptied}
 use Rattle.frame_parts.specs.Distances.{KnownOf, known_of}
 
-module _ (first : Grid) (k before : KnownOf) (on under : List Bool) (brought : k ≡ known_of before.ground on) (known : before ≡ known_of first under) where
-  pub known_on : k ≡ known_of first on
-  known_on = brought ∙ ap (λ (b : KnownOf). known_of b.ground on) known
+module _ (first : Grid) (k before : KnownOf) (on : List Bool) (brought : k ≡ known_of before.ground on) (known : before.ground ≡ first) where
+  pub known_on : k.ground ≡ first
+  known_on = ap (λ (b : KnownOf). b.ground) brought ∙ known
 
   pub ground_under : (w : Grid) → emptied first ≡ emptied w → emptied k.ground ≡ emptied w
-  ground_under w is = ap (λ (k : KnownOf). emptied k.ground) known_on ∙ is
+  ground_under w is = ap emptied known_on ∙ is

@@ -73,32 +73,25 @@ record IsSameBy (g h : Game) (f : ℕ) : Type 0 where
   signals_are : (k : ℕ) → suc k ≤ f → signals h.changes (suc k) ≡ signals g.changes (suc k)
 
 module _ (g h : Game) (f : ℕ) (same : IsSameBy g h f) where
+  -- what comes of the trees, the signals and the position before a frame
+  next_as : {A : Type 0} (by : List Plain → List Bool → Position → A) (n : ℕ) → suc n ≤ f → play h n ≡ play g n
+      → by h.trees (signals h.changes (suc n)) (play h n) ≡ by g.trees (signals g.changes (suc n)) (play g n)
+  next_as by n l before =
+      ap (λ ts. by ts (signals h.changes (suc n)) (play h n)) same.trees
+      ∙ ap (λ on. by g.trees on (play h n)) (same.signals_are n l)
+      ∙ ap (by g.trees (signals g.changes (suc n))) before
+
   play_by : (n : ℕ) → n ≤ f → play h n ≡ play g n
   play_by zero l = play_zero h ∙ ap (λ w. begun w h.trees) same.world ∙ ap (λ ts. begun g.world ts) same.trees ∙ sym (play_zero g)
-  play_by (suc n) l =
-      play_suc h n
-      ∙ ap (λ ts. turn_by ts (signals h.changes (suc n)) (play h n)) same.trees
-      ∙ ap (λ on. turn_by g.trees on (play h n)) (same.signals_are n l)
-      ∙ ap (turn_by g.trees (signals g.changes (suc n))) (play_by n (omega (arith, l)))
-      ∙ sym (play_suc g n)
+  play_by (suc n) l = play_suc h n ∙ next_as turn_by n l (play_by n (omega (arith, l))) ∙ sym (play_suc g n)
 
   text_as : (n : ℕ) → n ≤ f → frame_text h n ≡ frame_text g n
   text_as zero l = refl
-  text_as (suc n) l =
-      text_suc h n
-      ∙ ap (λ ts. text_by (suc n) ts (signals h.changes (suc n)) (play h n)) same.trees
-      ∙ ap (λ on. text_by (suc n) g.trees on (play h n)) (same.signals_are n l)
-      ∙ ap (text_by (suc n) g.trees (signals g.changes (suc n))) (play_by n (omega (arith, l)))
-      ∙ sym (text_suc g n)
+  text_as (suc n) l = text_suc h n ∙ next_as (text_by (suc n)) n l (play_by n (omega (arith, l))) ∙ sym (text_suc g n)
 
   statuses_as : (n : ℕ) → n ≤ f → statuses_at h n ≡ statuses_at g n
   statuses_as zero l = refl
-  statuses_as (suc n) l =
-      statuses_suc h n
-      ∙ ap (λ ts. statuses_by ts (signals h.changes (suc n)) (play h n)) same.trees
-      ∙ ap (λ on. statuses_by g.trees on (play h n)) (same.signals_are n l)
-      ∙ ap (statuses_by g.trees (signals g.changes (suc n))) (play_by n (omega (arith, l)))
-      ∙ sym (statuses_suc g n)
+  statuses_as (suc n) l = statuses_suc h n ∙ next_as statuses_by n l (play_by n (omega (arith, l))) ∙ sym (statuses_suc g n)
 
   texts_as : (n : ℕ) → n ≤ f → texts h n ≡ texts g n
   texts_as zero l = refl

@@ -13,8 +13,10 @@ use Rattle.bt_nodes.specs.Plain.{Kind, Seq, Fallback, Leaf, Plain, Not, Tries, T
 use Rattle.bt_nodes.specs.Sizes.{size}
 use Rattle.game_rules.specs.View.{View}
 use Rattle.game_rules.specs.Tick.{Reply, Gives, Stands, State, Result, gives, on, on_kind, goes, stops, number_of, put, follow, ask, verdict, tick, tick_line, tick_star, tick_all}
+use Rattle.stepping.specs.declared.counter.Counter.{Counter}
+use Rattle.stepping.specs.declared.counter.Counter.TheVariants as counts
 use Rattle.stepping.specs.Answered.{given, goes_on, has_answered, own, below, below_line, below_star, below_all, answered, written}
-use Rattle.stepping.specs.Observing.{Seen, reply_of, not_of, stops_at, counted, tried, ticked_on, wanting, with_want, with_number, with_try, with_tick, with_told, HasRoom, Observed}
+use Rattle.stepping.specs.Observing.{Seen, reply_of, not_of, stops_at, counted, tried, ticked_on, wanting, counting, with_want, with_number, with_count, given_up, with_told, HasRoom, Observed}
 use Rattle.stepping.proofs.Written.{written_more, length-written}
 
 abbrev result_of : Reply → State → Result
@@ -263,15 +265,16 @@ module _ (whole : Plain) where
       goes_in : past < k → nat_lt (number_of n a.state) k ≡ true
       goes_in l = let t : nat_lt past k ≡ true = grind (arith, l) in ap (λ x. nat_lt x k) (sym e) ∙ t
 
-      pub tries_full : k ≤ past → HasRoom whole a → Observed whole (tick v (Tries k c) n) (below v (Tries k c) n) a (Some Failure) a
-      tries_full l h = record {
-        result = ap (λ y. if y then tries_on (number_of n a.state) (tick v c (n + 1) a.state) else gives Failure a.state) (is_over l);
-        told = sym (ap tells_if (is_over l));
-        room = h;
+      pub gives_up : (by : Counter) (b : Seen) → k ≤ past → HasRoom whole a → b ≡ given_up by n a
+          → Observed whole (tick v (counting by k c) n) (below v (counting by k c) n) a (Some Failure) b
+      gives_up counts.Failures b l h is = record {
+        result =
+            ap (λ y. if y then tries_on (number_of n a.state) (tick v c (n + 1) a.state) else gives Failure a.state) (is_over l)
+            ∙ ap (λ (x : Seen). result_of (Gives Failure) x.state) (sym is);
+        told = ap (λ (x : Seen). x.told) is ∙ sym (ap tells_if (is_over l));
+        room = subst (HasRoom whole) (sym is) h;
       }
-
-      pub ticks_full : (b : Seen) → k ≤ past → HasRoom whole a → b ≡ with_number n 0 a → Observed whole (tick v (Ticks k c) n) (below v (Ticks k c) n) a (Some Failure) b
-      ticks_full b l h is = record {
+      gives_up counts.Ticks b l h is = record {
         result =
             ap (λ y. if y then ticks_on (number_of n a.state) (tick v c (n + 1) a.state) else gives Failure (put n 0 a.state)) (is_over l)
             ∙ ap (λ (x : Seen). result_of (Gives Failure) x.state) (sym is);
@@ -279,38 +282,40 @@ module _ (whole : Plain) where
         room = number_room a b n 0 h is;
       }
 
-      module _ (b d : Seen) (r : Option Status) (l : past < k) (child : Observed whole (tick v c (n + 1)) (answered v c (n + 1)) a r b) where
-        pub tries_child : d ≡ with_try n past r b → Observed whole (tick v (Tries k c) n) (below v (Tries k c) n) a r d
-        tries_child is = record {
-          result =
-              ap (λ y. if y then tries_on (number_of n a.state) (tick v c (n + 1) a.state) else gives Failure a.state) (goes_in l)
-              ∙ ap (tries_on (number_of n a.state)) child.result ∙ ap (λ p. tries_on p (result_of (reply_of r) b.state)) (sym e)
-              ∙ on_tries r n past b.state ∙ ap (λ (x : Seen). result_of (reply_of r) x.state) (sym is);
-          told = ap (λ (x : Seen). x.told) is ∙ child.told ∙ sym (ap tells_if (goes_in l));
-          room = subst (HasRoom whole) (sym is) (record { numbers = length-tried r n past b.state ∙ child.room.numbers; told = child.room.told });
-        }
-
-        pub ticks_child : d ≡ with_tick n past r b → Observed whole (tick v (Ticks k c) n) (below v (Ticks k c) n) a r d
-        ticks_child is = record {
-          result =
-              ap (λ y. if y then ticks_on (number_of n a.state) (tick v c (n + 1) a.state) else gives Failure (put n 0 a.state)) (goes_in l)
-              ∙ ap (ticks_on (number_of n a.state)) child.result ∙ ap (λ p. ticks_on p (result_of (reply_of r) b.state)) (sym e)
-              ∙ on_ticks r n past b.state ∙ ap (λ (x : Seen). result_of (reply_of r) x.state) (sym is);
-          told = ap (λ (x : Seen). x.told) is ∙ child.told ∙ sym (ap tells_if (goes_in l));
-          room = subst (HasRoom whole) (sym is) (record { numbers = length-ticked_on r n past b.state ∙ child.room.numbers; told = child.room.told });
-        }
+      pub counts_child : (by : Counter) (b d : Seen) (r : Option Status) → past < k → Observed whole (tick v c (n + 1)) (answered v c (n + 1)) a r b
+          → d ≡ with_count by n past r b → Observed whole (tick v (counting by k c) n) (below v (counting by k c) n) a r d
+      counts_child counts.Failures b d r l child is = record {
+        result =
+            ap (λ y. if y then tries_on (number_of n a.state) (tick v c (n + 1) a.state) else gives Failure a.state) (goes_in l)
+            ∙ ap (tries_on (number_of n a.state)) child.result ∙ ap (λ p. tries_on p (result_of (reply_of r) b.state)) (sym e)
+            ∙ on_tries r n past b.state ∙ ap (λ (x : Seen). result_of (reply_of r) x.state) (sym is);
+        told = ap (λ (x : Seen). x.told) is ∙ child.told ∙ sym (ap tells_if (goes_in l));
+        room = subst (HasRoom whole) (sym is) (record { numbers = length-tried r n past b.state ∙ child.room.numbers; told = child.room.told });
+      }
+      counts_child counts.Ticks b d r l child is = record {
+        result =
+            ap (λ y. if y then ticks_on (number_of n a.state) (tick v c (n + 1) a.state) else gives Failure (put n 0 a.state)) (goes_in l)
+            ∙ ap (ticks_on (number_of n a.state)) child.result ∙ ap (λ p. ticks_on p (result_of (reply_of r) b.state)) (sym e)
+            ∙ on_ticks r n past b.state ∙ ap (λ (x : Seen). result_of (reply_of r) x.state) (sym is);
+        told = ap (λ (x : Seen). x.told) is ∙ child.told ∙ sym (ap tells_if (goes_in l));
+        room = subst (HasRoom whole) (sym is) (record { numbers = length-ticked_on r n past b.state ∙ child.room.numbers; told = child.room.told });
+      }
 
     -- ---- nodes with no child
+
+    waits_if : (k n past : ℕ) (s : State) (y : Bool) → past ≡ number_of n s → nat_lt past k ≡ y
+        → tick v (Wait k) n s ≡ (if y then gives Running (put n (number_of n s + 1) s) else gives Success (put n 0 s))
+    waits_if k n past s y e t =
+        ap (λ z. if z then gives Running (put n (number_of n s + 1) s) else gives Success (put n 0 s)) (ap (λ x. nat_lt x k) (sym e) ∙ t)
 
     pub wait_runs : (k n past : ℕ) (a b : Seen) → past ≡ number_of n a.state → past < k → HasRoom whole a → b ≡ with_number n (past + 1) a
         → Observed whole (tick v (Wait k) n) (λ s. []) a (Some Running) b
     wait_runs k n past a b e l h is =
         let t : nat_lt past k ≡ true = grind (arith, l) in
-        let lt : nat_lt (number_of n a.state) k ≡ true = ap (λ x. nat_lt x k) (sym e) ∙ t in
         record {
           result =
-              ap (λ y. if y then gives Running (put n (number_of n a.state + 1) a.state) else gives Success (put n 0 a.state)) lt
-              ∙ ap (λ x. gives Running (put n (x + 1) a.state)) (sym e) ∙ ap (λ (x : Seen). result_of (Gives Running) x.state) (sym is);
+              waits_if k n past a.state true e t ∙ ap (λ x. gives Running (put n (x + 1) a.state)) (sym e)
+              ∙ ap (λ (x : Seen). result_of (Gives Running) x.state) (sym is);
           told = ap (λ (x : Seen). x.told) is;
           room = number_room a b n (past + 1) h is;
         }
@@ -319,11 +324,8 @@ module _ (whole : Plain) where
         → Observed whole (tick v (Wait k) n) (λ s. []) a (Some Success) b
     wait_over k n past a b e l h is =
         let t : nat_lt past k ≡ false = grind (arith, l) in
-        let lt : nat_lt (number_of n a.state) k ≡ false = ap (λ x. nat_lt x k) (sym e) ∙ t in
         record {
-          result =
-              ap (λ y. if y then gives Running (put n (number_of n a.state + 1) a.state) else gives Success (put n 0 a.state)) lt
-              ∙ ap (λ (x : Seen). result_of (Gives Success) x.state) (sym is);
+          result = waits_if k n past a.state false e t ∙ ap (λ (x : Seen). result_of (Gives Success) x.state) (sym is);
           told = ap (λ (x : Seen). x.told) is;
           room = number_room a b n 0 h is;
         }

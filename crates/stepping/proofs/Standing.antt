@@ -7,7 +7,9 @@ use Rattle.bt_nodes.specs.declared.node.Node.{Node}
 use Rattle.bt_nodes.proofs.AtLeastOne.{one-le-size}
 use Rattle.bt_nodes.proofs.SizeTables.{length-subtree_sizes}
 use Rattle.bt_tick.specs.Places.{Segment}
-use Rattle.stepping.specs.Observing.{StandsAt, StandAt, IsFirst}
+use Rattle.stepping.specs.declared.counter.Counter.{Counter}
+use Rattle.stepping.specs.declared.counter.Counter.TheVariants as counts
+use Rattle.stepping.specs.Observing.{counting, StandsAt, StandAt, IsFirst}
 
 module _ (all : List ℕ) where
   behind : (n b : ℕ) (part : List ℕ) → Segment all n (b ∷ part) → Segment all (n + 1) part
@@ -56,6 +58,15 @@ module _ (whole : Plain) where
   -- the children of a node with the number n
   pub below : (n b : ℕ) (part : List ℕ) → Segment (subtree_sizes whole) n (b ∷ part) → Segment (subtree_sizes whole) (n + 1) part
   below n b part h = behind (subtree_sizes whole) n b part h
+
+  -- the child of a decorator that counts
+  pub counted_stands : (by : Counter) (most : ℕ) (c : Plain) (n : ℕ) → StandsAt whole n (counting by most c) → StandsAt whole (n + 1) c
+  counted_stands counts.Failures most c n h = below n _ _ h
+  counted_stands counts.Ticks most c n h = below n _ _ h
+
+  pub counted_within : (by : Counter) (most : ℕ) (c : Plain) (n : ℕ) → StandsAt whole n (counting by most c) → n + suc (size c) ≤ size whole
+  counted_within counts.Failures most c n h = within (Tries most c) n h
+  counted_within counts.Ticks most c n h = within (Ticks most c) n h
 
   first_child : (c : Plain) (cs : Forest) (n : ℕ) → StandAt whole n (tree c cs) → StandsAt whole n c
   first_child c cs n h = left (subtree_sizes whole) n (subtree_sizes c) (subtree_sizes_all cs) h

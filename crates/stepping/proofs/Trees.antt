@@ -17,12 +17,10 @@ tree_bytes-listed : (p : Plain) → None ≡ decorated p → tree_bytes p ≡ no
 tree_bytes-listed (Composite kind children) e = refl
 tree_bytes-listed (Star kind children) e = refl
 tree_bytes-listed (Par m children) e = refl
-tree_bytes-listed (Not d) e = absurd (cc)
-tree_bytes-listed (Tries n d) e = absurd (cc)
-tree_bytes-listed (Ticks n d) e = absurd (cc)
 tree_bytes-listed (Wait n) e = sym (append-nil (node_bytes (Wait n) 0))
 tree_bytes-listed (Move q) e = sym (append-nil (node_bytes (Move q) 0))
 tree_bytes-listed (Does leaf) e = sym (append-nil (node_bytes (Does leaf) 0))
+tree_bytes-listed _ e = absurd (cc)
 
 module _ (h root r : ℕ) (p : Plain) where
   pub decorated_in : (c : Plain) → Some c ≡ decorated p → root ≡ fnv_all h (node_bytes p 1) → r ≡ fnv_all root (tree_bytes c) → r ≡ fnv_all h (tree_bytes p)

@@ -4,12 +4,16 @@ use Rattle.grid_world.specs.declared.cell.Answer.{Answer}
 use Rattle.grid_world.specs.declared.cell.Intent.{Intent}
 use Rattle.bt_nodes.specs.declared.node.Status.{Status}
 use Rattle.bt_nodes.specs.declared.node.Status.TheVariants.{Success, Failure, Running}
-use Rattle.bt_nodes.specs.Plain.{Kind, Seq, Fallback, Plain, Forest, tree}
+use Rattle.bt_nodes.specs.Plain.{Kind, Seq, Fallback, Plain, Tries, Ticks, Forest, tree}
 use Rattle.bt_nodes.specs.Sizes.{size, sizes, subtree_sizes, subtree_sizes_all}
+use Rattle.bt_nodes.specs.Trees.{plain_of}
 use Rattle.game_rules.specs.Tick.{Reply, Gives, Stands, State, Result, put, want}
 use Rattle.bt_tick.specs.Places.{Segment}
 use Rattle.stepping.specs.Answered.{given, written}
+use Rattle.stepping.specs.declared.observer.Observer.{Observer}
 use Rattle.stepping.specs.declared.progress.Progress.{Progress}
+use Rattle.stepping.specs.declared.counter.Counter.{Counter}
+use Rattle.stepping.specs.declared.counter.Counter.TheVariants as counts
 use Rattle.stepping.specs.declared.order.Order.{Order}
 use Rattle.stepping.specs.declared.order.Order.TheVariants as order
 
@@ -31,6 +35,11 @@ reply_of None = Stands
 abbrev pub kind_of : Order → Kind
 kind_of order.Seq = Seq
 kind_of order.Fallback = Fallback
+
+-- the decorator that counts this
+abbrev pub counting : Counter → ℕ → Plain → Plain
+counting counts.Failures most child = Tries most child
+counting counts.Ticks most child = Ticks most child
 
 -- what a not makes of its child's answer
 abbrev pub not_of : Option Status → Option Status
@@ -72,11 +81,14 @@ ticked_on n past (Some Failure) s = put n 0 s
 ticked_on n past (Some Running) s = put n (past + 1) s
 ticked_on n past None s = s
 
-abbrev pub with_try : (n failed : ℕ) → Option Status → Seen → Seen
-with_try n failed reply s = record s { state = tried n failed reply s.state }
+abbrev pub with_count : Counter → (n past : ℕ) → Option Status → Seen → Seen
+with_count counts.Failures n past reply s = record s { state = tried n past reply s.state }
+with_count counts.Ticks n past reply s = record s { state = ticked_on n past reply s.state }
 
-abbrev pub with_tick : (n past : ℕ) → Option Status → Seen → Seen
-with_tick n past reply s = record s { state = ticked_on n past reply s.state }
+-- and where its number has come to the most
+abbrev pub given_up : Counter → ℕ → Seen → Seen
+given_up counts.Failures n s = s
+given_up counts.Ticks n s = with_number n 0 s
 
 -- what a leaf of this status and this intent wants
 abbrev pub wanting : Status → Intent → State → State
@@ -95,6 +107,10 @@ pub record Observed (whole : Plain) (part : State → Result) (tells : State →
   pub result : part old.state ≡ record { reply = reply_of reply; state = new.state }
   pub told : new.told ≡ written (tells old.state) old.told
   pub room : HasRoom whole new
+
+-- such a part, as an observer comes to it
+abbrev pub Observes : Observer → (State → Result) → (State → List (ℕ × Status)) → Progress → Option Status → Progress → Type 0
+Observes o part tells old reply new = Observed (plain_of o.tree.now) part tells (seen o.answers.now old) reply (seen o.answers.now new)
 
 -- a node, or some behind one another, with the number n in a whole tree: the sizes of the subtrees from n on are theirs
 abbrev pub StandsAt : Plain → ℕ → Plain → Type 0

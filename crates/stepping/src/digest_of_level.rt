@@ -38,53 +38,30 @@ fn with_grounds(hash: u64, cells: &[Cell]) -> u64
     so_far
 }
 
-fn kind_code(node: &Node<Global>) -> u8
-    ensures { result ≡ kind_code (plain node.now) }
+// The code of a node's kind, and the number that stands in the node, or 0.
+fn kind_and_number(node: &Node<Global>) -> (u8, u64)
+    ensures kind { result.0 ≡ kind_code (plain node.now) }
+    ensures number { result.1 ≡ unwrap_or (number_of (plain node.now)) 0 }
 {
     match node {
-        Node::Seq(_) => 0,
-        Node::Fallback(_) => 1,
-        Node::SeqStar(_) => 2,
-        Node::FallbackStar(_) => 3,
-        Node::Par(_, _) => 4,
-        Node::Not(_) => 5,
-        Node::Tries(_, _) => 6,
-        Node::Ticks(_, _) => 7,
-        Node::Wait(_) => 8,
-        Node::Move(_) => 9,
-        Node::Take => 10,
-        Node::Drop => 11,
-        Node::At(_) => 12,
-        Node::Carrying => 13,
-        Node::Item => 14,
-        Node::Signal(_) => 15,
-        Node::Near(_) => 16,
-        Node::Give(_) => 17,
-    }
-}
-
-// The number that stands in a node, or 0.
-fn number_in(node: &Node<Global>) -> u64
-    ensures { result ≡ unwrap_or (number_of (plain node.now)) 0 }
-{
-    match node {
-        Node::Par(number, _)
-        | Node::Tries(number, _)
-        | Node::Ticks(number, _)
-        | Node::Wait(number)
-        | Node::Near(number) => *number,
-        Node::Move(place) | Node::At(place) => u64::from(place.number()),
-        Node::Signal(signal) => u64::from(signal.number()),
-        Node::Give(letter) => u64::from(letter.number()),
-        Node::Seq(_)
-        | Node::Fallback(_)
-        | Node::SeqStar(_)
-        | Node::FallbackStar(_)
-        | Node::Not(_)
-        | Node::Take
-        | Node::Drop
-        | Node::Carrying
-        | Node::Item => 0,
+        Node::Seq(_) => (0, 0),
+        Node::Fallback(_) => (1, 0),
+        Node::SeqStar(_) => (2, 0),
+        Node::FallbackStar(_) => (3, 0),
+        Node::Par(number, _) => (4, *number),
+        Node::Not(_) => (5, 0),
+        Node::Tries(number, _) => (6, *number),
+        Node::Ticks(number, _) => (7, *number),
+        Node::Wait(number) => (8, *number),
+        Node::Move(place) => (9, u64::from(place.number())),
+        Node::Take => (10, 0),
+        Node::Drop => (11, 0),
+        Node::At(place) => (12, u64::from(place.number())),
+        Node::Carrying => (13, 0),
+        Node::Item => (14, 0),
+        Node::Signal(signal) => (15, u64::from(signal.number())),
+        Node::Near(number) => (16, *number),
+        Node::Give(letter) => (17, u64::from(letter.number())),
     }
 }
 
@@ -92,9 +69,9 @@ fn number_in(node: &Node<Global>) -> u64
 fn with_node(hash: u64, node: &Node<Global>, children: u64) -> u64
     ensures { result ≡ fnv_all hash (node_bytes (plain node.now) children) }
 {
-    let kind = with_byte(hash, kind_code(node));
-    let number = with_two(kind, number_in(node));
-    with_byte(number, (children % 256) as u8)
+    let (kind, number) = kind_and_number(node);
+    let own = with_two(with_byte(hash, kind), number);
+    with_byte(own, (children % 256) as u8)
 }
 
 // With a node and those below it, in preorder.

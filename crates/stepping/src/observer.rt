@@ -1,13 +1,14 @@
 // A tick once more, node by node, that writes down what each node answers.
 ghost use Rattle.std.specs.Prelude.{◌≡◌, ◌+◌, ◌≤◌, ◌<◌, ◌^◌, ℕ, [], None, IfOk, IfSome};
-ghost use Rattle.bt_nodes.specs.Plain.{Leaf, Does, Move, Tries, Ticks, Wait, none, plain, plains};
+ghost use Rattle.bt_nodes.specs.Plain.{Leaf, Does, Move, Wait, none, plain, plains};
 ghost use Rattle.bt_nodes.specs.Sizes.{size};
 ghost use Rattle.bt_nodes.specs.Trees.{plain_of};
 ghost use Rattle.bt_tick.specs.Views.{view_of, IsInWorld};
 ghost use Rattle.game_rules.specs.Tick.{tick, tick_line, tick_star, tick_all, verdict};
 ghost use Rattle.stepping.specs.Answered.{below, below_line, below_star, below_all, answered};
-ghost use Rattle.stepping.specs.Observing.{seen, kind_of, not_of, counted, HasRoom, Observed, StandsAt, StandAt, IsFirst};
+ghost use Rattle.stepping.specs.Observing.{seen, kind_of, not_of, counted, counting, HasRoom, Observes, StandsAt, StandAt, IsFirst};
 
+use crate::counter::Counter;
 use crate::leaf::leaf;
 use crate::order::Order;
 use crate::progress::Progress;
@@ -65,9 +66,7 @@ impl Observer<'_, '_, '_, '_> {
     // Ticks a `Move`: takes the next answer.
     fn follow(&self, at: &mut Progress, place: Place) -> Result<Option<Status>, AllocError>
         requires room { HasRoom (plain_of self.now.tree.now) (seen self.now.answers.now at.old) }
-        ensures { IfOk result (λ reply. (n : ℕ) →
-            Observed (plain_of self.now.tree.now) (tick (view_of self.now.view.now) (Move place) n) (λ s. [])
-            (seen self.now.answers.now at.old) reply (seen self.now.answers.now at.new)) }
+        ensures { IfOk result (λ reply. (n : ℕ) → Observes self.now (tick (view_of self.now.view.now) (Move place) n) (λ s. []) at.old reply at.new) }
     {
         at.asked.push(place)?;
         let Some(answer) = self.answers.get(at.used) else {
@@ -89,9 +88,7 @@ impl Observer<'_, '_, '_, '_> {
         requires view { IsInWorld self.now.view.now }
         requires leaf { (leaf : Leaf) × (plain node.now ≡ Does leaf) }
         requires room { HasRoom (plain_of self.now.tree.now) (seen self.now.answers.now at.old) }
-        ensures { IfOk result (λ reply. (n : ℕ) →
-            Observed (plain_of self.now.tree.now) (tick (view_of self.now.view.now) (plain node.now) n) (λ s. [])
-            (seen self.now.answers.now at.old) reply (seen self.now.answers.now at.new)) }
+        ensures { IfOk result (λ reply. (n : ℕ) → Observes self.now (tick (view_of self.now.view.now) (plain node.now) n) (λ s. []) at.old reply at.new) }
     {
         let (status, intent) = leaf(self.alloc, self.view, node)?;
         if let Status::Running = status {
@@ -104,8 +101,7 @@ impl Observer<'_, '_, '_, '_> {
     fn wait(&self, at: &mut Progress, most: u64, number: u64) -> Option<Status>
         requires stands { StandsAt (plain_of self.now.tree.now) number (Wait most) }
         requires room { HasRoom (plain_of self.now.tree.now) (seen self.now.answers.now at.old) }
-        ensures { Observed (plain_of self.now.tree.now) (tick (view_of self.now.view.now) (Wait most) number) (λ s. [])
-            (seen self.now.answers.now at.old) result (seen self.now.answers.now at.new) }
+        ensures { Observes self.now (tick (view_of self.now.view.now) (Wait most) number) (λ s. []) at.old result at.new }
     {
         let past = at.number(number);
         if past < most {
@@ -145,9 +141,8 @@ impl Observer<'_, '_, '_, '_> {
         requires view { IsInWorld self.now.view.now }
         requires stands { StandsAt (plain_of self.now.tree.now) number (plain node.now) }
         requires room { HasRoom (plain_of self.now.tree.now) (seen self.now.answers.now at.old) }
-        ensures { IfOk result (λ reply.
-            Observed (plain_of self.now.tree.now) (tick (view_of self.now.view.now) (plain node.now) number) (answered (view_of self.now.view.now) (plain node.now) number)
-            (seen self.now.answers.now at.old) reply (seen self.now.answers.now at.new)) }
+        ensures { IfOk result (λ reply. Observes self.now
+            (tick (view_of self.now.view.now) (plain node.now) number) (answered (view_of self.now.view.now) (plain node.now) number) at.old reply at.new) }
     {
         let reply = self.tick(at, node, number)?;
         at.tell(number, reply);
@@ -165,9 +160,8 @@ impl Observer<'_, '_, '_, '_> {
         requires view { IsInWorld self.now.view.now }
         requires stands { StandsAt (plain_of self.now.tree.now) number (plain node.now) }
         requires room { HasRoom (plain_of self.now.tree.now) (seen self.now.answers.now at.old) }
-        ensures { IfOk result (λ reply.
-            Observed (plain_of self.now.tree.now) (tick (view_of self.now.view.now) (plain node.now) number) (below (view_of self.now.view.now) (plain node.now) number)
-            (seen self.now.answers.now at.old) reply (seen self.now.answers.now at.new)) }
+        ensures { IfOk result (λ reply. Observes self.now
+            (tick (view_of self.now.view.now) (plain node.now) number) (below (view_of self.now.view.now) (plain node.now) number) at.old reply at.new) }
     {
         let below = number + 1;
         let own = at.number(number);
@@ -185,8 +179,10 @@ impl Observer<'_, '_, '_, '_> {
                 Ok(self.all(at, children, *most, count, 0, 0, below)?)
             }
             Node::Not(child) => Ok(opposite(self.observe(at, child, below)?)),
-            Node::Tries(most, child) => Ok(self.tries(at, *most, child, number)?),
-            Node::Ticks(most, child) => Ok(self.ticks(at, *most, child, number)?),
+            Node::Tries(most, child) => {
+                Ok(self.count(at, Counter::Failures, *most, child, number)?)
+            }
+            Node::Ticks(most, child) => Ok(self.count(at, Counter::Ticks, *most, child, number)?),
             Node::Wait(most) => Ok(self.wait(at, *most, number)),
             Node::Move(place) => Ok(self.follow(at, *place)?),
             Node::Take
@@ -200,52 +196,29 @@ impl Observer<'_, '_, '_, '_> {
         }
     }
 
+    // A decorator that counts, and fails without its child where its number has come to `most`.
     #[cycle(observe)]
-    fn tries(
+    fn count(
         &self,
         at: &mut Progress,
+        by: Counter,
         most: u64,
         child: &Node<Global>,
         number: u64,
     ) -> Result<Option<Status>, AllocError>
         requires view { IsInWorld self.now.view.now }
-        requires stands { StandsAt (plain_of self.now.tree.now) number (Tries most (plain child.now)) }
+        requires stands { StandsAt (plain_of self.now.tree.now) number (counting by most (plain child.now)) }
         requires room { HasRoom (plain_of self.now.tree.now) (seen self.now.answers.now at.old) }
-        ensures { IfOk result (λ reply.
-            Observed (plain_of self.now.tree.now) (tick (view_of self.now.view.now) (Tries most (plain child.now)) number) (below (view_of self.now.view.now) (Tries most (plain child.now)) number)
-            (seen self.now.answers.now at.old) reply (seen self.now.answers.now at.new)) }
-    {
-        let failed = at.number(number);
-        if failed >= most {
-            return Ok(Some(Status::Failure));
-        }
-        let reply = self.observe(at, child, number + 1)?;
-        at.put_try(number, failed, reply);
-        Ok(reply)
-    }
-
-    #[cycle(observe)]
-    fn ticks(
-        &self,
-        at: &mut Progress,
-        most: u64,
-        child: &Node<Global>,
-        number: u64,
-    ) -> Result<Option<Status>, AllocError>
-        requires view { IsInWorld self.now.view.now }
-        requires stands { StandsAt (plain_of self.now.tree.now) number (Ticks most (plain child.now)) }
-        requires room { HasRoom (plain_of self.now.tree.now) (seen self.now.answers.now at.old) }
-        ensures { IfOk result (λ reply.
-            Observed (plain_of self.now.tree.now) (tick (view_of self.now.view.now) (Ticks most (plain child.now)) number) (below (view_of self.now.view.now) (Ticks most (plain child.now)) number)
-            (seen self.now.answers.now at.old) reply (seen self.now.answers.now at.new)) }
+        ensures { IfOk result (λ reply. Observes self.now
+            (tick (view_of self.now.view.now) (counting by most (plain child.now)) number) (below (view_of self.now.view.now) (counting by most (plain child.now)) number) at.old reply at.new) }
     {
         let past = at.number(number);
         if past >= most {
-            at.put(number, 0);
+            at.give_up(by, number);
             return Ok(Some(Status::Failure));
         }
         let reply = self.observe(at, child, number + 1)?;
-        at.put_tick(number, past, reply);
+        at.count(by, number, past, reply);
         Ok(reply)
     }
 
@@ -261,9 +234,8 @@ impl Observer<'_, '_, '_, '_> {
         requires view { IsInWorld self.now.view.now }
         requires stand { StandAt (plain_of self.now.tree.now) number (plains nodes.now) }
         requires room { HasRoom (plain_of self.now.tree.now) (seen self.now.answers.now at.old) }
-        ensures { IfOk result (λ reply.
-            Observed (plain_of self.now.tree.now) (tick_line (view_of self.now.view.now) (plains nodes.now) (kind_of order) number) (below_line (view_of self.now.view.now) (plains nodes.now) (kind_of order) number)
-            (seen self.now.answers.now at.old) reply (seen self.now.answers.now at.new)) }
+        ensures { IfOk result (λ reply. Observes self.now
+            (tick_line (view_of self.now.view.now) (plains nodes.now) (kind_of order) number) (below_line (view_of self.now.view.now) (plains nodes.now) (kind_of order) number) at.old reply at.new) }
     {
         let Some((node, rest, next)) = self.first(nodes, number) else {
             return Ok(Some(order.goes()));
@@ -292,9 +264,8 @@ impl Observer<'_, '_, '_, '_> {
         requires room { HasRoom (plain_of self.now.tree.now) (seen self.now.answers.now at.old) }
         requires own { own < size (plain_of self.now.tree.now) }
         requires few { index < number }
-        ensures { IfOk result (λ reply.
-            Observed (plain_of self.now.tree.now) (tick_star (view_of self.now.view.now) (plains nodes.now) (kind_of order) passed index own number) (below_star (view_of self.now.view.now) (plains nodes.now) (kind_of order) passed index own number)
-            (seen self.now.answers.now at.old) reply (seen self.now.answers.now at.new)) }
+        ensures { IfOk result (λ reply. Observes self.now
+            (tick_star (view_of self.now.view.now) (plains nodes.now) (kind_of order) passed index own number) (below_star (view_of self.now.view.now) (plains nodes.now) (kind_of order) passed index own number) at.old reply at.new) }
     {
         let Some((node, rest, next)) = self.first(nodes, number) else {
             at.put(own, 0);
@@ -330,9 +301,8 @@ impl Observer<'_, '_, '_, '_> {
         requires stand { StandAt (plain_of self.now.tree.now) number (plains nodes.now) }
         requires room { HasRoom (plain_of self.now.tree.now) (seen self.now.answers.now at.old) }
         requires few { won + lost < number }
-        ensures { IfOk result (λ reply.
-            Observed (plain_of self.now.tree.now) (tick_all (view_of self.now.view.now) (plains nodes.now) most count won lost number) (below_all (view_of self.now.view.now) (plains nodes.now) number)
-            (seen self.now.answers.now at.old) reply (seen self.now.answers.now at.new)) }
+        ensures { IfOk result (λ reply. Observes self.now
+            (tick_all (view_of self.now.view.now) (plains nodes.now) most count won lost number) (below_all (view_of self.now.view.now) (plains nodes.now) number) at.old reply at.new) }
     {
         let Some((node, rest, next)) = self.first(nodes, number) else {
             return Ok(Some(verdict(most, count, won, lost)));

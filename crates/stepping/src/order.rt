@@ -27,21 +27,19 @@ impl Order {
     pub(crate) fn goes_on(self, reply: Option<Status>) -> bool
         ensures { result ≡ goes_on (kind_of self) (reply_of reply) }
     {
-        match (self, reply) {
-            (Order::Seq, Some(Status::Success)) => true,
-            (Order::Fallback, Some(Status::Failure)) => true,
-            _ => false,
-        }
+        matches!(
+            (self, reply),
+            (Order::Seq, Some(Status::Success)) | (Order::Fallback, Some(Status::Failure))
+        )
     }
 
     /// Whether the node has come to its end before its last child.
     pub(crate) fn stops(self, reply: Option<Status>) -> bool
         ensures { result ≡ stops_at (kind_of self) (reply_of reply) }
     {
-        match (self, reply) {
-            (Order::Seq, Some(Status::Failure)) => true,
-            (Order::Fallback, Some(Status::Success)) => true,
-            _ => false,
-        }
+        matches!(
+            (self, reply),
+            (Order::Seq, Some(Status::Failure)) | (Order::Fallback, Some(Status::Success))
+        )
     }
 }

@@ -3,8 +3,9 @@ ghost use Rattle.grid_world.specs.declared.cell.Answer.{Answer};
 ghost use Rattle.bt_nodes.specs.Bounds.{Fits};
 ghost use Rattle.bt_nodes.specs.Sizes.{size};
 ghost use Rattle.bt_nodes.specs.Trees.{plain_of};
-ghost use Rattle.stepping.specs.Observing.{seen, with_number, with_try, with_tick, with_want, with_told};
+ghost use Rattle.stepping.specs.Observing.{seen, with_number, with_count, given_up, with_want, with_told};
 
+use crate::counter::Counter;
 use bt_nodes::{Status, Tree};
 use bt_tick::Memory;
 use grid_world::{Intent, Place};
@@ -74,31 +75,30 @@ impl Progress {
         self.numbers[node as usize] = number;
     }
 
-    /// Counts a failure of a `Tries`' child, where so many were counted.
-    pub(crate) fn put_try(&mut self, node: u64, failed: u64, reply: Option<Status>)
+    /// Counts a tick of a decorator's child, where so many were counted, by what the child has answered. Ticks are counted anew
+    /// where it has ended.
+    pub(crate) fn count(&mut self, by: Counter, node: u64, past: u64, reply: Option<Status>)
         requires node { node < length self.old.numbers.items }
-        requires few { failed + 1 < 2 ^ 64 }
-        ensures { (answers : List Answer) → seen answers self.new ≡ with_try node failed reply (seen answers self.old) }
+        requires few { past + 1 < 2 ^ 64 }
+        ensures { (answers : List Answer) → seen answers self.new ≡ with_count by node past reply (seen answers self.old) }
     {
-        match reply {
-            Some(Status::Failure) => self.put(node, failed + 1),
-            Some(Status::Success) => {}
-            Some(Status::Running) => {}
-            None => {}
+        match (by, reply) {
+            (Counter::Failures, Some(Status::Failure)) => self.put(node, past + 1),
+            (Counter::Failures, _) => {}
+            (Counter::Ticks, Some(Status::Running)) => self.put(node, past + 1),
+            (Counter::Ticks, Some(_)) => self.put(node, 0),
+            (Counter::Ticks, None) => {}
         }
     }
 
-    /// Counts a tick of a `Ticks`' child, where so many were counted, or begins anew where the child has ended.
-    pub(crate) fn put_tick(&mut self, node: u64, past: u64, reply: Option<Status>)
-        requires node { node < length self.old.numbers.items }
-        requires few { past + 1 < 2 ^ 64 }
-        ensures { (answers : List Answer) → seen answers self.new ≡ with_tick node past reply (seen answers self.old) }
+    /// Lets a decorator fail whose number has come to its most: ticks are counted anew, failures are not.
+    pub(crate) fn give_up(&mut self, by: Counter, node: u64)
+        requires { node < length self.old.numbers.items }
+        ensures { (answers : List Answer) → seen answers self.new ≡ given_up by node (seen answers self.old) }
     {
-        match reply {
-            Some(Status::Running) => self.put(node, past + 1),
-            Some(Status::Success) => self.put(node, 0),
-            Some(Status::Failure) => self.put(node, 0),
-            None => {}
+        match by {
+            Counter::Failures => {}
+            Counter::Ticks => self.put(node, 0),
         }
     }
 

@@ -4,6 +4,7 @@ ghost use Rattle.std.specs.List.{flat_map};
 ghost use Rattle.grid_world.specs.Grid.{agent_of, has_item};
 ghost use Rattle.grid_world.specs.Map.{count_up};
 ghost use Rattle.grid_world.specs.World.{point};
+ghost use Rattle.game_rules.specs.Text.{status_letter};
 ghost use Rattle.stepping.specs.StateText.{letters, signals_line, answer_text, memory_text, agent_line, agent_lines, item_line, item_lines, state_head, state_text, IsState};
 
 use crate::played::Stepping;
@@ -45,15 +46,24 @@ fn push_signals(text: &mut Vec<u8>, word: &[u8], signals: Signals) -> Result<(),
     text.extend_from_slice(b"\n")
 }
 
+/// Appends the letter of a status, as frames show it.
+pub fn push_status(text: &mut Vec<u8>, status: Status) -> Result<(), AllocError>
+    ensures { OnOk result (text.new.items ≡ text.old.items ++ status_letter status) }
+{
+    text.extend_from_slice(match status {
+        Status::Success => b"S",
+        Status::Failure => b"F",
+        Status::Running => b"R",
+    })
+}
+
 fn push_answer(text: &mut Vec<u8>, answer: Option<Status>) -> Result<(), AllocError>
     ensures { OnOk result (text.new.items ≡ text.old.items ++ answer_text answer) }
 {
-    text.extend_from_slice(match answer {
-        None => b"-",
-        Some(Status::Success) => b"S",
-        Some(Status::Failure) => b"F",
-        Some(Status::Running) => b"R",
-    })
+    match answer {
+        None => text.extend_from_slice(b"-"),
+        Some(status) => push_status(text, status),
+    }
 }
 
 fn push_memory(text: &mut Vec<u8>, memory: &Memory, size: u64) -> Result<(), AllocError>

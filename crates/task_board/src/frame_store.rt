@@ -9,6 +9,7 @@ ghost use Rattle.board_model.specs.Needed.{HasParts, HasTurn, IsInSlot, IsAsked}
 ghost use Rattle.frame_state.specs.Names.{frame_of, logic_of};
 ghost use Rattle.frame_state.specs.Logic.{IsRoomIn};
 ghost use Rattle.frame_params.specs.Tasks.{IsTaskAt};
+ghost use Rattle.frame_params.specs.Leases.{IsLeaseOf};
 ghost use Rattle.task_board.specs.FrameStore.{Stores, IsWanted, IsBeforeLast, next_done, sizes};
 ghost use Rattle.task_board.specs.Dones.{game_done, job_done};
 
@@ -18,8 +19,8 @@ use super::retired::Retired;
 use super::shown::Shown;
 use super::thoughts::Thoughts;
 use frame_params::{
-    DrawTask, FrameParams, FrameStart, Gathering, LogicTask, NextFrame, Parked, PathTask, Slots,
-    Task, ThinkTask, Turn, Way,
+    DrawTask, FrameParams, FrameStart, Gathering, Lease, LogicTask, NextFrame, Parked, PathTask,
+    Slots, Task, ThinkTask, Turn, TurnedWorld, Way,
 };
 use game_session::Session;
 use job_core::names::JobName;
@@ -178,49 +179,87 @@ impl<'t> FrameStore<'t> {
         self.thoughts.logic(alloc, self.params(frame))
     }
 
+    // What a frame that is in its slot starts from: as it is leased, or counted once more.
+    #[inline(always)]
+    fn start_of(&self, frame: u32, lease: &mut Lease<'t>) -> Result<Arc<FrameStart<'t>>, AllocError>
+        requires slot { IsInSlot (sizes self.now) self.now.stored frame }
+        requires lease { IsLeaseOf self.now.game lease.old }
+        ensures start { IfOk result (λ start. arc_value start ≡ frame_of self.now.game frame) }
+        ensures lease { IsLeaseOf self.now.game lease.new }
+    {
+        match lease.take_start(frame) {
+            Some(start) => Ok(start),
+            None => Ok(self.params(frame).share()?),
+        }
+    }
+
+    // The world after a frame that is not shown yet, likewise.
+    #[inline(always)]
+    fn world_of(&self, frame: u32, lease: &mut Lease<'t>) -> Result<TurnedWorld<'t>, AllocError>
+        requires turn { HasTurn (sizes self.now) self.now.stored frame }
+        requires lease { IsLeaseOf self.now.game lease.old }
+        ensures world { IfOk result (λ world. world ≡ frame_of self.now.game frame) }
+        ensures lease { IsLeaseOf self.now.game lease.new }
+    {
+        match lease.take_world(frame) {
+            Some(world) => Ok(world),
+            None => Ok(self.turn_of(frame).share_world()?),
+        }
+    }
+
     // The task of an agent's thought that stands at this step.
     #[inline(always)]
     fn think_task(
         &self,
-        alloc: Global,
         frame: u32,
         agent: u32,
         step: u32,
+        lease: &mut Lease<'t>,
     ) -> Result<ThinkTask<'t>, AllocError>
-        requires { HasParts (sizes self.now) self.now.stored (JobName.Think frame agent) step }
-        ensures { IfOk result (λ task. IsTaskAt self.now.game (JobName.Think frame agent) step (Task.Think task)) }
+        requires parts { HasParts (sizes self.now) self.now.stored (JobName.Think frame agent) step }
+        requires lease { IsLeaseOf self.now.game lease.old }
+        ensures task { IfOk result (λ task. IsTaskAt self.now.game (JobName.Think frame agent) step (Task.Think task)) }
+        ensures lease { IsLeaseOf self.now.game lease.new }
     {
-        let params = self.params(frame);
+        let start = self.start_of(frame, lease)?;
         if step == 0 {
-            return ThinkTask::start(alloc, params, agent);
+            return Ok(ThinkTask::start_with(start, agent));
         }
         let asking = self.asking_of(agent);
-        let task = ThinkTask::resume(alloc, params, asking.parked(), asking.way())?;
+        let task = ThinkTask::resume_with(start, asking.parked(), asking.way())?;
         Ok(task)
     }
 
-    /// The task of a job that stands at this step.
+    /// The task of a job that stands at this step. Where the lease has what its frame's tasks share, that goes into the task.
     #[inline(always)]
-    pub fn task(&self, alloc: Global, job: JobName, step: u32) -> Result<Task<'t>, AllocError>
-        requires { HasParts (sizes self.now) self.now.stored job step }
-        ensures { IfOk result (IsTaskAt self.now.game job step) }
+    pub fn task(
+        &self,
+        alloc: Global,
+        job: JobName,
+        step: u32,
+        lease: &mut Lease<'t>,
+    ) -> Result<Task<'t>, AllocError>
+        requires parts { HasParts (sizes self.now) self.now.stored job step }
+        requires lease { IsLeaseOf self.now.game lease.old }
+        ensures task { IfOk result (IsTaskAt self.now.game job step) }
+        ensures lease { IsLeaseOf self.now.game lease.new }
     {
         match job {
             JobName::Logic { frame } => Ok(Task::Logic(self.logic_task(alloc, frame, step)?)),
             JobName::Think { frame, agent } => {
-                Ok(Task::Think(self.think_task(alloc, frame, agent, step)?))
+                Ok(Task::Think(self.think_task(frame, agent, step, lease)?))
             }
             JobName::Path {
                 frame,
                 agent,
                 question: _,
-            } => Ok(Task::Path(PathTask::of(
-                alloc,
-                self.params(frame),
-                self.asking_of(agent).parked(),
-            )?)),
+            } => {
+                let start = self.start_of(frame, lease)?;
+                let parked = self.asking_of(agent).parked();
+                Ok(Task::Path(PathTask::with(start, self.params(frame), parked)?))
+            }
             JobName::Draw { frame, band } => {
-                Ok(Task::Draw(DrawTask::of(alloc, self.turn_of(frame), band)?))
+                Ok(Task::Draw(DrawTask::with(self.world_of(frame, lease)?, band)))
             }
         }
     }

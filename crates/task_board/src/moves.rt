@@ -11,7 +11,7 @@ ghost use Rattle.task_board.specs.Boards.{setup_in, state_in, kept_in, Happens};
 ghost use Rattle.task_board.specs.Given.{MayBeTakenUp, NothingToShow};
 
 use super::board::TaskBoard;
-use frame_params::{LogicTask, Task};
+use frame_params::{Lease, LogicTask, Task};
 use job_core::names::JobName;
 use job_queues::is_same;
 use job_scheduler::{Fiber, Held, OutOfMemory, Place};
@@ -23,7 +23,10 @@ impl<'t> TaskBoard<'t> {
         requires { MayBeTakenUp self.now job step }
         ensures { IfOk result (IsTaskAt self.now.game job step) }
     {
-        match self.frame_store.task(self.alloc, job, step) {
+        match self
+            .frame_store
+            .task(self.alloc, job, step, &mut Lease::new())
+        {
             Ok(task) => Ok(task),
             Err(_) => Err(OutOfMemory),
         }

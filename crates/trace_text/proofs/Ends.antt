@@ -1,5 +1,5 @@
 -- In a legal list a slice ends where its worker leaves its job.
-use Rattle.std.proofs.Common.{◌≡◌, ◌≤◌, ◌⊎◌, ℕ, suc, ◌+◌, Bool, true, false, ◌==◌, if◌then◌else◌, List, [], ◌∷◌, ◌++◌, length, refl, sym, ap, ◌∙◌, subst, inl, inr, ⊎_elim, arith, eqb-true, eq-eqb}
+use Rattle.std.proofs.Common.{◌≡◌, ◌≤◌, ◌⊎◌, ℕ, suc, ◌+◌, Bool, true, false, ◌==◌, if◌then◌else◌, List, [], ◌∷◌, ◌++◌, length, refl, sym, ap, ap₂, ◌∙◌, subst, inl, inr, ⊎_elim, arith, eqb-true, eq-eqb}
 use Rattle.std.specs.Prelude.{IfSome}
 use Rattle.std.specs.List.{All, AllPairs}
 use Rattle.std.proofs.lemmas.Bool.{true≢false}
@@ -23,14 +23,18 @@ abbrev Leaves : ℕ → JobName → ℕ → List Event → Type 0
 Leaves w job n events = (n ≡ length events) ⊎ ((event : Event) × StandsAt n event events × IsLeft w job event)
 
 module _ (s : Setup) (st : State) (inv : Shape s st) (one : Apart s st) (w k : ℕ) (job : JobName) (runs : st.phase job ≡ Runs w k) where
+  -- the job that the worker runs is this one
+  is_own : (v : ℕ) (j : JobName) (i : ℕ) → st.phase j ≡ Runs v i → (v == w) ≡ true → j ≡ job
+  is_own v j i at b = one.one j job w i k (at ∙ ap (λ x. Runs x i) (eqb-true v w b)) runs
+
   -- an event of the worker leaves the job
   own : (e : Event) → May s st e → is_by w e ≡ true → IsLeft w job e
   own (Start v j) m b = absurd (m.1 job k (runs ∙ ap (λ x. Runs x k) (sym (eqb-true v w b))))
   own (Resume v j) m b = absurd (m.1 job k (runs ∙ ap (λ x. Runs x k) (sym (eqb-true v w b))))
-  own (Ask v (Think f a)) m b = (eqb-true v w b, one.one (Think f a) job w m.0 k (m.1 ∙ ap (λ x. Runs x m.0) (eqb-true v w b)) runs)
-  own (Spread v (Logic f)) m b = (eqb-true v w b, one.one (Logic f) job w 0 k (m.0 ∙ ap (λ x. Runs x 0) (eqb-true v w b)) runs)
-  own (Hold v (Logic f)) m b = (eqb-true v w b, one.one (Logic f) job w 0 k (m.0 ∙ ap (λ x. Runs x 0) (eqb-true v w b)) runs)
-  own (Finish v j) m b = (eqb-true v w b, one.one j job w m.0 k (m.1 ∙ ap (λ x. Runs x m.0) (eqb-true v w b)) runs)
+  own (Ask v (Think f a)) m b = inl (ap₂ (λ x y. Ask x y) (eqb-true v w b) (is_own v (Think f a) m.0 m.1 b))
+  own (Spread v (Logic f)) m b = inr (inl (ap₂ (λ x y. Spread x y) (eqb-true v w b) (is_own v (Logic f) 0 m.0 b)))
+  own (Hold v (Logic f)) m b = inr (inr (inl (ap₂ (λ x y. Hold x y) (eqb-true v w b) (is_own v (Logic f) 0 m.0 b))))
+  own (Finish v j) m b = inr (inr (inr (ap₂ (λ x y. Finish x y) (eqb-true v w b) (is_own v j m.0 m.1 b))))
   own (Emit f) m b = absurd (true≢false (sym b))
   own Stop m b = absurd (true≢false (sym b))
   own _ m b = absurd m

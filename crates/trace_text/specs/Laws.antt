@@ -33,11 +33,7 @@ StandsAt (suc at) event (first ∷ events) = StandsAt at event events
 
 -- the worker leaves the job by this event: it asks, spreads, holds or finishes
 abbrev pub IsLeft : ℕ → JobName → Event → Type 0
-IsLeft worker job (Ask by this) = (by ≡ worker) × (this ≡ job)
-IsLeft worker job (Spread by this) = (by ≡ worker) × (this ≡ job)
-IsLeft worker job (Hold by this) = (by ≡ worker) × (this ≡ job)
-IsLeft worker job (Finish by this) = (by ≡ worker) × (this ≡ job)
-IsLeft worker job _ = ⊥
+IsLeft worker job event = (event ≡ Ask worker job) ⊎ ((event ≡ Spread worker job) ⊎ ((event ≡ Hold worker job) ⊎ (event ≡ Finish worker job)))
 
 -- the slice ends where its worker leaves its job, or the list ends before that
 abbrev pub EndsIn : List Event → Slice → Type 0

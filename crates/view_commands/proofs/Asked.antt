@@ -1,19 +1,12 @@
 -- Words that are taken for one command, and the frames that they name.
-use Rattle.std.proofs.Common.{◌≡◌, ◌<◌, ◌∙◌, ℕ, List, [], Option, Some, None, sym, ap, subst, length, codes, arith}
+use Rattle.std.proofs.Common.{◌≡◌, ◌<◌, ◌∙◌, ℕ, List, sym, ap, subst, length, codes, arith}
 use Rattle.clap.specs.Words.{Row, Text, first_of}
 use Rattle.words.specs.Program.{IsNumber}
+use Rattle.words.proofs.Asked.{name_in, rows_in}
 use Rattle.trace_text.specs.declared.span.FrameSpan.{FrameSpan}
 use Rattle.view_commands.specs.declared.request.View.{View}
 use Rattle.view_commands.specs.declared.request.View.TheVariants.{Trace, Page}
 use Rattle.view_commands.specs.Program.{AreFrames, AsksForPage, AsksToTrace, Enters, IsReading}
-
-abbrev name_in : Option (Text × List Row) → Text
-name_in None = []
-name_in (Some entered) = entered.0
-
-abbrev rows_in : Option (Text × List Row) → List Row
-rows_in None = []
-rows_in (Some entered) = entered.1
 
 one_row : (words : List Text) (name : Text) (r q : List Row) → Enters words name r → Enters words name q → r ≡ q
 one_row words name r q h k = ap rows_in (sym h.2 ∙ k.2)

@@ -1,9 +1,11 @@
 -- What the viewer has written, by its words.
-use Rattle.std.proofs.Common.{ℕ, List, Option}
+use Rattle.std.proofs.Common.{◌≡◌, ℕ, List, Option}
 use Rattle.std.specs.Prelude.{⊤, Result, Ok, Err, OnOk, OnErr}
 use Rattle.clap.specs.Words.{Text}
 use Rattle.trace_text.specs.declared.span.FrameSpan.{FrameSpan}
 use Rattle.words.specs.declared.program_fault.Fault.{Fault}
+use Rattle.words.specs.Faults.{status_in}
+use Rattle.words.proofs.Statuses.{ok_at_zero}
 use Rattle.view_commands.specs.declared.request.View.{View}
 use Rattle.view_commands.specs.declared.request.View.TheVariants.{Trace, Page}
 use Rattle.view_commands.specs.Doing.{IsDone, IsPartDone, TracesSome, TracesSomePart}
@@ -18,27 +20,25 @@ done_in_part old new (Trace log frames) h = traces_some_part old new frames h
 done_in_part old new (Page level log script frames) h = pages_some_part old new frames h
 
 -- done or not, it is a part
-pub part_of : (r : Result (⊤) Fault) (old new : Option (List ℕ)) (v : View) → OnOk r (IsDone old new v) → OnErr r (IsPartDone old new v)
+part_of : (r : Result (⊤) Fault) (old new : Option (List ℕ)) (v : View) → OnOk r (IsDone old new v) → OnErr r (IsPartDone old new v)
     → IsPartDone old new v
 part_of (Ok x) old new v done part = done_in_part old new v done
 part_of (Err f) old new v done part = part
 
-pub traced : (old new : Option (List ℕ)) (words : List Text) (v : View) (frames : FrameSpan) → IsReading words v → AsksToTrace words frames
-    → IsDone old new v → TracesSome old new frames
-traced old new words v frames reading asks done =
-    read_as_trace words v frames (IsDone old new) (TracesSome old new) reading asks (λ log span h. h) done
+-- by the words, and the status where all is done
+module _ (old new : Option (List ℕ)) (words : List Text) (v : View) (r : Result (⊤) Fault) (frames : FrameSpan) (reading : IsReading words v) where
+  pub traced : (n : ℕ) → AsksToTrace words frames → n ≡ 0 → n ≡ status_in r → OnOk r (IsDone old new v) → TracesSome old new frames
+  traced n asks zero is done =
+      read_as_trace words v frames (IsDone old new) (TracesSome old new) reading asks (λ log span h. h) (ok_at_zero r n _ is zero done)
 
-pub traced_in_part : (old new : Option (List ℕ)) (words : List Text) (v : View) (frames : FrameSpan) → IsReading words v → AsksToTrace words frames
-    → IsPartDone old new v → TracesSomePart old new frames
-traced_in_part old new words v frames reading asks done =
-    read_as_trace words v frames (IsPartDone old new) (TracesSomePart old new) reading asks (λ log span h. h) done
+  pub traced_in_part : AsksToTrace words frames → OnOk r (IsDone old new v) → OnErr r (IsPartDone old new v) → TracesSomePart old new frames
+  traced_in_part asks done part =
+      read_as_trace words v frames (IsPartDone old new) (TracesSomePart old new) reading asks (λ log span h. h) (part_of r old new v done part)
 
-pub paged : (old new : Option (List ℕ)) (words : List Text) (v : View) (frames : FrameSpan) → IsReading words v → AsksForPage words frames
-    → IsDone old new v → PagesSome old new frames
-paged old new words v frames reading asks done =
-    read_as_page words v frames (IsDone old new) (PagesSome old new) reading asks (λ level log script span h. h) done
+  pub paged : (n : ℕ) → AsksForPage words frames → n ≡ 0 → n ≡ status_in r → OnOk r (IsDone old new v) → PagesSome old new frames
+  paged n asks zero is done =
+      read_as_page words v frames (IsDone old new) (PagesSome old new) reading asks (λ level log script span h. h) (ok_at_zero r n _ is zero done)
 
-pub paged_in_part : (old new : Option (List ℕ)) (words : List Text) (v : View) (frames : FrameSpan) → IsReading words v → AsksForPage words frames
-    → IsPartDone old new v → PagesSomePart old new frames
-paged_in_part old new words v frames reading asks done =
-    read_as_page words v frames (IsPartDone old new) (PagesSomePart old new) reading asks (λ level log script span h. h) done
+  pub paged_in_part : AsksForPage words frames → OnOk r (IsDone old new v) → OnErr r (IsPartDone old new v) → PagesSomePart old new frames
+  paged_in_part asks done part =
+      read_as_page words v frames (IsPartDone old new) (PagesSomePart old new) reading asks (λ level log script span h. h) (part_of r old new v done part)

@@ -1,5 +1,5 @@
 -- What is written of a log as a trace, whole or in part.
-use Rattle.std.proofs.Common.{◌≡◌, ℕ, List, [], Option, inr, sym, subst, append-nil}
+use Rattle.std.proofs.Common.{◌≡◌, ◌∙◌, ℕ, List, [], Option, inr, ap, sym, subst, append-nil}
 use Rattle.std.specs.Prelude.{Result, Ok, Err, OnOk}
 use Rattle.std.specs.Io.KnownBytes.{Appends}
 use Rattle.byte_streams.specs.Streams.{AppendsPart}
@@ -14,13 +14,17 @@ pub on_ok_map : {T E : Type 0} (r : Result T E) (P Q : Type 0) → (P → Q) →
 on_ok_map (Ok x) P Q f p = f p
 on_ok_map (Err e) P Q f p = tt
 
-pub whole_text : (old new : Option (List ℕ)) (frames : FrameSpan) (log : List ℕ) (settings : Numbers) (events : List Event) (text : List ℕ)
-    → IsLog log settings events → text ≡ trace_of settings events frames → Appends old new text → Traces old new frames log
-whole_text old new frames log settings events text reading same wrote = (settings, events, reading, subst (Appends old new) same wrote)
+-- the text of the events that a log has, which were read
+module _ (frames : FrameSpan) (log : List ℕ) (settings : Numbers) (events given : List Event) (text : List ℕ) (reading : IsLog log settings events) (are : given ≡ events)
+    (is : text ≡ trace_of settings given frames) (old new : Option (List ℕ)) where
+  of_log : text ≡ trace_of settings events frames
+  of_log = is ∙ ap (λ es. trace_of settings es frames) are
 
-pub first_text : (old new : Option (List ℕ)) (frames : FrameSpan) (log : List ℕ) (settings : Numbers) (events : List Event) (text : List ℕ)
-    → IsLog log settings events → text ≡ trace_of settings events frames → AppendsPart old new text → TracesPart old new frames log
-first_text old new frames log settings events text reading same wrote = inr (settings, events, reading, subst (AppendsPart old new) same wrote)
+  pub whole_text : Appends old new text → Traces old new frames log
+  whole_text wrote = (settings, events, reading, subst (Appends old new) of_log wrote)
+
+  pub first_text : AppendsPart old new text → TracesPart old new frames log
+  first_text wrote = inr (settings, events, reading, subst (AppendsPart old new) of_log wrote)
 
 -- all that is written is a part
 traces_part : (old new : Option (List ℕ)) (frames : FrameSpan) (log : List ℕ) → Traces old new frames log → TracesPart old new frames log

@@ -1,12 +1,11 @@
 -- The viewer's words, and what they ask for.
-use Rattle.std.specs.Prelude.{◌≡◌, ◌≢◌, List, [], Some, codes, true}
+use Rattle.std.specs.Prelude.{◌≡◌, ◌≢◌, List, [], Some, codes}
 use Rattle.clap.specs.Words.{App, IsAmong, Row, Text, fault_of, first_of, new_app, subcommand_of, subcommand_rows_of, with_rule, with_subcommand}
 use Rattle.clap.specs.declared.error.kind.ErrorKind.TheVariants as kinds
 use Rattle.clap.specs.declared.parser.matches.ArgMatches.{ArgMatches}
-use Rattle.clap.specs.Simple.{on_top}
 use Rattle.trace_text.specs.declared.span.FrameSpan.{FrameSpan}
 use Rattle.words.specs.declared.fault.WordsFault.{WordsFault}
-use Rattle.words.specs.Program.{default_rule, path_rule, word_rule, IsAskedOf, IsNumber, IsOptional, IsText}
+use Rattle.words.specs.Program.{default_rule, new_program, path_rule, word_rule, IsAskedOf, IsNumber, IsOptional, IsText}
 use Rattle.view_commands.specs.declared.request.View.{View}
 use Rattle.view_commands.specs.declared.request.View.TheVariants.{Trace, Page}
 
@@ -26,7 +25,7 @@ page =
 
 -- the viewer with its first command, and with both
 abbrev pub with_trace : App
-with_trace = with_subcommand (on_top (λ s. record s { no_binary_name = true; has_version = true }) (new_app (codes "btview"))) trace.top
+with_trace = with_subcommand (new_program (codes "btview")) trace.top
 
 abbrev pub program : App
 program = with_subcommand with_trace page.top

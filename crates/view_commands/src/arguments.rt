@@ -1,12 +1,12 @@
 // The viewer's words, as clap is told of them.
-ghost use Rattle.std.specs.Prelude.{◌≡◌, true, codes, IfOk};
-ghost use Rattle.clap.specs.Simple.{on_top};
-ghost use Rattle.clap.specs.Words.{app_of, new_app};
+ghost use Rattle.std.specs.Prelude.{◌≡◌, codes, IfOk};
+ghost use Rattle.clap.specs.Words.{app_of};
+ghost use Rattle.words.specs.Program.{new_program};
 ghost use Rattle.view_commands.specs.Program.{program};
 
 use clap::Command;
 use std::alloc::{AllocError, Global};
-use words::{Argument, Form, Subcommand, VERSION, new_command, with_subcommands};
+use words::{Argument, Form, Subcommand, new_program, with_subcommands};
 
 const ABOUT: &str =
     "Shows runs of btworld: their frames, and what their workers did, event by event.";
@@ -82,12 +82,9 @@ pub static SUBCOMMANDS: [Subcommand; 2] = [
 ];
 
 fn top_command<'a>(alloc: Global) -> Command<'a>
-    ensures { app_of result ≡ on_top (λ s. record s { no_binary_name = true; has_version = true }) (new_app (codes "btview")) }
+    ensures { app_of result ≡ new_program (codes "btview") }
 {
-    new_command(alloc, "btview", ABOUT, "btview <COMMAND>")
-        .no_binary_name(true)
-        .version(VERSION)
-        .after_help(STATUSES)
+    new_program(alloc, "btview", ABOUT, "btview <COMMAND>", STATUSES)
 }
 
 /// The viewer with all its commands.

@@ -10,11 +10,11 @@ use Rattle.words.specs.declared.request.Words.{Words}
 use Rattle.words.specs.declared.request.Words.TheVariants.{Piped, Play, Replay, Check, Explain, Digest, State, Why, Complete, Record}
 use Rattle.words.specs.Program.{AreNumbers, Enters, IsNumber, IsReading, IsText, IsAskedFor, IsNoHelp, AsksToPlay, AsksToReplay, AsksToExplain, AsksToDigest, AsksForState, AsksWhy, AsksToComplete, AsksToRecord}
 
-abbrev name_in : Option (Text × List Row) → Text
+abbrev pub name_in : Option (Text × List Row) → Text
 name_in None = []
 name_in (Some entered) = entered.0
 
-abbrev rows_in : Option (Text × List Row) → List Row
+abbrev pub rows_in : Option (Text × List Row) → List Row
 rows_in None = []
 rows_in (Some entered) = entered.1
 

@@ -1,6 +1,6 @@
 -- What a parse of words says: the subcommand that was entered, and the help that was asked for.
-use Rattle.std.proofs.Common.{◌≡◌, ◌≢◌, ◌∙◌, inl, inr, ap, sym, subst, ◌==◌, true, false, List, [], ◌∷◌, length, map, refl}
-use Rattle.std.specs.Prelude.{String, Some, string_bytes}
+use Rattle.std.proofs.Common.{◌≡◌, ◌≢◌, ◌∙◌, inl, inr, ap, sym, subst, ◌==◌, ◌&&◌, Bool, true, false, List, [], ◌∷◌, length, map, refl}
+use Rattle.std.specs.Prelude.{String, Some, string_bytes, Result, Ok, Err, IfOk}
 use Rattle.clap.specs.Words.{App, Row, Text, HasKind, HasMatchesOf, IsAmong, fault_of, kind_of, is_simple, is_simple_and_free, subcommand_of, subcommand_rows_of}
 use Rattle.clap.specs.declared.error.Error.{Error}
 use Rattle.clap.specs.declared.error.kind.ErrorKind.{ErrorKind}
@@ -15,14 +15,31 @@ pub has_texts : {A : Type 0} (words : List (String A)) → (length words == 0) �
 has_texts [] some none = cc
 has_texts (word ∷ words) some none = cc
 
+both : (x y : Bool) → (x && y) ≡ true → x ≡ true
+both true y h = refl
+both false y h = h
+
 -- of a program whose rules are simple
-module _ (program : App) (simple : is_simple program ≡ true) (free : is_simple_and_free program ≡ true) where
-  pub entered : (a : App) (words : List Text) (m : ArgMatches) → a ≡ program → HasMatchesOf a words m → (is_simple_and_free a ≡ true → fault_of a words ≡ []) → words ≢ []
+module _ (program : App) (free : is_simple_and_free program ≡ true) where
+  simple : is_simple program ≡ true
+  simple = both _ _ free
+
+  entered : (a : App) (words : List Text) (m : ArgMatches) → a ≡ program → HasMatchesOf a words m → (is_simple_and_free a ≡ true → fault_of a words ≡ []) → words ≢ []
       → (name : Text) (rows : List Row) → subcommand_rows_of m ≡ Some (name, rows) → (words ≢ []) × (fault_of program words ≡ []) × (subcommand_of program words ≡ Some (name, rows))
   entered a words m e h taken some name rows pair =
       let matches = h (ap is_simple e ∙ simple) in
       let whole : fault_of a words ≡ [] = taken (ap is_simple_and_free e ∙ free) in
       (some, sym (ap (λ (p : App). fault_of p words) e) ∙ whole, sym (ap (λ (p : App). subcommand_of p words) e) ∙ sym matches.1 ∙ pair)
+
+  -- what is read of any words that enter what the matches have is read of these
+  pub read_from : {V E : Type 0} (IsRead : List Text → V → Type 0) (a : App) (words : List Text) (m : ArgMatches) (r : Result V E) → a ≡ program → HasMatchesOf a words m
+      → (is_simple_and_free a ≡ true → fault_of a words ≡ []) → words ≢ []
+      → IfOk r (λ v. (ws : List Text)
+      → ((name : Text) (rows : List Row) → subcommand_rows_of m ≡ Some (name, rows) → (ws ≢ []) × (fault_of program ws ≡ []) × (subcommand_of program ws ≡ Some (name, rows)))
+      → IsRead ws v)
+      → IfOk r (IsRead words)
+  read_from IsRead a words m (Ok v) e h taken some read = read words (entered a words m e h taken some)
+  read_from IsRead a words m (Err fault) e h taken some read = tt
 
   asks : (a : App) (words : List Text) (e : Error) (kind : ErrorKind) → a ≡ program → HasKind (fault_of a words) e → kind_of e ≡ kind → kind ≢ kinds.OutOfMemory
       → IsAmong kind (fault_of program words)
@@ -35,10 +52,6 @@ module _ (program : App) (simple : is_simple program ≡ true) (free : is_simple
   asked_for a words e (Help text) same has help = asks a words e kinds.DisplayHelp same (has (ap is_simple_and_free same ∙ free)) help (λ same. cc)
   asked_for a words e (Version text) same has version = asks a words e kinds.DisplayVersion same (has (ap is_simple_and_free same ∙ free)) version (λ same. cc)
   asked_for a words e _ same has said = tt
-
-pub simple : is_simple program ≡ true
-unfolding clap_on_literals
-simple = refl
 
 pub free : is_simple_and_free program ≡ true
 unfolding clap_on_literals

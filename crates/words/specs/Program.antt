@@ -104,9 +104,13 @@ abbrev pub recording : App
 recording =
     with_rule (with_room (with_run (with_rule (with_rule (new_app (codes "record")) (word_rule (codes "level"))) (word_rule (codes "journal"))))) (path_rule (codes "script"))
 
+-- a program that has a version, and whose words are given without its name
+abbrev pub new_program : Text → App
+new_program name = on_top (λ s. record s { no_binary_name = true; has_version = true }) (new_app name)
+
 -- the program with its first command, with more, and with all
 abbrev pub with_play : App
-with_play = with_subcommand (on_top (λ s. record s { no_binary_name = true; has_version = true }) (new_app (codes "btworld"))) play.top
+with_play = with_subcommand (new_program (codes "btworld")) play.top
 
 abbrev pub with_replay : App
 with_replay = with_subcommand with_play replay.top

@@ -1,9 +1,8 @@
 // The program's words, as clap is told of them.
-ghost use Rattle.std.specs.Prelude.{◌≡◌, true, false, codes, fold, IfOk};
-ghost use Rattle.words.specs.Program.{in_range, program};
+ghost use Rattle.std.specs.Prelude.{◌≡◌, false, codes, fold, IfOk};
+ghost use Rattle.words.specs.Program.{in_range, new_program, program};
 ghost use Rattle.words.specs.Table.{rule_in, with_argument, app_in, with_listed};
 ghost use Rattle.clap.specs.declared.builder.command.Command.TheViews.{out-Command};
-ghost use Rattle.clap.specs.Simple.{on_top};
 ghost use Rattle.clap.specs.Words.{app_of, new_app, rule_of};
 
 use crate::table::{Argument, Form, SUBCOMMANDS, Subcommand};
@@ -66,7 +65,7 @@ fn with_arguments<'a>(
 }
 
 /// A command with what its help says first.
-pub fn new_command<'a>(alloc: Global, name: &'a str, about: &'a str, usage: &'a str) -> Command<'a>
+fn new_command<'a>(alloc: Global, name: &'a str, about: &'a str, usage: &'a str) -> Command<'a>
     ensures app { app_of result ≡ new_app name.entry.now }
     ensures local { (out-Command result).has_globals ≡ false }
 {
@@ -83,15 +82,34 @@ fn subcommand_of<'a>(alloc: Global, subcommand: &Subcommand) -> Result<Command<'
 }
 
 /// The program's version, and that of the logs that it writes.
-pub const VERSION: &str = "2.0.0, log 2";
+const VERSION: &str = "2.0.0, log 2";
 
-fn top_command<'a>(alloc: Global) -> Command<'a>
-    ensures { app_of result ≡ on_top (λ s. record s { no_binary_name = true; has_version = true }) (new_app (codes "btworld")) }
+/// A program with this version, and with what its help says first and last. Its words are given without its name.
+pub fn new_program<'a>(
+    alloc: Global,
+    name: &'a str,
+    about: &'a str,
+    usage: &'a str,
+    statuses: &'a str,
+) -> Command<'a>
+    ensures { app_of result ≡ new_program name.entry.now }
 {
-    new_command(alloc, "btworld", ABOUT, "btworld\n       btworld <COMMAND>")
+    new_command(alloc, name, about, usage)
         .no_binary_name(true)
         .version(VERSION)
-        .after_help(STATUSES)
+        .after_help(statuses)
+}
+
+fn top_command<'a>(alloc: Global) -> Command<'a>
+    ensures { app_of result ≡ new_program (codes "btworld") }
+{
+    new_program(
+        alloc,
+        "btworld",
+        ABOUT,
+        "btworld\n       btworld <COMMAND>",
+        STATUSES,
+    )
 }
 
 /// A command with the commands of a table under it.
@@ -111,8 +129,7 @@ pub fn with_subcommands<'a>(
 
 /// The program with the commands of a table.
 fn program_of<'a>(alloc: Global, subcommands: &[Subcommand]) -> Result<Command<'a>, AllocError>
-    ensures { IfOk result (λ c. app_of c ≡ fold with_listed
-        (on_top (λ s. record s { no_binary_name = true; has_version = true }) (new_app (codes "btworld"))) subcommands.now) }
+    ensures { IfOk result (λ c. app_of c ≡ fold with_listed (new_program (codes "btworld")) subcommands.now) }
 {
     with_subcommands(alloc, top_command(alloc), subcommands)
 }

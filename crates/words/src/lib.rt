@@ -18,7 +18,7 @@ mod session;
 mod table;
 mod unread;
 
-pub use arguments::{VERSION, new_command, with_subcommands};
+pub use arguments::{new_program, with_subcommands};
 pub use ending::{end_with, refuse_words};
 pub use entries::{missing, number_entry, optional_entry, text_entry};
 pub use fault::WordsFault;

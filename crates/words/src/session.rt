@@ -12,13 +12,7 @@ pub fn session_of(alloc: Global, level: &[u8], script: &[u8]) -> Result<Session,
     ensures game { IfOk result (λ session. spelled_game level.now script.now ≡ Some session) }
     ensures fault { IfErr result (IsSessionFault level.now script.now) }
 {
-    let level = match read_level(alloc, level) {
-        Ok(level) => level,
-        Err(fault) => return Err(Fault::from(fault)),
-    };
-    let script = match read_script(alloc, script) {
-        Ok(script) => script,
-        Err(fault) => return Err(Fault::from(fault)),
-    };
+    let level = read_level(alloc, level)?;
+    let script = read_script(alloc, script)?;
     Ok(Session::new(level, script))
 }

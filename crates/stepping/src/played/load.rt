@@ -135,7 +135,6 @@ fn placed(alloc: Global, level: Level, script: Script, told: Told) -> Result<Ste
         drawn: shown,
         signals: next,
         known: Known::none(alloc, ground, shown)?,
-        known_under: shown,
     })
 }
 

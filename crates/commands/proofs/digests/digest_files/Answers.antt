@@ -8,6 +8,4 @@ returns-clause-ok g c = on_ok_map c.digest_bytes.result _ _ (λ h. (c.deref.resu
 
 pub returns-clause-part : goal.returns-clause-part
 returns-clause-part g c =
-    on_err_map c.digest_bytes.result _ _
-    (some_part (λ g'. digests_text g' c.args.frames) (g.W.Write.contents c.args.out.now) (g.W.Write.contents c.digest_bytes.new.out) c.deref.result.now c.deref-2.result.now)
-    c.digest_bytes.ensures.part
+    on_err_map c.digest_bytes.result _ _ (some_part (λ g'. digests_text g' c.args.frames) _ _ c.deref.result.now c.deref-2.result.now) c.digest_bytes.ensures.part

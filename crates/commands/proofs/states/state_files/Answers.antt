@@ -8,6 +8,4 @@ returns-clause-ok g c = on_ok_map c.state_bytes.result _ _ (λ h. (c.deref.resul
 
 pub returns-clause-part : goal.returns-clause-part
 returns-clause-part g c =
-    on_err_map c.state_bytes.result _ _
-    (some_part (λ g'. scripted_state_text g' c.args.frame) (g.W.Write.contents c.args.out.now) (g.W.Write.contents c.state_bytes.new.out) c.deref.result.now c.deref-2.result.now)
-    c.state_bytes.ensures.part
+    on_err_map c.state_bytes.result _ _ (some_part (λ g'. scripted_state_text g' c.args.frame) _ _ c.deref.result.now c.deref-2.result.now) c.state_bytes.ensures.part

@@ -1,11 +1,11 @@
-use Rattle.std.proofs.Common.{◌≡◌, [], ◌∷◌, ◌++◌, List, length, sym, ap, ◌∙◌, arith}
+use Rattle.std.proofs.Common.{[], ◌∷◌, ◌++◌, List, refl, ap, ◌∙◌, arith}
 use Rattle.std.proofs.lemmas.Grind.{common_steps}
 use Rattle.job_core.specs.declared.names.Event.{Event}
 use Rattle.job_core.specs.declared.names.Event.TheVariants.{Spread}
-use Rattle.job_core.specs.declared.names.JobName.TheVariants.{Logic, Think}
+use Rattle.job_core.specs.declared.names.JobName.TheVariants.{Logic}
 use Rattle.job_scheduler.specs.Logged.{setup_of}
 use Rattle.job_scheduler.specs.contracts.jobs.JobLog.{the_view}
-use Rattle.job_scheduler.proofs.Kept.{kept_after, length_first}
+use Rattle.job_scheduler.proofs.Kept.{kept_after}
 use Rattle.job_scheduler.proofs.Turns.{turned_next}
 use Rattle.job_scheduler.proofs.Needed.{a_slot, slots_are, spread_counters, spread_room, spread_runs, table}
 use Rattle.job_scheduler.proofs.jobs.JobLog.spread.Goals as goal
@@ -22,23 +22,16 @@ spread-requires-clause-thinks_key c = (spread_counters (the_view c.self.inside) 
 pub spread-requires-clause-shown_key : goal.spread-requires-clause-shown_key
 spread-requires-clause-shown_key c = (spread_counters (the_view c.self.inside) c.self.inside.scheduler _ _ c.self.invariant.0 c.args.worker c.args.frame (rw (← c.self.view_is) at c.requires)).1
 
-pub spread-requires-clause-few : goal.spread-requires-clause-few
-spread-requires-clause-few c =
-    let many : length c.deref.result.now ≡ c.self.inside.agents = ap length (c.deref.ensures.value ∙ c.in_ok-thinks.ensures) ∙ length_first c.self.inside.agents (Think c.args.frame) in
-    omega arith
-
 pub spread-requires-clause-slots : goal.spread-requires-clause-slots
 spread-requires-clause-slots c = a_slot (the_view c.self.inside) c.self.inside.scheduler _ _ c.self.invariant.0 (Spread c.args.worker (Logic c.args.frame)) (rw (← c.self.view_is) at c.requires)
 
 pub spread-requires-clause-room : goal.spread-requires-clause-room
-spread-requires-clause-room c =
-    let many : length c.deref.result.now ≡ c.self.inside.agents = ap length (c.deref.ensures.value ∙ c.in_ok-thinks.ensures) ∙ length_first c.self.inside.agents (Think c.args.frame) in
-    λ none. spread_room (the_view c.self.inside) c.self.inside.scheduler _ _ c.self.invariant.0 c.args.worker c.args.frame (rw (← c.self.view_is) at c.requires) (sym many ∙ none)
+spread-requires-clause-room c = spread_room (the_view c.self.inside) c.self.inside.scheduler _ _ c.self.invariant.0 c.args.worker c.args.frame (rw (← c.self.view_is) at c.requires)
 
 pub invariant_of-self-2 : goal.invariant_of-self-2
 invariant_of-self-2 c = (
   kept_after (the_view c.self.inside) c.self.inside.scheduler c.spread.new.self _ _ _ _ c.push_reserved.new.self.items (Spread c.args.worker (Logic c.args.frame)) c.self.invariant.0
       (c.push_reserved.ensures.items ∙ ap (λ (l : List Event). l ++ Spread c.args.worker (Logic c.args.frame) ∷ []) c.reserve.ensures.items)
-      (λ q. c.in_ok-spread.ensures.ok (setup_of (the_view c.self.inside) q) (slots_are (the_view c.self.inside) c.self.inside.scheduler _ _ c.self.invariant.0 (Spread c.args.worker (Logic c.args.frame)) (rw (← c.self.view_is) at c.requires)) (sym (ap length (c.deref.ensures.value ∙ c.in_ok-thinks.ensures) ∙ length_first c.self.inside.agents (Think c.args.frame))) (c.deref.ensures.value ∙ c.in_ok-thinks.ensures)) (λ h. grind (arith, common_steps)),
+      (λ q. c.in_ok-spread.ensures.ok (setup_of (the_view c.self.inside) q) (slots_are (the_view c.self.inside) c.self.inside.scheduler _ _ c.self.invariant.0 (Spread c.args.worker (Logic c.args.frame)) (rw (← c.self.view_is) at c.requires)) refl) (λ h. grind (arith, common_steps)),
   turned_next _ _ c.push_reserved.new.self.items (Spread c.args.worker (Logic c.args.frame)) c.self.invariant.1 (c.push_reserved.ensures.items ∙ ap (λ (l : List Event). l ++ Spread c.args.worker (Logic c.args.frame) ∷ []) c.reserve.ensures.items),
 )

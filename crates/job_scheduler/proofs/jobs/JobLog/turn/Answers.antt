@@ -23,6 +23,6 @@ pub invariant_of-self-2 : goal.invariant_of-self-2
 invariant_of-self-2 c = (
   kept_after (the_view c.self.inside) c.self.inside.scheduler c.turn.new.self _ _ _ _ c.push_reserved.new.self.items (Finish c.args.worker (Logic c.args.frame)) c.self.invariant.0
       (c.push_reserved.ensures.items ∙ ap (λ (l : List Event). l ++ Finish c.args.worker (Logic c.args.frame) ∷ []) c.reserve.ensures.items)
-      (λ q. c.in_ok-turn.ensures.ok (setup_of (the_view c.self.inside) q) refl (c.deref.ensures.value ∙ c.in_ok-followers.ensures (setup_of (the_view c.self.inside) q) (sym c.frames.ensures.value) refl)) (λ h. grind (arith, common_steps)),
+      (λ q. c.in_ok-turn.ensures.ok (setup_of (the_view c.self.inside) q) (sym c.frames.ensures.value) refl) (λ h. grind (arith, common_steps)),
   turned_next _ _ c.push_reserved.new.self.items (Finish c.args.worker (Logic c.args.frame)) c.self.invariant.1 (c.push_reserved.ensures.items ∙ ap (λ (l : List Event). l ++ Finish c.args.worker (Logic c.args.frame) ∷ []) c.reserve.ensures.items),
 )

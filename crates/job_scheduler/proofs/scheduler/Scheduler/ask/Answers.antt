@@ -17,7 +17,7 @@ hold_on-requires-clause-worker c = rw (← c.self.view_is) at (run_worker c.args
 pub hold_on-requires-clause-fiber : goal.hold_on-requires-clause-fiber
 hold_on-requires-clause-fiber c =
     let below = run_fiber c.args.self.now.seats c.args.worker (Think c.args.frame c.args.agent) c.args.question c.requires.runs in
-    let same : length c.args.self.now.seats.jobs ≡ length c.self.inside.jobs.items = ap (λ (m : Core). length m.seats.jobs) (sym c.self.view_is) in
+    let same : length c.args.self.now.seats.jobs ≡ length c.self.inside.jobs = ap (λ (m : Core). length m.seats.jobs) (sym c.self.view_is) in
     omega (arith, below, same, c.fiber_of-fiber.ensures)
 
 pub returns-in_default-clause-unchanged : goal.returns-in_default-clause-unchanged

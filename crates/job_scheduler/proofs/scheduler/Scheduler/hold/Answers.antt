@@ -17,7 +17,7 @@ hold_on-requires-clause-worker c = rw (← c.self.view_is) at (run_worker c.args
 pub hold_on-requires-clause-fiber : goal.hold_on-requires-clause-fiber
 hold_on-requires-clause-fiber c =
     let below = run_fiber c.args.self.now.seats c.args.worker (Logic c.args.frame) 0 c.requires.runs in
-    let same : length c.args.self.now.seats.jobs ≡ length c.self.inside.jobs.items = ap (λ (m : Core). length m.seats.jobs) (sym c.self.view_is) in
+    let same : length c.args.self.now.seats.jobs ≡ length c.self.inside.jobs = ap (λ (m : Core). length m.seats.jobs) (sym c.self.view_is) in
     omega (arith, below, same, c.fiber_of-fiber.ensures)
 
 pub returns-clause-ok : goal.returns-clause-ok
@@ -25,9 +25,9 @@ returns-clause-ok c = λ s sized.
     let table = rw (← c.self.view_is) at c.requires.table in
     let fiber : c.fiber_of-fiber.result ≡ fiber_of (the_view c.self.inside).seats c.args.worker = c.fiber_of-fiber.ensures ∙ ap (λ (m : Core). fiber_of m.seats c.args.worker) (sym c.self.view_is) in
     let kept = on_ok c.wait.result c.if-is_err.ensures.negation c.wait.ensures.kept in
-    let slots : length c.args.self.now.slots ≡ length c.self.inside.slots.items = ap (λ (m : Core). length m.slots) (sym c.self.view_is) in
+    let slots : length c.args.self.now.slots ≡ length c.self.inside.slots = ap (λ (m : Core). length m.slots) (sym c.self.view_is) in
     let many : c.len.result ≡ s.slots = omega (arith, slots, sized, c.len.ensures) in
     let held = rw (← c.self.view_is) at (run_held c.args.self.now.seats c.args.worker (Logic c.args.frame) 0 c.requires.runs) in
     some_case (first_row (Shown (c.args.frame - length c.args.self.now.slots)) c.args.self.now.counters) c.requires.unshown (λ row there above.
     let stands = rw (← sized, ← c.self.view_is) at there in
-    rw (← c.self.view_is) (c.hold_on.ensures ∙ rw (kept, fiber, many) (waited (the_view c.self.inside) table c.args.worker (Logic c.args.frame) 0 (Shown (c.args.frame - s.slots)) c.self.inside.queues.queues.fresh c.self.inside.counters c.self.inside.slots.items c.requires.runs.0 row held stands)))
+    rw (← c.self.view_is) (c.hold_on.ensures ∙ rw (kept, fiber, many) (waited (the_view c.self.inside) table c.args.worker (Logic c.args.frame) 0 (Shown (c.args.frame - s.slots)) c.self.inside.queues.queues.fresh c.self.inside.counters c.self.inside.slots c.requires.runs.0 row held stands)))

@@ -1,8 +1,7 @@
-use Rattle.std.proofs.Common.{◌≡◌, ◌%◌, Some, ◌∙◌, length, refl, sym, ap, arith}
+use Rattle.std.proofs.Common.{◌≡◌, ◌∙◌, length, refl, sym, ap, arith}
 use Rattle.job_core.specs.declared.names.JobName.TheVariants.{Logic}
 use Rattle.board_model.specs.Board.{Core, fiber_of}
 use Rattle.job_scheduler.specs.contracts.scheduler.Scheduler.{the_view}
-use Rattle.board_model.proofs.Bridges.{write_is}
 use Rattle.job_scheduler.proofs.Entries.{run_worker, run_fiber, run_held}
 use Rattle.job_scheduler.proofs.Rows.{frame_undone}
 use Rattle.job_scheduler.proofs.Writes.{spread}
@@ -17,22 +16,21 @@ hold_on-requires-clause-worker c = rw (← c.self.view_is) at (run_worker c.args
 pub hold_on-requires-clause-fiber : goal.hold_on-requires-clause-fiber
 hold_on-requires-clause-fiber c =
     let below = run_fiber c.args.self.now.seats c.args.worker (Logic c.args.frame) 0 c.requires.runs in
-    let same : length c.args.self.now.seats.jobs ≡ length c.self.inside.jobs.items = ap (λ (m : Core). length m.seats.jobs) (sym c.self.view_is) in
+    let same : length c.args.self.now.seats.jobs ≡ length c.self.inside.jobs = ap (λ (m : Core). length m.seats.jobs) (sym c.self.view_is) in
     omega (arith, below, same, c.fiber_of-fiber.ensures)
 
 pub returns-in_default-clause-unchanged : goal.returns-in_default-clause-unchanged
 returns-in_default-clause-unchanged c =
     let thinks = rw (← c.self.view_is) at c.requires.thinks_key in
     let shown = rw (← c.self.view_is) at c.requires.shown_key in
-    rw (c.without_frame.ensures, c.in_default.ensures.unchanged, c.in_ok-raise_frame.ensures.ok, frame_undone c.args.frame (length c.args.thinks.now) c.fiber_of-fiber.result c.self.inside.counters thinks shown, c.self.view_is) refl
+    rw (c.without_frame.ensures, c.in_default.ensures.unchanged, c.in_ok-raise_frame.ensures.ok, frame_undone c.args.frame c.args.agents c.fiber_of-fiber.result c.self.inside.counters thinks shown, c.self.view_is) refl
 
 pub returns-clause-ok : goal.returns-clause-ok
-returns-clause-ok c = λ s sized many named.
+returns-clause-ok c = λ s sized many.
     let table = rw (← c.self.view_is) at c.requires.table in
     let thinks = rw (← c.self.view_is) at c.requires.thinks_key in
     let fiber : c.fiber_of-fiber.result ≡ fiber_of (the_view c.self.inside).seats c.args.worker = c.fiber_of-fiber.ensures ∙ ap (λ (m : Core). fiber_of m.seats c.args.worker) (sym c.self.view_is) in
     let held = rw (← c.self.view_is) at (run_held c.args.self.now.seats c.args.worker (Logic c.args.frame) 0 c.requires.runs) in
     let size = rw (← c.self.view_is) at sized in
-    let count : c.len.result ≡ length (the_view c.self.inside).slots = omega (arith, c.len.ensures) in
-    rw (← c.self.view_is) (c.hold_on.ensures ∙ rw (c.ready_at_once.ensures, c.in-Ok.ensures.after, c.in_ok-raise_frame.ensures.ok, fiber, count, ← write_is (the_view c.self.inside).slots (c.args.frame % length (the_view c.self.inside).slots) (Some c.args.frame))
-    (spread (the_view c.self.inside) table s c.args.worker c.args.frame c.args.thinks.now c.requires.runs.0 held thinks size many named))
+    rw (← c.self.view_is) (c.hold_on.ensures ∙ rw (c.set.ensures, c.ready_at_once.ensures, c.in-Ok.ensures.after, c.in_ok-raise_frame.ensures.ok, fiber)
+    (spread (the_view c.self.inside) table s c.args.worker c.args.frame c.args.agents c.requires.runs.0 held thinks size many))

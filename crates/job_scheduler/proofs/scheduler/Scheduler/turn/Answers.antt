@@ -4,7 +4,6 @@ use Rattle.board_model.specs.Board.{Core, fiber_of}
 use Rattle.job_scheduler.specs.contracts.scheduler.Scheduler.{the_view}
 use Rattle.job_scheduler.proofs.Entries.{busy_worker, busy_fiber, busy_taken}
 use Rattle.job_scheduler.proofs.Rows.{raise_undone}
-use Rattle.job_scheduler.proofs.Writes.{put_more}
 use Rattle.job_scheduler.proofs.scheduler.Scheduler.turn.Goals as goal
 
 pub fiber_of-fiber-requires : goal.fiber_of-fiber-requires
@@ -21,7 +20,7 @@ leave-requires-clause-worker c = rw (← c.self.view_is) at (busy_worker c.args.
 pub leave-requires-clause-fiber : goal.leave-requires-clause-fiber
 leave-requires-clause-fiber c =
     let below = busy_fiber c.args.self.now.seats c.args.worker c.requires.runs in
-    let same : length c.args.self.now.seats.jobs ≡ length c.self.inside.jobs.items = ap (λ (m : Core). length m.seats.jobs) (sym c.self.view_is) in
+    let same : length c.args.self.now.seats.jobs ≡ length c.self.inside.jobs = ap (λ (m : Core). length m.seats.jobs) (sym c.self.view_is) in
     omega (arith, below, same, c.fiber_of-fiber.ensures)
 
 pub returns-in_default-clause-unchanged : goal.returns-in_default-clause-unchanged
@@ -30,6 +29,6 @@ returns-in_default-clause-unchanged c =
     rw (c.cancel.ensures, c.in_default.ensures.unchanged, c.in_ok-raise.ensures.ok, raise_undone (Draws c.args.frame) c.args.bands c.self.inside.counters key, c.self.view_is) refl
 
 pub returns-clause-ok : goal.returns-clause-ok
-returns-clause-ok c = λ s many named.
+returns-clause-ok c = λ s frames many.
     let fiber : c.fiber_of-fiber.result ≡ fiber_of (the_view c.self.inside).seats c.args.worker = c.fiber_of-fiber.ensures ∙ ap (λ (m : Core). fiber_of m.seats c.args.worker) (sym c.self.view_is) in
-    rw (← c.self.view_is) (c.leave.ensures ∙ rw (c.in-Ok.ensures.after, c.in_ok-raise.ensures.ok, fiber, named, put_more, many) refl)
+    rw (← c.self.view_is) (c.leave.ensures ∙ rw (c.in-Ok.ensures.after, c.in_ok-raise.ensures.ok, fiber, frames, many) refl)

@@ -7,8 +7,8 @@ use Rattle.run_shared.proofs.board.SharedBoard.take.Goals as goal
 
 pub invariant_of-self-inside : goal.invariant_of-self-inside
 invariant_of-self-inside g c =
-    let taken : IsTaken c.self.inside.board c.take.new.self c.args.worker (Some c.in-Ok-Some.task) = rw c.in-Ok-Some.field-0-is at c.in-Ok-Some.ensures.ok in
-    let it = (taken_is c.self.inside.board c.take.new.self c.args.worker c.in-Ok-Some.task taken).0 in (
+    let taken : IsTaken c.self.inside.board c.take_leased.new.self c.args.worker (Some c.in-Ok-Some.task) = rw c.in-Ok-Some.field-0-is at c.in-Ok-Some.ensures.ok in
+    let it = (taken_is c.self.inside.board c.take_leased.new.self c.args.worker c.in-Ok-Some.task taken).0 in (
       c.self.inside.game_is ∙ ap (λ (x : Game). Some x) (sym it.game),
       (
         c.self.inside.numbers_are ∙ ap (λ (x : Numbers). Some x) (sym it.numbers),
@@ -21,8 +21,8 @@ invariant_of-self-inside g c =
 
 pub returns-in-Ok-None-clause-taken : goal.returns-in-Ok-None-clause-taken
 returns-in-Ok-None-clause-taken g c =
-    let nothing : IsTaken c.self.inside.board c.take.new.self c.args.worker None = rw c.in-Ok-None.field-0-is at c.in-Ok-None.ensures.ok in
-    subst (λ (b : Played). IsTaken b c.take.new.self c.args.worker None) c.self.view_is nothing
+    let nothing : IsTaken c.self.inside.board c.take_leased.new.self c.args.worker None = rw c.in-Ok-None.field-0-is at c.in-Ok-None.ensures.ok in
+    subst (λ (b : Played). IsTaken b c.take_leased.new.self c.args.worker None) c.self.view_is nothing
 
 pub returns-in-Err-clause-refused : goal.returns-in-Err-clause-refused
 returns-in-Err-clause-refused g c = subst (λ (b : Played). IsTakeRefused b c.args.worker c.in-Err.fault) c.self.view_is c.in-Err.ensures.refused

@@ -1,6 +1,6 @@
 use Rattle.std.proofs.Common.{◌≡◌, ◌∙◌, ◌+◌, ◌<◌, ap, sym, subst, refl, arith, ℕ}
 use Rattle.std.specs.Prelude.{Some}
-use Rattle.bt_nodes.specs.Plain.{Seq, Fallback, Tries, Ticks, Forest, plain, plains}
+use Rattle.bt_nodes.specs.Plain.{Seq, Fallback, Forest, plain, plains}
 use Rattle.bt_nodes.specs.Sizes.{size, count}
 use Rattle.bt_nodes.specs.Trees.{plain_of}
 use Rattle.bt_nodes.proofs.AtLeastOne.{one-le-size}
@@ -8,11 +8,11 @@ use Rattle.bt_nodes.proofs.Forests.{count-plains}
 use Rattle.bt_nodes.proofs.WithinLimits.{tree_within}
 use Rattle.bt_tick.specs.Views.{view_of}
 use Rattle.stepping.specs.Observing.{seen, kind_of, StandsAt}
-use Rattle.stepping.proofs.Parts.{told_own, line_none, star_none, all_none, number_room, of_not, tries_full, tries_child, ticks_full, ticks_child, as_leaf}
+use Rattle.stepping.proofs.Parts.{told_own, line_none, star_none, all_none, number_room, of_not, gives_up, counts_child, as_leaf}
 use Rattle.stepping.proofs.Children.{IsLine, IsStar, IsAll, line_goes_on, line_ends, star_passes, star_goes_on, star_ends, star_waits, all_goes_on, all_waits, counted_few}
 use Rattle.stepping.proofs.Variants.{seq_is, fallback_is, seq_star_is, fallback_star_is, par_is, not_is, tries_is, ticks_is, as_plain, as_line, as_star, as_all}
 use Rattle.stepping.proofs.Leaves.{leaf_of, moves}
-use Rattle.stepping.proofs.Standing.{within, below}
+use Rattle.stepping.proofs.Standing.{within, below, counted_stands, counted_within}
 use Rattle.stepping.proofs.observer.Observer.+observe.Goals as goal
 
 -- ---- a node, and what it answers itself
@@ -157,64 +157,37 @@ all-returns t c =
 
 -- ---- a tries or a ticks
 
-pub tries-number-failed-requires : goal.tries-number-failed-requires
-tries-number-failed-requires t c =
-    let i = within (plain_of c.args.self.now.tree.now) (Tries c.args.most (plain c.args.child.now)) c.args.number c.requires.stands in
+pub count-number-past-requires : goal.count-number-past-requires
+count-number-past-requires t c =
+    let i = counted_within (plain_of c.args.self.now.tree.now) c.args.by c.args.most (plain c.args.child.now) c.args.number c.requires.stands in
     omega (arith, i, c.requires.room.numbers)
 
-pub tries-overflow_add-number : goal.tries-overflow_add-number
-tries-overflow_add-number t c =
-    let i = within (plain_of c.args.self.now.tree.now) (Tries c.args.most (plain c.args.child.now)) c.args.number c.requires.stands in
+pub count-give_up-requires : goal.count-give_up-requires
+count-give_up-requires t c =
+    let i = counted_within (plain_of c.args.self.now.tree.now) c.args.by c.args.most (plain c.args.child.now) c.args.number c.requires.stands in
+    omega (arith, i, c.requires.room.numbers)
+
+pub count-overflow_add-number : goal.count-overflow_add-number
+count-overflow_add-number t c =
+    let i = counted_within (plain_of c.args.self.now.tree.now) c.args.by c.args.most (plain c.args.child.now) c.args.number c.requires.stands in
     omega (arith, i, (tree_within c.args.self.now.tree.now).few)
 
-pub tries-observe-requires : goal.tries-observe-requires
-tries-observe-requires t c =
-    (omega arith, (c.requires.view, (below (plain_of c.args.self.now.tree.now) c.args.number _ _ c.requires.stands, c.requires.room)))
+pub count-observe-requires : goal.count-observe-requires
+count-observe-requires t c =
+    (omega arith, (c.requires.view, (counted_stands (plain_of c.args.self.now.tree.now) c.args.by c.args.most _ c.args.number c.requires.stands, c.requires.room)))
 
-pub tries-put_try-requires : goal.tries-put_try-requires
-tries-put_try-requires t c =
-    let i = within (plain_of c.args.self.now.tree.now) (Tries c.args.most (plain c.args.child.now)) c.args.number c.requires.stands in
-    record { node = omega (arith, i, c.in_ok-reply.ensures.room.numbers); few = omega (arith, c.if-failed-most.false, c.ranges.most) }
-
-pub tries-returns-then-failed-most : goal.tries-returns-then-failed-most
-tries-returns-then-failed-most t c =
-    tries_full (plain_of c.args.self.now.tree.now) (view_of c.args.self.now.view.now) c.args.most (plain c.args.child.now) c.args.number c.number-failed.result _ c.number-failed.ensures c.if-failed-most.true c.requires.room
-
-pub tries-returns : goal.tries-returns
-tries-returns t c =
-    tries_child (plain_of c.args.self.now.tree.now) (view_of c.args.self.now.view.now) c.args.most (plain c.args.child.now) c.args.number c.number-failed.result _ c.number-failed.ensures _ _ _ c.if-failed-most.false c.in_ok-reply.ensures (c.put_try.ensures c.args.self.now.answers.now)
-
-pub ticks-number-past-requires : goal.ticks-number-past-requires
-ticks-number-past-requires t c =
-    let i = within (plain_of c.args.self.now.tree.now) (Ticks c.args.most (plain c.args.child.now)) c.args.number c.requires.stands in
-    omega (arith, i, c.requires.room.numbers)
-
-pub ticks-put-requires : goal.ticks-put-requires
-ticks-put-requires t c =
-    let i = within (plain_of c.args.self.now.tree.now) (Ticks c.args.most (plain c.args.child.now)) c.args.number c.requires.stands in
-    omega (arith, i, c.requires.room.numbers)
-
-pub ticks-overflow_add-number : goal.ticks-overflow_add-number
-ticks-overflow_add-number t c =
-    let i = within (plain_of c.args.self.now.tree.now) (Ticks c.args.most (plain c.args.child.now)) c.args.number c.requires.stands in
-    omega (arith, i, (tree_within c.args.self.now.tree.now).few)
-
-pub ticks-observe-requires : goal.ticks-observe-requires
-ticks-observe-requires t c =
-    (omega arith, (c.requires.view, (below (plain_of c.args.self.now.tree.now) c.args.number _ _ c.requires.stands, c.requires.room)))
-
-pub ticks-put_tick-requires : goal.ticks-put_tick-requires
-ticks-put_tick-requires t c =
-    let i = within (plain_of c.args.self.now.tree.now) (Ticks c.args.most (plain c.args.child.now)) c.args.number c.requires.stands in
+pub count-count-requires : goal.count-count-requires
+count-count-requires t c =
+    let i = counted_within (plain_of c.args.self.now.tree.now) c.args.by c.args.most (plain c.args.child.now) c.args.number c.requires.stands in
     record { node = omega (arith, i, c.in_ok-reply.ensures.room.numbers); few = omega (arith, c.if-past-most.false, c.ranges.most) }
 
-pub ticks-returns-then-past-most : goal.ticks-returns-then-past-most
-ticks-returns-then-past-most t c =
-    ticks_full (plain_of c.args.self.now.tree.now) (view_of c.args.self.now.view.now) c.args.most (plain c.args.child.now) c.args.number c.number-past.result _ c.number-past.ensures _ c.if-past-most.true c.requires.room (c.put.ensures c.args.self.now.answers.now)
+pub count-returns-then-past-most : goal.count-returns-then-past-most
+count-returns-then-past-most t c =
+    gives_up (plain_of c.args.self.now.tree.now) (view_of c.args.self.now.view.now) c.args.most (plain c.args.child.now) c.args.number c.number-past.result _ c.number-past.ensures c.args.by _ c.if-past-most.true c.requires.room (c.give_up.ensures c.args.self.now.answers.now)
 
-pub ticks-returns : goal.ticks-returns
-ticks-returns t c =
-    ticks_child (plain_of c.args.self.now.tree.now) (view_of c.args.self.now.view.now) c.args.most (plain c.args.child.now) c.args.number c.number-past.result _ c.number-past.ensures _ _ _ c.if-past-most.false c.in_ok-reply.ensures (c.put_tick.ensures c.args.self.now.answers.now)
+pub count-returns : goal.count-returns
+count-returns t c =
+    counts_child (plain_of c.args.self.now.tree.now) (view_of c.args.self.now.view.now) c.args.most (plain c.args.child.now) c.args.number c.number-past.result _ c.number-past.ensures c.args.by _ _ _ c.if-past-most.false c.in_ok-reply.ensures (c.count.ensures c.args.self.now.answers.now)
 
 -- ---- a node of each variant
 
@@ -290,25 +263,25 @@ tick-returns-in_ok-observe-in-Not t c =
     let is = not_is c.args.node.now c.in-Not.child c.deref-in-Not.result.now c.deref-in-Not.ensures c.in-Not.is in
     rw c.opposite.ensures (as_plain (plain_of c.args.self.now.tree.now) (view_of c.args.self.now.view.now) (plain c.args.node.now) c.args.number _ _ _ _ is (of_not (plain_of c.args.self.now.tree.now) (view_of c.args.self.now.view.now) (plain c.deref-in-Not.result.now) c.args.number _ _ c.in_ok-observe-in-Not.field-0 c.in_ok-observe-in-Not.ensures))
 
-pub tick-tries-requires : goal.tick-tries-requires
-tick-tries-requires t c =
+pub tick-count-requires : goal.tick-count-requires
+tick-count-requires t c =
     let is = tries_is c.args.node.now c.in-Tries.child c.deref-in-Tries.result.now c.deref-in-Tries.ensures c.in-Tries.most c.in-Tries.is in
     (omega (arith, ap size is), (c.requires.view, (subst (StandsAt (plain_of c.args.self.now.tree.now) c.args.number) is c.requires.stands, c.requires.room)))
 
-pub tick-returns-in_ok-tries-in-Tries : goal.tick-returns-in_ok-tries-in-Tries
-tick-returns-in_ok-tries-in-Tries t c =
+pub tick-returns-in_ok-count-in-Tries : goal.tick-returns-in_ok-count-in-Tries
+tick-returns-in_ok-count-in-Tries t c =
     let is = tries_is c.args.node.now c.in-Tries.child c.deref-in-Tries.result.now c.deref-in-Tries.ensures c.in-Tries.most c.in-Tries.is in
-    as_plain (plain_of c.args.self.now.tree.now) (view_of c.args.self.now.view.now) (plain c.args.node.now) c.args.number _ _ _ _ is c.in_ok-tries-in-Tries.ensures
+    as_plain (plain_of c.args.self.now.tree.now) (view_of c.args.self.now.view.now) (plain c.args.node.now) c.args.number _ _ _ _ is c.in_ok-count-in-Tries.ensures
 
-pub tick-ticks-requires : goal.tick-ticks-requires
-tick-ticks-requires t c =
+pub tick-count-requires-in-Ticks : goal.tick-count-requires-in-Ticks
+tick-count-requires-in-Ticks t c =
     let is = ticks_is c.args.node.now c.in-Ticks.child c.deref-in-Ticks.result.now c.deref-in-Ticks.ensures c.in-Ticks.most c.in-Ticks.is in
     (omega (arith, ap size is), (c.requires.view, (subst (StandsAt (plain_of c.args.self.now.tree.now) c.args.number) is c.requires.stands, c.requires.room)))
 
-pub tick-returns-in_ok-ticks-in-Ticks : goal.tick-returns-in_ok-ticks-in-Ticks
-tick-returns-in_ok-ticks-in-Ticks t c =
+pub tick-returns-in_ok-count-in-Ticks : goal.tick-returns-in_ok-count-in-Ticks
+tick-returns-in_ok-count-in-Ticks t c =
     let is = ticks_is c.args.node.now c.in-Ticks.child c.deref-in-Ticks.result.now c.deref-in-Ticks.ensures c.in-Ticks.most c.in-Ticks.is in
-    as_plain (plain_of c.args.self.now.tree.now) (view_of c.args.self.now.view.now) (plain c.args.node.now) c.args.number _ _ _ _ is c.in_ok-ticks-in-Ticks.ensures
+    as_plain (plain_of c.args.self.now.tree.now) (view_of c.args.self.now.view.now) (plain c.args.node.now) c.args.number _ _ _ _ is c.in_ok-count-in-Ticks.ensures
 
 pub tick-act-requires-clause-leaf : goal.tick-act-requires-clause-leaf
 tick-act-requires-clause-leaf t c =

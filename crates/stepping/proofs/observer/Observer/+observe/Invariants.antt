@@ -9,11 +9,8 @@ decreases-observe l = 4 * size (plain l.node.now) + 1
 abbrev pub decreases-tick : goal.decreases-tick
 decreases-tick l = 4 * size (plain l.node.now)
 
-abbrev pub decreases-tries : goal.decreases-tries
-decreases-tries l = 4 * size (plain l.child.now) + 2
-
-abbrev pub decreases-ticks : goal.decreases-ticks
-decreases-ticks l = 4 * size (plain l.child.now) + 2
+abbrev pub decreases-count : goal.decreases-count
+decreases-count l = 4 * size (plain l.child.now) + 2
 
 abbrev pub decreases-line : goal.decreases-line
 decreases-line l = 4 * sizes (plains l.nodes.now) + 2

@@ -11,7 +11,7 @@ use Rattle.stepping.proofs.played.Stepping.way_to.Goals as goal
 pub way-requires : goal.way-requires
 way-requires c =
     let x = c.self.inside in
-    map_stays c.in_ok-known.known.ground x.world (ground_under _ c.in_ok-known.known x.known c.args.signals x.known_under c.in_ok-known.ensures c.self.invariant.1 x.world c.self.invariant.0.ground)
+    map_stays c.in_ok-known.known.ground x.world (ground_under _ c.in_ok-known.known x.known c.args.signals c.in_ok-known.ensures c.self.invariant.1 x.world c.self.invariant.0.ground)
     (point c.cell_on-cell.result.0 c.cell_on-cell.result.1) c.cell_on-cell.ensures.there
 
 pub returns : goal.returns
@@ -21,7 +21,7 @@ returns c =
     let place : ℕ = c.args.place in
     let at : Point = point c.cell_on-cell.result.0 c.cell_on-cell.result.1 in
     c.in_ok-answer.ensures.way
-    ∙ way_stays c.in_ok-known.known.ground x.world (ground_under _ c.in_ok-known.known x.known c.args.signals x.known_under c.in_ok-known.ensures c.self.invariant.1 x.world c.self.invariant.0.ground)
+    ∙ way_stays c.in_ok-known.known.ground x.world (ground_under _ c.in_ok-known.known x.known c.args.signals c.in_ok-known.ensures c.self.invariant.1 x.world c.self.invariant.0.ground)
     c.in_ok-known.known.signals at place
     ∙ ap (λ (k : KnownOf). way x.world k.signals at place) c.in_ok-known.ensures
     ∙ ap (λ (q : Point). way x.world c.args.signals q place) c.cell_on-cell.ensures.cell

@@ -1,0 +1,9 @@
+mod by_calls;
+mod by_tasks;
+mod frame_slots;
+mod machines;
+mod queues;
+mod refusals;
+mod sessions;
+mod wait_lists;
+mod walk;

@@ -1,0 +1,14 @@
+mod arenas;
+mod drawings;
+mod levels;
+mod maps;
+mod nodes;
+mod refused_growths;
+mod scripts;
+mod sessions;
+mod stacks;
+mod states;
+mod ticks;
+mod trees;
+mod ways;
+mod worlds;

@@ -1,0 +1,15 @@
+mod bands_tests;
+mod crowd_tests;
+mod failed_writes;
+mod fault_tests;
+mod gates;
+mod journal_tests;
+mod levels;
+mod mail_crew;
+mod mail_delivery;
+mod mail_tests;
+mod meeting_tests;
+mod recording_tests;
+mod sharing_tests;
+mod words_tests;
+mod writer_tests;
