@@ -32,13 +32,6 @@ impl Rows {
     {
         &self.text
     }
-
-    /// The same text, which is not copied.
-    pub fn into_vec(self) -> Vec<u8>
-        ensures { result.items ≡ self }
-    {
-        self.text
-    }
 }
 
 /// A band of a map, as drawn: bands are numbered from 0 at the top, and `width` counts columns.

@@ -1,4 +1,4 @@
-ghost use Rattle.std.specs.Prelude.{◌≡◌, IfOk, IsOk, box_value, not, true, false};
+ghost use Rattle.std.specs.Prelude.{◌≡◌, IfOk, IsOk, box_value, true, false};
 ghost use Rattle.std.specs.Arc.{arc_value};
 ghost use Rattle.frame_parts.specs.Distances.{AllUnder};
 ghost use Rattle.frame_state.specs.Names.{AreOfAllAgents};
@@ -145,13 +145,6 @@ impl<'t> LogicTask<'t> {
         ensures { result ≡ JobName.Logic self.now.frame }
     {
         JobName::Logic { frame: self.frame }
-    }
-
-    /// Whether its thinks are not spread yet.
-    pub fn is_at_start(&self) -> bool
-        ensures { result ≡ not self.now.has_spread }
-    {
-        self.spread.is_none()
     }
 
     /// Begins the frame, or applies what all agents want to do, by agent number. At its start it takes no memory. A turn brings

@@ -1,5 +1,5 @@
 -- Which events name a worker, and which show a frame; how many Draws end with a step.
-use Rattle.std.specs.Prelude.{ℕ, Bool, true, false, ◌==◌, List, count_by}
+use Rattle.std.specs.Prelude.{ℕ, Bool, true, false, ◌==◌, List}
 use Rattle.job_core.specs.declared.names.Event.{Event}
 use Rattle.job_core.specs.declared.names.Event.TheVariants.{Start, Resume, Ask, Spread, Hold, Finish, Emit, Stop}
 use Rattle.frame_params.specs.declared.board_step.BoardStep.{BoardStep}
@@ -24,10 +24,6 @@ names worker (Hold w j) = w == worker
 names worker (Finish w j) = w == worker
 names worker (Emit f) = false
 names worker Stop = false
-
--- the steps of a worker
-abbrev pub steps_of : ℕ → List Event → ℕ
-steps_of worker events = count_by (names worker) events
 
 -- how many Draws end with what a board is told
 abbrev pub draws_ended : BoardStep → ℕ
