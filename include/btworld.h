@@ -14,7 +14,7 @@
  * `const` at a game means that the call leaves the game as it was. Inside it writes to the handle, so the handle is no object that
  * is itself defined `const`, and two threads can't read one game at once.
  *
- * Each call but btworld_close answers a status, and says below what it *fails with*, in the order in which it looks; NO_MEMORY may
+ * Each call but btworld_version and btworld_close answers a status, and says below what it *fails with*, in the order in which it looks; NO_MEMORY may
  * come in between. After any failure each handle and each buffer is as it was, and the same call may come again, but for what is
  * said at btworld_step and btworld_replay, and that SHORT writes *size: how many bytes are wanted.
  *
@@ -106,8 +106,9 @@ enum btworld_status {
     BTWORLD_STATE_WORLD = 66
 };
 
-/* The version of this header, with which the caller was built. A shared library that it runs with may be a later 2.x. */
-BTWORLD_INLINE uint32_t btworld_version(void) { return BTWORLD_VERSION; }
+/* The version of the library that the caller runs with, as BTWORLD_VERSION is that of the header with which it was compiled: a
+ * shared library may be a later 2.x. */
+uint32_t btworld_version(void);
 
 /* A status in words, for a log or a message: it names no line, cell or tree, as btworld_fault_text does. Never null. */
 BTWORLD_INLINE const char *btworld_status_text(uint32_t status) {
