@@ -1,8 +1,13 @@
-/* Plays a level by the C library, one frame after another, with one thread: what an engine would call. */
+/* Plays a level by the C library, one frame after another, with one thread: what an engine would call.
+ *
+ *     library play LEVEL --frames N [--script FILE]                          writes the frames
+ *     library step|text|digest|fork LEVEL --frames N [--script FILE]         writes the nanoseconds of processor time of a step, or of a
+ *                                                                            step with that call: a fork is closed again */
 #include "btworld.h"
 #include <stdio.h>
 #include <stdlib.h>
 #include <string.h>
+#include <time.h>
 
 typedef struct { uint8_t *bytes; size_t length; } Text;
 
@@ -32,17 +37,24 @@ int main(int argc, char **argv) {
             level_path = argv[at];
         }
     }
-    if (!level_path) fail("play LEVEL --frames N [--script FILE]");
+    if (!level_path) fail("play|step|text|digest|fork LEVEL --frames N [--script FILE]");
     static uint8_t none[1], text[1u << 17];
     Text level = read_file(level_path), script = {none, 0};
     if (script_path) script = read_file(script_path);
-    btworld_game game = BTWORLD_CLOSED_GAME;
+    int plays = !strcmp(argv[1], "play"), texts = plays || !strcmp(argv[1], "text");
+    int digests = !strcmp(argv[1], "digest"), forks = !strcmp(argv[1], "fork");
+    btworld_game game = BTWORLD_CLOSED_GAME, fork = BTWORLD_CLOSED_GAME;
     if (btworld_open_script(&game, level.bytes, level.length, script.bytes, script.length)) fail("the level or the script is refused");
+    clock_t begin = clock();
     for (unsigned frame = 0; frame < frames; frame++) {
         size_t size;
-        if (btworld_step_script(&game) || btworld_text(&game, text, sizeof text, &size)) fail("a step is refused");
-        if (fwrite(text, 1, size, stdout) != size) fail("write");
+        uint64_t digest;
+        if (btworld_step_script(&game) || (texts && btworld_text(&game, text, sizeof text, &size))) fail("a step is refused");
+        if ((digests && btworld_digest(&game, &digest)) || (forks && btworld_fork(&game, &fork))) fail("a call is refused");
+        btworld_close(&fork);
+        if (plays && fwrite(text, 1, size, stdout) != size) fail("write");
     }
+    if (!plays) printf("%.0f\n", (double)(clock() - begin) * 1e9 / CLOCKS_PER_SEC / (frames ? frames : 1));
     btworld_close(&game);
     if (fflush(stdout)) fail("write");
     return 0;
