@@ -44,15 +44,14 @@ pub extern "C" fn btworld_load(alloc: Global, game: &mut Game, level: &[u8], sta
     if game.is_open {
         return OPEN;
     }
-    let read = match read_level(alloc, level) {
-        Ok(read) => read,
-        Err(fault) => return level_status(&fault),
-    };
-    match loaded(alloc, read, state) {
-        Ok(held) => {
-            put(game, held);
-            OK
-        }
-        Err(status) => status,
+    match read_level(alloc, level) {
+        Ok(read) => match loaded(alloc, read, state) {
+            Ok(held) => {
+                put(game, held);
+                OK
+            }
+            Err(status) => status,
+        },
+        Err(fault) => level_status(&fault),
     }
 }

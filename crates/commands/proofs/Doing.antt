@@ -89,77 +89,48 @@ asks_no_reason (Record level journal settings script) other = tt
 
 -- ---- by the words
 
-pub played : (old new : Option (List ℕ)) (words : List (List ℕ)) (w : Words) (n : ℕ) → IsReading words w → AsksToPlay words n → IsDone old new w
-    → PlaysSome old new n
-played old new words w n reading asks done =
-    read_as_play words w n (IsDone old new) (PlaysSome old new) reading asks (λ level settings script log h. h) done
+module _ (old new : Option (List ℕ)) (words : List (List ℕ)) (w : Words) (reading : IsReading words w) where
+  pub played : (n : ℕ) → AsksToPlay words n → IsDone old new w → PlaysSome old new n
+  played n asks done = read_as_play words w n (IsDone old new) (PlaysSome old new) reading asks (λ level settings script log h. h) done
 
-pub played_in_part : (old new : Option (List ℕ)) (words : List (List ℕ)) (w : Words) (n : ℕ) → IsReading words w → AsksToPlay words n → IsPartDone old new w
-    → PlaysPart old new n
-played_in_part old new words w n reading asks done =
-    read_as_play words w n (IsPartDone old new) (PlaysPart old new) reading asks (λ level settings script log h. h) done
+  pub played_in_part : (n : ℕ) → AsksToPlay words n → IsPartDone old new w → PlaysPart old new n
+  played_in_part n asks done = read_as_play words w n (IsPartDone old new) (PlaysPart old new) reading asks (λ level settings script log h. h) done
 
-pub replayed : (old new : Option (List ℕ)) (words : List (List ℕ)) (w : Words) → IsReading words w → AsksToReplay words → IsDone old new w
-    → ReplaysSome old new
-replayed old new words w reading asks done =
-    read_as_replay words w (IsDone old new) (ReplaysSome old new) reading asks (λ level log script h. h) done
+  pub replayed : AsksToReplay words → IsDone old new w → ReplaysSome old new
+  replayed asks done = read_as_replay words w (IsDone old new) (ReplaysSome old new) reading asks (λ level log script h. h) done
 
-pub replayed_in_part : (old new : Option (List ℕ)) (words : List (List ℕ)) (w : Words) → IsReading words w → AsksToReplay words → IsPartDone old new w
-    → ReplaysPart old new
-replayed_in_part old new words w reading asks done =
-    read_as_replay words w (IsPartDone old new) (ReplaysPart old new) reading asks (λ level log script h. h) done
+  pub replayed_in_part : AsksToReplay words → IsPartDone old new w → ReplaysPart old new
+  replayed_in_part asks done = read_as_replay words w (IsPartDone old new) (ReplaysPart old new) reading asks (λ level log script h. h) done
 
-pub explained : (old new : Option (List ℕ)) (words : List (List ℕ)) (w : Words) → IsReading words w → AsksToExplain words → IsDone old new w
-    → ExplainsSome old new
-explained old new words w reading asks done =
-    read_as_explain words w (IsDone old new) (ExplainsSome old new) reading asks (λ level script log h. h) done
+  pub explained : AsksToExplain words → IsDone old new w → ExplainsSome old new
+  explained asks done = read_as_explain words w (IsDone old new) (ExplainsSome old new) reading asks (λ level script log h. h) done
 
-pub digested : (old new : Option (List ℕ)) (words : List (List ℕ)) (w : Words) (n : ℕ) → IsReading words w → AsksToDigest words n → IsDone old new w
-    → WritesSome old new (λ g. digests_text g n)
-digested old new words w n reading asks done =
-    read_as_digest words w n (IsDone old new) (λ k. WritesSome old new (λ g. digests_text g k)) reading asks (λ level frames script h. h) done
+  pub digested : (n : ℕ) → AsksToDigest words n → IsDone old new w → WritesSome old new (λ g. digests_text g n)
+  digested n asks done = read_as_digest words w n (IsDone old new) (λ k. WritesSome old new (λ g. digests_text g k)) reading asks (λ level frames script h. h) done
 
-pub digested_in_part : (old new : Option (List ℕ)) (words : List (List ℕ)) (w : Words) (n : ℕ) → IsReading words w → AsksToDigest words n → IsPartDone old new w
-    → WritesPart old new (λ g. digests_text g n)
-digested_in_part old new words w n reading asks done =
-    read_as_digest words w n (IsPartDone old new) (λ k. WritesPart old new (λ g. digests_text g k)) reading asks (λ level frames script h. h) done
+  pub digested_in_part : (n : ℕ) → AsksToDigest words n → IsPartDone old new w → WritesPart old new (λ g. digests_text g n)
+  digested_in_part n asks done = read_as_digest words w n (IsPartDone old new) (λ k. WritesPart old new (λ g. digests_text g k)) reading asks (λ level frames script h. h) done
 
-pub told : (old new : Option (List ℕ)) (words : List (List ℕ)) (w : Words) (n : ℕ) → IsReading words w → AsksForState words n → IsDone old new w
-    → WritesSome old new (λ g. scripted_state_text g n)
-told old new words w n reading asks done =
-    read_as_state words w n (IsDone old new) (λ k. WritesSome old new (λ g. scripted_state_text g k)) reading asks (λ level frame script h. h) done
+  pub told : (n : ℕ) → AsksForState words n → IsDone old new w → WritesSome old new (λ g. scripted_state_text g n)
+  told n asks done = read_as_state words w n (IsDone old new) (λ k. WritesSome old new (λ g. scripted_state_text g k)) reading asks (λ level frame script h. h) done
 
-pub told_in_part : (old new : Option (List ℕ)) (words : List (List ℕ)) (w : Words) (n : ℕ) → IsReading words w → AsksForState words n → IsPartDone old new w
-    → WritesPart old new (λ g. scripted_state_text g n)
-told_in_part old new words w n reading asks done =
-    read_as_state words w n (IsPartDone old new) (λ k. WritesPart old new (λ g. scripted_state_text g k)) reading asks (λ level frame script h. h) done
+  pub told_in_part : (n : ℕ) → AsksForState words n → IsPartDone old new w → WritesPart old new (λ g. scripted_state_text g n)
+  told_in_part n asks done = read_as_state words w n (IsPartDone old new) (λ k. WritesPart old new (λ g. scripted_state_text g k)) reading asks (λ level frame script h. h) done
 
-pub why_told : (old new : Option (List ℕ)) (words : List (List ℕ)) (w : Words) (n : ℕ) (letter : List ℕ) → IsReading words w → AsksWhy words n letter → IsDone old new w
-    → WritesSome old new (λ g. why_text g n (agent_of_letter letter))
-why_told old new words w n letter reading asks done =
-    read_as_why words w n letter (IsDone old new) (λ k l. WritesSome old new (λ g. why_text g k (agent_of_letter l))) reading asks (λ level frame agent script h. h) done
+  pub why_told : (n : ℕ) (letter : List ℕ) → AsksWhy words n letter → IsDone old new w → WritesSome old new (λ g. why_text g n (agent_of_letter letter))
+  why_told n letter asks done = read_as_why words w n letter (IsDone old new) (λ k l. WritesSome old new (λ g. why_text g k (agent_of_letter l))) reading asks (λ level frame agent script h. h) done
 
-pub why_told_in_part : (old new : Option (List ℕ)) (words : List (List ℕ)) (w : Words) (n : ℕ) (letter : List ℕ) → IsReading words w → AsksWhy words n letter → IsPartDone old new w
-    → WritesPart old new (λ g. why_text g n (agent_of_letter letter))
-why_told_in_part old new words w n letter reading asks done =
-    read_as_why words w n letter (IsPartDone old new) (λ k l. WritesPart old new (λ g. why_text g k (agent_of_letter l))) reading asks (λ level frame agent script h. h) done
+  pub why_told_in_part : (n : ℕ) (letter : List ℕ) → AsksWhy words n letter → IsPartDone old new w → WritesPart old new (λ g. why_text g n (agent_of_letter letter))
+  why_told_in_part n letter asks done = read_as_why words w n letter (IsPartDone old new) (λ k l. WritesPart old new (λ g. why_text g k (agent_of_letter l))) reading asks (λ level frame agent script h. h) done
 
-pub completed : (old new : Option (List ℕ)) (words : List (List ℕ)) (w : Words) → IsReading words w → AsksToComplete words → IsDone old new w
-    → CompletesSome old new
-completed old new words w reading asks done =
-    read_as_complete words w (IsDone old new) (CompletesSome old new) reading asks (λ level log whole script h. h) done
+  pub completed : AsksToComplete words → IsDone old new w → CompletesSome old new
+  completed asks done = read_as_complete words w (IsDone old new) (CompletesSome old new) reading asks (λ level log whole script h. h) done
 
-pub completed_in_part : (old new : Option (List ℕ)) (words : List (List ℕ)) (w : Words) → IsReading words w → AsksToComplete words → IsPartDone old new w
-    → CompletesSomePart old new
-completed_in_part old new words w reading asks done =
-    read_as_complete words w (IsPartDone old new) (CompletesSomePart old new) reading asks (λ level log whole script h. h) done
+  pub completed_in_part : AsksToComplete words → IsPartDone old new w → CompletesSomePart old new
+  completed_in_part asks done = read_as_complete words w (IsPartDone old new) (CompletesSomePart old new) reading asks (λ level log whole script h. h) done
 
-pub recorded : (old new : Option (List ℕ)) (words : List (List ℕ)) (w : Words) (n : ℕ) → IsReading words w → AsksToRecord words n → IsDone old new w
-    → PlaysSome old new n
-recorded old new words w n reading asks done =
-    read_as_record words w n (IsDone old new) (PlaysSome old new) reading asks (λ level journal settings script h. h) done
+  pub recorded : (n : ℕ) → AsksToRecord words n → IsDone old new w → PlaysSome old new n
+  recorded n asks done = read_as_record words w n (IsDone old new) (PlaysSome old new) reading asks (λ level journal settings script h. h) done
 
-pub recorded_in_part : (old new : Option (List ℕ)) (words : List (List ℕ)) (w : Words) (n : ℕ) → IsReading words w → AsksToRecord words n → IsPartDone old new w
-    → PlaysPart old new n
-recorded_in_part old new words w n reading asks done =
-    read_as_record words w n (IsPartDone old new) (PlaysPart old new) reading asks (λ level journal settings script h. h) done
+  pub recorded_in_part : (n : ℕ) → AsksToRecord words n → IsPartDone old new w → PlaysPart old new n
+  recorded_in_part n asks done = read_as_record words w n (IsPartDone old new) (PlaysPart old new) reading asks (λ level journal settings script h. h) done

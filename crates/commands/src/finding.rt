@@ -37,14 +37,14 @@ fn only_fault(alloc: Global, fault: &Fault) -> Result<Vec<u8>, AllocError> {
     Vec::from_slice(alloc, line.as_bytes())
 }
 
-/// What is told of a fault of a level or a script.
-fn reason_text(
+/// What is told of a fault of the level or the script in the file of this name.
+pub(crate) fn reason_text(
     alloc: Global,
     fault: &Fault,
     name: &str,
-    reason: Option<Reason>,
+    reason: Result<Option<Reason>, AllocError>,
 ) -> Result<Vec<u8>, AllocError> {
-    let Some(reason) = reason else {
+    let Some(reason) = reason? else {
         return only_fault(alloc, fault);
     };
     let mut text = begun(alloc, fault, name, reason.line)?;
@@ -59,14 +59,14 @@ fn reason_text(
     Ok(text)
 }
 
-/// What is told of a fault of a log.
-fn event_text(
+/// What is told of a fault of the log in the file of this name.
+pub(crate) fn event_text(
     alloc: Global,
     fault: &Fault,
     name: &str,
-    reason: Option<EventReason>,
+    reason: Result<Option<EventReason>, AllocError>,
 ) -> Result<Vec<u8>, AllocError> {
-    let Some(reason) = reason else {
+    let Some(reason) = reason? else {
         return only_fault(alloc, fault);
     };
     let mut text = begun(alloc, fault, name, reason.line)?;
@@ -75,7 +75,7 @@ fn event_text(
 }
 
 /// What is told of a fault of a journal's head: the first byte that isn't that of the line that is wanted.
-fn head_text(
+pub(crate) fn head_text(
     alloc: Global,
     fault: &Fault,
     file: NamedBytes<'_>,
@@ -91,7 +91,8 @@ fn head_text(
 }
 
 impl Finding {
-    fn told(alloc: Global, fault: Fault, text: Result<Vec<u8>, AllocError>) -> Finding
+    /// The finding of a fault of which this text is told, where memory was not refused for it.
+    pub(crate) fn told(alloc: Global, fault: Fault, text: Result<Vec<u8>, AllocError>) -> Finding
         ensures { (result.fault ≡ fault) ⊎ (result.fault ≡ Fault.OutOfMemory) }
     {
         match text {
@@ -101,53 +102,5 @@ impl Finding {
                 text: Vec::new(alloc),
             },
         }
-    }
-
-    /// The finding of a fault of the level or the script in the file of this name.
-    pub(crate) fn in_file(
-        alloc: Global,
-        fault: Fault,
-        name: &str,
-        reason: Result<Option<Reason>, AllocError>,
-    ) -> Finding
-        ensures { (result.fault ≡ fault) ⊎ (result.fault ≡ Fault.OutOfMemory) }
-    {
-        let text = match reason {
-            Ok(reason) => reason_text(alloc, &fault, name, reason),
-            Err(refused) => Err(refused),
-        };
-        Finding::told(alloc, fault, text)
-    }
-
-    /// The finding of a fault of a journal's head, in place of which this line is wanted.
-    pub(crate) fn in_journal(
-        alloc: Global,
-        fault: Fault,
-        file: NamedBytes<'_>,
-        wanted: Result<Vec<u8>, AllocError>,
-    ) -> Finding
-        ensures { (result.fault ≡ fault) ⊎ (result.fault ≡ Fault.OutOfMemory) }
-    {
-        let text = match wanted {
-            Ok(wanted) => head_text(alloc, &fault, file, &wanted),
-            Err(refused) => Err(refused),
-        };
-        Finding::told(alloc, fault, text)
-    }
-
-    /// The finding of a fault of the log in the file of this name.
-    pub(crate) fn in_log(
-        alloc: Global,
-        fault: Fault,
-        name: &str,
-        reason: Result<Option<EventReason>, AllocError>,
-    ) -> Finding
-        ensures { (result.fault ≡ fault) ⊎ (result.fault ≡ Fault.OutOfMemory) }
-    {
-        let text = match reason {
-            Ok(reason) => event_text(alloc, &fault, name, reason),
-            Err(refused) => Err(refused),
-        };
-        Finding::told(alloc, fault, text)
     }
 }

@@ -11,7 +11,6 @@ mod journals;
 mod laws;
 mod named_line;
 mod opening;
-mod play;
 mod playing;
 mod program;
 mod record_fault;

@@ -55,3 +55,17 @@ pub(crate) fn step(alloc: Global, game: &mut Stepping) -> Result<(), Fault>
         Err(_) => Err(Fault::OutOfMemory),
     }
 }
+
+/// So many frames on.
+pub(crate) fn step_all(alloc: Global, game: &mut Stepping, frames: u32) -> Result<(), Fault>
+    requires { game.old.frame ≡ 0 }
+    ensures ok { OnOk result ((g : Game) → IsSteppedTo g 0 game.old → IsSteppedTo g frames game.new) }
+    ensures frame { OnOk result (game.new.frame ≡ frames) }
+    ensures trees { OnOk result (game.new.game.trees ≡ game.old.game.trees) }
+    ensures fault { IfErr result (λ fault. fault ≡ Fault.OutOfMemory) }
+{
+    'frames: while game.frame() < frames {
+        step(alloc, game)?;
+    }
+    Ok(())
+}

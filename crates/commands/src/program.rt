@@ -96,7 +96,12 @@ fn act<H: Files + Threads + Wait + Clock + Sync, W: Write, E: Write>(
 {
     match words {
         Words::Explain { level, script, log } => {
-            explain_files(rt, alloc, level, script, log, out, err)
+            match explain_files(rt, alloc, level, script, log, out) {
+                Ok(None) => 0,
+                // It is told on `out`.
+                Ok(Some(told)) => told.status(),
+                Err(untold) => untold.report(err),
+            }
         }
         words => {
             let done = act_on_files(rt, alloc, words, out);

@@ -2,33 +2,16 @@
 ghost use Rattle.std.specs.Prelude.{◌≡◌, ◌⊎◌, IfOk, IfErr, IsSomeAnd, MatchOption, OnOk, OnErr};
 ghost use Rattle.std.specs.Io.KnownBytes.{Appends, Keeps};
 ghost use Rattle.byte_streams.specs.Streams.{AppendsPart};
-ghost use Rattle.commands.specs.Opening.{IsSteppedTo};
 ghost use Rattle.commands.specs.Written.{WritesSome, WritesPart};
-ghost use Rattle.game_rules.specs.Game.{Game};
 ghost use Rattle.level_text.specs.Games.{spelled_game};
 ghost use Rattle.stepping.specs.StateText.{scripted_state_text};
 ghost use Rattle.words.specs.Sessions.{IsSessionFault};
 
-use crate::opening::{open, step};
+use crate::opening::{open, step_all};
 use std::alloc::Global;
 use std::io::Write;
 use std::rt::Files;
-use stepping::Stepping;
 use words::{Fault, put, read_file, read_optional_file};
-
-/// So many frames on.
-pub(crate) fn step_all(alloc: Global, game: &mut Stepping, frames: u32) -> Result<(), Fault>
-    requires { game.old.frame ≡ 0 }
-    ensures ok { OnOk result ((g : Game) → IsSteppedTo g 0 game.old → IsSteppedTo g frames game.new) }
-    ensures frame { OnOk result (game.new.frame ≡ frames) }
-    ensures trees { OnOk result (game.new.game.trees ≡ game.old.game.trees) }
-    ensures fault { IfErr result (λ fault. fault ≡ Fault.OutOfMemory) }
-{
-    'frames: while game.frame() < frames {
-        step(alloc, game)?;
-    }
-    Ok(())
-}
 
 fn state(alloc: Global, level: &[u8], script: &[u8], frame: u32) -> Result<Vec<u8>, Fault>
     ensures ok { IfOk result (λ text. IsSomeAnd (spelled_game level.now script.now) (λ g. text.items ≡ scripted_state_text g frame)) }

@@ -13,8 +13,7 @@ ghost use Rattle.level_text.specs.Begun.{own};
 ghost use Rattle.level_text.specs.Games.{spelled_game};
 ghost use Rattle.words.specs.Sessions.{IsSessionFault};
 
-use crate::opening::{open, step};
-use crate::states::step_all;
+use crate::opening::{open, step, step_all};
 use bt_nodes::{Node, Status};
 use byte_streams::push_number;
 use grid_world::{Answer, Dir, Signals};
@@ -71,15 +70,7 @@ fn push_argument(text: &mut Vec<u8>, node: &Node<Global>) -> Result<(), AllocErr
         }
         Node::Signal(signal) => text.extend_from_slice(&[b' ', b'a' + signal.number() as u8]),
         Node::Give(letter) => text.extend_from_slice(&[b' ', b'A' + letter.number() as u8]),
-        Node::Seq(_)
-        | Node::Fallback(_)
-        | Node::SeqStar(_)
-        | Node::FallbackStar(_)
-        | Node::Not(_)
-        | Node::Take
-        | Node::Drop
-        | Node::Carrying
-        | Node::Item => Ok(()),
+        _ => Ok(()),
     }
 }
 

@@ -105,26 +105,19 @@ const SLOTS: Argument = Argument {
     },
 };
 
+const LOG: Argument = Argument {
+    name: "log",
+    value: "FILE",
+    help: "Where the log of the run is written, once all frames are",
+    form: Form::Path,
+};
+
 pub static SUBCOMMANDS: [Subcommand; 9] = [
     Subcommand {
         name: "play",
         about: "Plays a level and prints its frames on standard output.",
         usage: "btworld play LEVEL --frames N --workers K [--small S] [--large G] [--slots P] [--script FILE] [--log FILE]",
-        arguments: &[
-            LEVEL,
-            FRAMES,
-            WORKERS,
-            SMALL,
-            LARGE,
-            SLOTS,
-            SCRIPT,
-            Argument {
-                name: "log",
-                value: "FILE",
-                help: "Where the log of the run is written, once all frames are",
-                form: Form::Path,
-            },
-        ],
+        arguments: &[LEVEL, FRAMES, WORKERS, SMALL, LARGE, SLOTS, SCRIPT, LOG],
     },
     Subcommand {
         name: "replay",

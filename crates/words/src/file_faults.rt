@@ -1,10 +1,11 @@
-// What is said of a level that is refused.
+// What is said of a level, a script or a log that is refused.
 ghost use Rattle.std.specs.Prelude.{◌≡◌, ◌<◌, ◌+◌};
-ghost use Rattle.words.specs.Faults.{IsOfLevel, limit_words};
+ghost use Rattle.words.specs.Faults.{IsOfLevel, IsOfScript, IsOfLog, limit_words};
 
 use crate::program_fault::Fault;
 use bt_nodes::TreeFault;
-use level_text::LevelFault;
+use level_text::{LevelFault, ScriptFault};
+use log_text::LogFault;
 
 // The limit that a tree breaks.
 fn limit_text(fault: TreeFault) -> &'static str
@@ -31,7 +32,6 @@ impl From<LevelFault> for Fault {
 
     fn from(fault: LevelFault) -> Fault {
         match fault {
-            LevelFault::OutOfMemory => Fault::OutOfMemory,
             LevelFault::Json => Fault::Json,
             LevelFault::Shape => Fault::Shape,
             LevelFault::MapSize => Fault::MapSize,
@@ -47,6 +47,31 @@ impl From<LevelFault> for Fault {
             },
             LevelFault::NoPlace { name } => Fault::NoPlace { name },
             LevelFault::NoAgent { name } => Fault::NoAgent { name },
+            LevelFault::OutOfMemory => Fault::OutOfMemory,
+        }
+    }
+}
+
+impl From<ScriptFault> for Fault {
+    ghost from_gives = { λ given fault. IsOfScript given fault };
+
+    fn from(fault: ScriptFault) -> Fault {
+        match fault {
+            ScriptFault::Line { n } => Fault::ScriptLine(n),
+            ScriptFault::Order { n } => Fault::ScriptOrder(n),
+            ScriptFault::OutOfMemory => Fault::OutOfMemory,
+        }
+    }
+}
+
+impl From<LogFault> for Fault {
+    ghost from_gives = { λ given fault. IsOfLog given fault };
+
+    fn from(fault: LogFault) -> Fault {
+        match fault {
+            LogFault::Head => Fault::LogHead,
+            LogFault::Line { n } => Fault::LogLine(n),
+            LogFault::OutOfMemory => Fault::OutOfMemory,
         }
     }
 }

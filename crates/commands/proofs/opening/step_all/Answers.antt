@@ -1,6 +1,6 @@
 use Rattle.std.proofs.Common.{◌≡◌, ◌∙◌, ℕ, refl, subst, sym, arith}
 use Rattle.commands.specs.Opening.{IsSteppedTo}
-use Rattle.commands.proofs.states.step_all.Goals as goal
+use Rattle.commands.proofs.opening.step_all.Goals as goal
 
 pub frames-init : goal.frames-init
 frames-init c = record {

@@ -1,5 +1,5 @@
 use Rattle.commands.proofs.Played.{whole_text, whole_list, part_of_text, fault_of_game}
-use Rattle.commands.proofs.play.play_bytes.Goals as goal
+use Rattle.commands.proofs.playing.play_bytes.Goals as goal
 
 pub returns-in-Ok-clause-ok : goal.returns-in-Ok-clause-ok
 returns-in-Ok-clause-ok g c =

@@ -1,7 +1,7 @@
 use Rattle.std.proofs.Common.{◌≡◌, ◌≤◌, ◌-◌}
 use Rattle.game_rules.specs.Game.{Game}
 use Rattle.commands.specs.Opening.{IsSteppedTo}
-use Rattle.commands.proofs.states.step_all.Given as goal
+use Rattle.commands.proofs.opening.step_all.Given as goal
 
 abbrev pub invariant-frames : goal.invariant-frames
 invariant-frames l = record {
