@@ -7,7 +7,7 @@ ghost use Rattle.counters.specs.Keys.{counter_of};
 ghost use Rattle.counters.specs.Rows.{started, left_in};
 ghost use Rattle.counters.specs.Waiting.{IsUnique};
 
-use super::board_counter::BoardCounter;
+use super::counter::Counter;
 use super::key::CounterKey;
 use super::waiters::Waiters;
 use job_queues::Fiber;
@@ -19,7 +19,7 @@ use std::marker::Model;
 #[derive(Drop)]
 pub struct BoardCounters {
     alloc: Global,
-    all: Vec<BoardCounter>,
+    all: Vec<Counter<Waiters>>,
 }
 
 impl Model for BoardCounters {
@@ -34,7 +34,7 @@ impl Model for BoardCounters {
     ghost invariant = { λ c. IsUnique c.all.items };
 }
 
-fn place(all: &[BoardCounter], key: CounterKey) -> Option<usize>
+fn place(all: &[Counter<Waiters>], key: CounterKey) -> Option<usize>
     requires { IsUnique all.now }
     ensures { IsFirstPlace (has_key (counter_of key)) all.now result }
 {
@@ -48,7 +48,7 @@ fn place(all: &[BoardCounter], key: CounterKey) -> Option<usize>
 
 // Takes out the counter at a place, which mostly is the last.
 #[inline(always)]
-fn take_at(all: &mut Vec<BoardCounter>, at: usize) -> BoardCounter
+fn take_at(all: &mut Vec<Counter<Waiters>>, at: usize) -> Counter<Waiters>
     requires { at < vec_len all.old }
     ensures value { result ≡ slice_index_or all.old.items at result }
     ensures items { all.new.items ≡ remove all.old.items at }
@@ -82,7 +82,7 @@ impl BoardCounters {
         // Room comes first, since a refused push would hand the counter back.
         self.all.reserve(1)?;
         self.all
-            .push_reserved(BoardCounter::new(self.alloc, key, number));
+            .push_reserved(Counter::new(key, number, Waiters::none(self.alloc)));
         Ok(())
     }
 
@@ -100,7 +100,7 @@ impl BoardCounters {
     {
         self.all.reserve(1)?;
         self.all
-            .push_reserved(BoardCounter::awaited(self.alloc, key, number, fiber));
+            .push_reserved(Counter::new(key, number, Waiters::one(self.alloc, fiber)));
         Ok(())
     }
 

@@ -1,7 +1,7 @@
-ghost use Rattle.std.specs.Prelude.{◌≡◌, ◌<◌, OnOk, OnErr};
+ghost use Rattle.std.specs.Prelude.{◌≡◌, ◌<◌, ◌++◌, ◌∷◌, [], ℕ, List, OnOk, OnErr};
 ghost use Rattle.board_model.specs.Board.{has_key, lowered, with_waiter};
 ghost use Rattle.counters.specs.Keys.{counter_of};
-ghost use Rattle.counters.specs.Rows.{started, emptied};
+ghost use Rattle.counters.specs.Rows.{emptied};
 
 use super::key::{CounterKey, is_same_key};
 use job_queues::Fiber;
@@ -9,32 +9,46 @@ use std::alloc::{AllocError, Global};
 use std::marker::Model;
 use std::mem;
 
-/// A counter, and the fibers that wait for it, in the order in which they came.
-#[derive(Drop)]
-pub(crate) struct Counter {
-    key: CounterKey,
-    left: u32,
-    waiters: Vec<Fiber>,
+/// A list of fibers that wait, in the order in which they came.
+pub(crate) trait WaitList {
+    ghost fibers: { Self → List ℕ };
+
+    fn put(&mut self, fiber: Fiber) -> Result<(), AllocError>
+        ensures ok { OnOk result (fibers self.new ≡ fibers self.old ++ fiber ∷ []) }
+        ensures unchanged { OnErr result (fibers self.new ≡ fibers self.old) };
 }
 
-impl Model for Counter {
+impl WaitList for Vec<Fiber> {
+    ghost fibers = { λ list. list.items };
+
+    fn put(&mut self, fiber: Fiber) -> Result<(), AllocError> {
+        self.push(fiber)?;
+        Ok(())
+    }
+}
+
+/// A counter, and the fibers that wait for it.
+#[derive(Drop)]
+pub(crate) struct Counter<W: WaitList> {
+    key: CounterKey,
+    left: u32,
+    waiters: W,
+}
+
+impl<W: WaitList> Model for Counter<W> {
     ghost use Rattle.board_model.specs.Board.{Row};
     ghost use Rattle.counters.specs.Keys.{counter_of};
 
     ghost Value = { Row };
 
-    ghost view = { λ c. record { key = counter_of c.key; left = c.left; waiters = c.waiters.items } };
+    ghost view = { λ c. record { key = counter_of c.key; left = c.left; waiters = W.fibers c.waiters } };
 }
 
-impl Counter {
-    pub(crate) fn new(alloc: Global, key: CounterKey, left: u32) -> Counter
-        ensures { result ≡ started (counter_of key) left }
+impl<W: WaitList> Counter<W> {
+    pub(crate) fn new(key: CounterKey, left: u32, waiters: W) -> Counter<W>
+        ensures { result ≡ record { key = counter_of key; left = left; waiters = W.fibers waiters } }
     {
-        Counter {
-            key,
-            left,
-            waiters: Vec::new(alloc),
-        }
+        Counter { key, left, waiters }
     }
 
     pub(crate) fn is_for(&self, key: CounterKey) -> bool
@@ -56,6 +70,27 @@ impl Counter {
         self.left -= 1;
     }
 
+    pub(crate) fn wait(&mut self, fiber: Fiber) -> Result<(), AllocError>
+        ensures ok { OnOk result (self.new ≡ with_waiter fiber self.old) }
+        ensures unchanged { OnErr result (self.new ≡ self.old) }
+    {
+        self.waiters.put(fiber)
+    }
+
+    /// What a counter leaves that is taken out.
+    pub(crate) fn into_waiters(self) -> W
+        ensures { W.fibers result ≡ self.waiters }
+    {
+        let Self {
+            key: _,
+            left: _,
+            waiters,
+        } = self;
+        waiters
+    }
+}
+
+impl Counter<Vec<Fiber>> {
     /// The number is 0 now, and the waiters go.
     pub(crate) fn give_out(&mut self, alloc: Global) -> Vec<Fiber>
         ensures waiters { result.items ≡ self.old.waiters }
@@ -63,13 +98,5 @@ impl Counter {
     {
         self.left = 0;
         mem::replace(&mut self.waiters, Vec::new(alloc))
-    }
-
-    pub(crate) fn wait(&mut self, fiber: Fiber) -> Result<(), AllocError>
-        ensures ok { OnOk result (self.new ≡ with_waiter fiber self.old) }
-        ensures unchanged { OnErr result (self.new ≡ self.old) }
-    {
-        self.waiters.push(fiber)?;
-        Ok(())
     }
 }

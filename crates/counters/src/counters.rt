@@ -44,7 +44,7 @@ pub enum Waits {
 #[derive(Drop)]
 pub struct Counters {
     alloc: Global,
-    all: Vec<Counter>,
+    all: Vec<Counter<Vec<Fiber>>>,
 }
 
 impl Model for Counters {
@@ -56,13 +56,13 @@ impl Model for Counters {
     ghost view = { λ c. c.all.items };
 }
 
-fn position_of(all: &[Counter], key: CounterKey) -> Option<usize>
+fn position_of(all: &[Counter<Vec<Fiber>>], key: CounterKey) -> Option<usize>
     ensures { result ≡ position (has_key (counter_of key)) all.now }
 {
     all.iter().position(|counter| counter.is_for(key))
 }
 
-fn place(all: &[Counter], key: CounterKey) -> Option<usize>
+fn place(all: &[Counter<Vec<Fiber>>], key: CounterKey) -> Option<usize>
     ensures { IsFirstPlace (has_key (counter_of key)) all.now result }
 {
     position_of(all, key)
@@ -92,7 +92,7 @@ impl Counters {
         }
         if self
             .all
-            .push(Counter::new(self.alloc, key, number))
+            .push(Counter::new(key, number, Vec::new(self.alloc)))
             .is_err()
         {
             return Err(CounterFault::OutOfMemory);

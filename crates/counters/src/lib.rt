@@ -1,7 +1,6 @@
 //! Counters that jobs lower as they end, and the fibers that wait for a counter to reach 0.
 #![tactic(auto)]
 
-mod board_counter;
 mod board_counters;
 mod counter;
 mod counters;

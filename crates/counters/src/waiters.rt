@@ -1,5 +1,6 @@
-ghost use Rattle.std.specs.Prelude.{◌≡◌, ◌++◌, ◌∷◌, [], OnOk, OnErr};
+ghost use Rattle.std.specs.Prelude.{◌≡◌, ◌∷◌, []};
 
+use super::counter::WaitList;
 use job_queues::Fiber;
 use std::alloc::{AllocError, Global};
 use std::marker::Model;
@@ -39,12 +40,13 @@ impl Waiters {
             more: Vec::new(alloc),
         }
     }
+}
+
+impl WaitList for Waiters {
+    ghost fibers = { λ list. list };
 
     /// Only a second fiber and those after it take memory.
-    pub(crate) fn put(&mut self, fiber: Fiber) -> Result<(), AllocError>
-        ensures ok { OnOk result (self.new ≡ self.old ++ fiber ∷ []) }
-        ensures unchanged { OnErr result (self.new ≡ self.old) }
-    {
+    fn put(&mut self, fiber: Fiber) -> Result<(), AllocError> {
         if self.first.is_none() && self.more.is_empty() {
             self.first = Some(fiber);
             return Ok(());

@@ -1,7 +1,7 @@
 -- Entries of the tables, in std's words, and the table of taken fibers.
 use Rattle.std.proofs.Common.{◌≡◌, ◌<◌, ◌≤◌, ◌+◌, ℕ, zero, suc, Bool, true, position, if◌then◌else◌, List, [], ◌∷◌, Option, Some, None, IsSome, IsSomeAnd, length, map, slice_get, slice_index_or, refl, sym, ap, ◌∙◌, arith}
 use Rattle.board_model.specs.Lists.{at, write, bit, has, tally}
-use Rattle.board_model.specs.Board.{Held, Seats, is_taken, fiber_of, or_zero, holds}
+use Rattle.board_model.specs.Board.{Held, Seats, Core, is_taken, fiber_of, or_zero, holds}
 use Rattle.board_model.specs.Passes.{on_fiber, RunsAt}
 use Rattle.board_model.proofs.Kit.{at_some, by_bool}
 use Rattle.job_queues.specs.Places.{IsFirstPlace}
@@ -46,6 +46,14 @@ module _ (t : Seats) (worker : ℕ) where
 
   pub run_fiber : (job : JobName) (step : ℕ) → RunsAt t worker job step → fiber_of t worker < length t.jobs
   run_fiber job step r = at_some t.jobs (fiber_of t worker) r.0 (run_held job step r)
+
+-- the fiber of a worker, on the board as a method has opened it
+module _ {now inside : Core} (same : inside ≡ now) (worker : ℕ) {fiber : ℕ} (e : fiber ≡ fiber_of now.seats worker) where
+  pub fiber_inside : fiber ≡ fiber_of inside.seats worker
+  fiber_inside = e ∙ ap (λ (m : Core). fiber_of m.seats worker) (sym same)
+
+  pub fiber_known : fiber_of now.seats worker < length now.seats.jobs → fiber < length inside.seats.jobs
+  fiber_known below = rw (e, same) below
 
 pub is_some_case : {X : Type 0} (o : Option X) → IsSome o → (x : X) × (o ≡ Some x)
 is_some_case None h = absurd cc

@@ -7,5 +7,5 @@ use Rattle.counters.proofs.board_counters.BoardCounters.start_awaited.Goals as g
 
 pub invariant_of-self-2 : goal.invariant_of-self-2
 invariant_of-self-2 c =
-    let put = c.push_reserved.ensures.items ∙ ap (λ l. l ++ c.awaited.result ∷ []) c.reserve.ensures.items in
-    subst IsUnique (sym put) (unique_last (counter_of c.args.key) _ (ap (λ (row : Row). row.key) c.awaited.ensures) c.self.inside.all.items (rw (← c.self.view_is) at c.requires) c.self.invariant)
+    let put = c.push_reserved.ensures.items ∙ ap (λ l. l ++ c.new.result ∷ []) c.reserve.ensures.items in
+    subst IsUnique (sym put) (unique_last (counter_of c.args.key) _ (ap (λ (row : Row). row.key) c.new.ensures) c.self.inside.all.items (rw (← c.self.view_is) at c.requires) c.self.invariant)

@@ -1,9 +1,8 @@
-use Rattle.std.proofs.Common.{◌≡◌, ◌∙◌, length, refl, sym, ap, arith}
+use Rattle.std.proofs.Common.{◌∙◌, refl}
 use Rattle.job_core.specs.declared.names.JobName.TheVariants.{Think}
 use Rattle.job_core.specs.Core.{Way}
-use Rattle.board_model.specs.Board.{Core, fiber_of}
 use Rattle.job_scheduler.specs.contracts.scheduler.Scheduler.{the_view}
-use Rattle.job_scheduler.proofs.Entries.{run_worker, run_fiber, run_held}
+use Rattle.job_scheduler.proofs.Entries.{run_worker, run_fiber, run_held, fiber_inside, fiber_known}
 use Rattle.job_scheduler.proofs.Rows.{awaited_undone}
 use Rattle.job_scheduler.proofs.Writes.{asked}
 use Rattle.job_scheduler.proofs.scheduler.Scheduler.ask.Goals as goal
@@ -15,10 +14,7 @@ pub hold_on-requires-clause-worker : goal.hold_on-requires-clause-worker
 hold_on-requires-clause-worker c = rw (← c.self.view_is) at (run_worker c.args.self.now.seats c.args.worker (Think c.args.frame c.args.agent) c.args.question c.requires.runs)
 
 pub hold_on-requires-clause-fiber : goal.hold_on-requires-clause-fiber
-hold_on-requires-clause-fiber c =
-    let below = run_fiber c.args.self.now.seats c.args.worker (Think c.args.frame c.args.agent) c.args.question c.requires.runs in
-    let same : length c.args.self.now.seats.jobs ≡ length c.self.inside.jobs = ap (λ (m : Core). length m.seats.jobs) (sym c.self.view_is) in
-    omega (arith, below, same, c.fiber_of-fiber.ensures)
+hold_on-requires-clause-fiber c = fiber_known c.self.view_is c.args.worker c.fiber_of-fiber.ensures (run_fiber c.args.self.now.seats c.args.worker (Think c.args.frame c.args.agent) c.args.question c.requires.runs)
 
 pub returns-in_default-clause-unchanged : goal.returns-in_default-clause-unchanged
 returns-in_default-clause-unchanged c =
@@ -29,6 +25,6 @@ pub returns-clause-ok : goal.returns-clause-ok
 returns-clause-ok c = λ s.
     let table = rw (← c.self.view_is) at c.requires.table in
     let key = rw (← c.self.view_is) at c.requires.key in
-    let fiber : c.fiber_of-fiber.result ≡ fiber_of (the_view c.self.inside).seats c.args.worker = c.fiber_of-fiber.ensures ∙ ap (λ (m : Core). fiber_of m.seats c.args.worker) (sym c.self.view_is) in
+    let fiber = fiber_inside c.self.view_is c.args.worker c.fiber_of-fiber.ensures in
     let held = rw (← c.self.view_is) at (run_held c.args.self.now.seats c.args.worker (Think c.args.frame c.args.agent) c.args.question c.requires.runs) in
     rw (← c.self.view_is) (c.hold_on.ensures ∙ rw (c.in-Ok.ensures.after, c.in_ok-raise_awaited.ensures.ok, fiber) (asked (the_view c.self.inside) table s c.args.worker c.args.frame c.args.agent c.args.question c.requires.runs.0 held c.requires.runs.3 key))

@@ -1,9 +1,9 @@
 use Rattle.std.proofs.Common.{◌≡◌, ◌-◌, ◌∙◌, length, sym, ap, arith}
 use Rattle.job_core.specs.declared.names.JobName.TheVariants.{Logic}
 use Rattle.job_core.specs.Core.{Shown}
-use Rattle.board_model.specs.Board.{Core, fiber_of, first_row}
+use Rattle.board_model.specs.Board.{Core, first_row}
 use Rattle.job_scheduler.specs.contracts.scheduler.Scheduler.{the_view}
-use Rattle.job_scheduler.proofs.Entries.{run_worker, run_fiber, run_held, some_case}
+use Rattle.job_scheduler.proofs.Entries.{run_worker, run_fiber, run_held, fiber_inside, fiber_known, some_case}
 use Rattle.counters.proofs.Changes.{on_ok}
 use Rattle.job_scheduler.proofs.Writes.{waited}
 use Rattle.job_scheduler.proofs.scheduler.Scheduler.hold.Goals as goal
@@ -15,15 +15,12 @@ pub hold_on-requires-clause-worker : goal.hold_on-requires-clause-worker
 hold_on-requires-clause-worker c = rw (← c.self.view_is) at (run_worker c.args.self.now.seats c.args.worker (Logic c.args.frame) 0 c.requires.runs)
 
 pub hold_on-requires-clause-fiber : goal.hold_on-requires-clause-fiber
-hold_on-requires-clause-fiber c =
-    let below = run_fiber c.args.self.now.seats c.args.worker (Logic c.args.frame) 0 c.requires.runs in
-    let same : length c.args.self.now.seats.jobs ≡ length c.self.inside.jobs = ap (λ (m : Core). length m.seats.jobs) (sym c.self.view_is) in
-    omega (arith, below, same, c.fiber_of-fiber.ensures)
+hold_on-requires-clause-fiber c = fiber_known c.self.view_is c.args.worker c.fiber_of-fiber.ensures (run_fiber c.args.self.now.seats c.args.worker (Logic c.args.frame) 0 c.requires.runs)
 
 pub returns-clause-ok : goal.returns-clause-ok
 returns-clause-ok c = λ s sized.
     let table = rw (← c.self.view_is) at c.requires.table in
-    let fiber : c.fiber_of-fiber.result ≡ fiber_of (the_view c.self.inside).seats c.args.worker = c.fiber_of-fiber.ensures ∙ ap (λ (m : Core). fiber_of m.seats c.args.worker) (sym c.self.view_is) in
+    let fiber = fiber_inside c.self.view_is c.args.worker c.fiber_of-fiber.ensures in
     let kept = on_ok c.wait.result c.if-is_err.ensures.negation c.wait.ensures.kept in
     let slots : length c.args.self.now.slots ≡ length c.self.inside.slots = ap (λ (m : Core). length m.slots) (sym c.self.view_is) in
     let many : c.len.result ≡ s.slots = omega (arith, slots, sized, c.len.ensures) in

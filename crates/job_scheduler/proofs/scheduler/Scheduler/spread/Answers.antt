@@ -1,8 +1,7 @@
-use Rattle.std.proofs.Common.{◌≡◌, ◌∙◌, length, refl, sym, ap, arith}
+use Rattle.std.proofs.Common.{◌∙◌, refl}
 use Rattle.job_core.specs.declared.names.JobName.TheVariants.{Logic}
-use Rattle.board_model.specs.Board.{Core, fiber_of}
 use Rattle.job_scheduler.specs.contracts.scheduler.Scheduler.{the_view}
-use Rattle.job_scheduler.proofs.Entries.{run_worker, run_fiber, run_held}
+use Rattle.job_scheduler.proofs.Entries.{run_worker, run_fiber, run_held, fiber_inside, fiber_known}
 use Rattle.job_scheduler.proofs.Rows.{frame_undone}
 use Rattle.job_scheduler.proofs.Writes.{spread}
 use Rattle.job_scheduler.proofs.scheduler.Scheduler.spread.Goals as goal
@@ -14,10 +13,7 @@ pub hold_on-requires-clause-worker : goal.hold_on-requires-clause-worker
 hold_on-requires-clause-worker c = rw (← c.self.view_is) at (run_worker c.args.self.now.seats c.args.worker (Logic c.args.frame) 0 c.requires.runs)
 
 pub hold_on-requires-clause-fiber : goal.hold_on-requires-clause-fiber
-hold_on-requires-clause-fiber c =
-    let below = run_fiber c.args.self.now.seats c.args.worker (Logic c.args.frame) 0 c.requires.runs in
-    let same : length c.args.self.now.seats.jobs ≡ length c.self.inside.jobs = ap (λ (m : Core). length m.seats.jobs) (sym c.self.view_is) in
-    omega (arith, below, same, c.fiber_of-fiber.ensures)
+hold_on-requires-clause-fiber c = fiber_known c.self.view_is c.args.worker c.fiber_of-fiber.ensures (run_fiber c.args.self.now.seats c.args.worker (Logic c.args.frame) 0 c.requires.runs)
 
 pub returns-in_default-clause-unchanged : goal.returns-in_default-clause-unchanged
 returns-in_default-clause-unchanged c =
@@ -29,7 +25,7 @@ pub returns-clause-ok : goal.returns-clause-ok
 returns-clause-ok c = λ s sized many.
     let table = rw (← c.self.view_is) at c.requires.table in
     let thinks = rw (← c.self.view_is) at c.requires.thinks_key in
-    let fiber : c.fiber_of-fiber.result ≡ fiber_of (the_view c.self.inside).seats c.args.worker = c.fiber_of-fiber.ensures ∙ ap (λ (m : Core). fiber_of m.seats c.args.worker) (sym c.self.view_is) in
+    let fiber = fiber_inside c.self.view_is c.args.worker c.fiber_of-fiber.ensures in
     let held = rw (← c.self.view_is) at (run_held c.args.self.now.seats c.args.worker (Logic c.args.frame) 0 c.requires.runs) in
     let size = rw (← c.self.view_is) at sized in
     rw (← c.self.view_is) (c.hold_on.ensures ∙ rw (c.set.ensures, c.ready_at_once.ensures, c.in-Ok.ensures.after, c.in_ok-raise_frame.ensures.ok, fiber)

@@ -1,8 +1,7 @@
-use Rattle.std.proofs.Common.{◌≡◌, ◌∙◌, true, Some, length, slice_get, refl, sym, ap, arith}
+use Rattle.std.proofs.Common.{◌≡◌, ◌∙◌, true, Some, slice_get, refl, ap}
 use Rattle.job_core.specs.Core.{Draws}
 use Rattle.board_model.specs.Board.{Core, fiber_of}
-use Rattle.job_scheduler.specs.contracts.scheduler.Scheduler.{the_view}
-use Rattle.job_scheduler.proofs.Entries.{busy_worker, busy_fiber, busy_taken}
+use Rattle.job_scheduler.proofs.Entries.{fiber_inside, fiber_known, busy_worker, busy_fiber, busy_taken}
 use Rattle.job_scheduler.proofs.Rows.{raise_undone}
 use Rattle.job_scheduler.proofs.scheduler.Scheduler.turn.Goals as goal
 
@@ -18,10 +17,7 @@ pub leave-requires-clause-worker : goal.leave-requires-clause-worker
 leave-requires-clause-worker c = rw (← c.self.view_is) at (busy_worker c.args.self.now.seats c.args.worker c.requires.runs)
 
 pub leave-requires-clause-fiber : goal.leave-requires-clause-fiber
-leave-requires-clause-fiber c =
-    let below = busy_fiber c.args.self.now.seats c.args.worker c.requires.runs in
-    let same : length c.args.self.now.seats.jobs ≡ length c.self.inside.jobs = ap (λ (m : Core). length m.seats.jobs) (sym c.self.view_is) in
-    omega (arith, below, same, c.fiber_of-fiber.ensures)
+leave-requires-clause-fiber c = fiber_known c.self.view_is c.args.worker c.fiber_of-fiber.ensures (busy_fiber c.args.self.now.seats c.args.worker c.requires.runs)
 
 pub returns-in_default-clause-unchanged : goal.returns-in_default-clause-unchanged
 returns-in_default-clause-unchanged c =
@@ -30,5 +26,5 @@ returns-in_default-clause-unchanged c =
 
 pub returns-clause-ok : goal.returns-clause-ok
 returns-clause-ok c = λ s frames many.
-    let fiber : c.fiber_of-fiber.result ≡ fiber_of (the_view c.self.inside).seats c.args.worker = c.fiber_of-fiber.ensures ∙ ap (λ (m : Core). fiber_of m.seats c.args.worker) (sym c.self.view_is) in
+    let fiber = fiber_inside c.self.view_is c.args.worker c.fiber_of-fiber.ensures in
     rw (← c.self.view_is) (c.leave.ensures ∙ rw (c.in-Ok.ensures.after, c.in_ok-raise.ensures.ok, fiber, frames, many) refl)
