@@ -68,12 +68,11 @@ impl<'t> TaskBoard<'t> {
         ensures refused { IfErr result (IsBeginRefused self.old worker) }
         ensures unchanged { OnErr result (self.new ≡ self.old) }
     {
-        let Err(fault) = self.spread(worker) else {
-            return Ok(());
-        };
-        match fault {
-            BoardFault::Illegal => self.hold(worker),
-            _ => Err(fault),
+        let frame = self.beginning(worker)?;
+        if self.jobs.has_slot(frame) {
+            self.spread(worker)
+        } else {
+            self.hold(worker)
         }
     }
 

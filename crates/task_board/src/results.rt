@@ -131,10 +131,7 @@ impl<'t> TaskBoard<'t> {
         ensures full { OnOk result (IsRefused self.now worker (IsOtherDone done.now self.now.game) (Finish worker) OutOfMemory) }
         ensures refused { IfErr result (IsRefused self.now worker (IsOtherDone done.now self.now.game) (Finish worker)) }
     {
-        let held = match self.jobs.running(worker) {
-            Ok(held) => held,
-            Err(fault) => return Err(fault),
-        };
+        let held = self.jobs.running(worker)?;
         if !is_of(done, held.job) {
             return Err(BoardFault::WrongResult);
         }
@@ -192,10 +189,7 @@ impl<'t> TaskBoard<'t> {
         ensures refused { IfErr result (IsEmitRefused self.old) }
         ensures unchanged { OnErr result (self.new ≡ self.old) }
     {
-        let frame = match self.jobs.to_show() {
-            Ok(frame) => frame,
-            Err(fault) => return Err(fault),
-        };
+        let frame = self.jobs.to_show()?;
         let Ok(()) = self.jobs.emit(frame) else {
             return Err(BoardFault::OutOfMemory);
         };
