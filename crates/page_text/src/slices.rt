@@ -5,7 +5,7 @@ ghost use Rattle.page_text.specs.Slices.{kind_of, number_of, question_of, how_of
 use crate::numbers::push_ended;
 use job_core::names::{Event, JobName};
 use std::alloc::{AllocError, Global};
-use trace_text::{FrameSpan, Slice, begun_at, frame_of};
+use trace_text::{FrameSpan, Slice, begun_at};
 
 fn kind_of(job: JobName) -> u64
     ensures { result ≡ kind_of job }
@@ -66,7 +66,7 @@ fn push_job(text: &mut Vec<u8>, job: JobName) -> Result<(), AllocError>
     ensures { OnOk result (text.new.items ≡ text.old.items ++ job_text job) }
 {
     push_ended(text, kind_of(job), b',')?;
-    push_ended(text, u64::from(frame_of(job)), b',')?;
+    push_ended(text, u64::from(job.frame()), b',')?;
     push_ended(text, u64::from(number_of(job)), b',')?;
     push_ended(text, u64::from(question_of(job)), b'\n')
 }
@@ -88,7 +88,7 @@ fn push_within(
     ensures text { OnOk result (text.new.items ≡ text.old.items ++ text_within span last slice.now) }
     ensures last { IfOk result (λ begin. begin ≡ begin_within span last slice.now) }
 {
-    if span.has(frame_of(slice.job)) {
+    if span.has(slice.job.frame()) {
         push_slice(text, last, slice)?;
         return Ok(slice.begin);
     }

@@ -9,8 +9,8 @@ use Rattle.game_rules.specs.declared.change.Change.{Change}
 use Rattle.game_session.specs.Parts.{Parts}
 use Rattle.level_text.specs.Levels.{spelled}
 use Rattle.level_text.specs.Scripts.{script_of}
+use Rattle.level_text.specs.Games.{spelled_game}
 use Rattle.game_session.specs.Sessions.{game_of}
-use Rattle.play_run.specs.Games.{spelled_game}
 
 pub both_spelled : (level script : List ℕ) (parts : Parts) (changes : List Change) → spelled level ≡ Ok parts → script_of script ≡ Ok changes → spelled_game level script ≡ Some (game_of parts changes)
 both_spelled level script parts changes h k = rw (h, k) refl

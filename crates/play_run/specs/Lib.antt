@@ -1,4 +1,3 @@
-pub mod Games
 pub mod Plays
 pub mod Reports
 pub mod Once

@@ -5,6 +5,7 @@ use Rattle.game_rules.specs.Game.{Game}
 use Rattle.game_rules.specs.Text.{texts}
 use Rattle.level_text.specs.Levels.{spelled, IsFaultOf}
 use Rattle.level_text.specs.Scripts.{script_of}
+use Rattle.level_text.specs.Games.{spelled_game}
 use Rattle.level_text.specs.declared.script_file.ScriptFault.TheVariants.{OutOfMemory}
 use Rattle.job_core.specs.Core.{IsComplete}
 use Rattle.job_scheduler.specs.Numbers.{Numbers}
@@ -15,7 +16,6 @@ use Rattle.run_shared.specs.Printed.{WrotePart}
 use Rattle.play_run.specs.Reports.{AreStepsOf, AreBandsOf}
 use Rattle.play_run.specs.declared.report.RunReport.{RunReport}
 use Rattle.play_run.specs.Once.{RunsEachJobOnce}
-use Rattle.play_run.specs.Games.{spelled_game}
 use Rattle.play_run.specs.declared.fault.PlayFault.{PlayFault}
 use Rattle.play_run.specs.declared.fault.PlayFault.TheVariants.{Level, Script, Run}
 

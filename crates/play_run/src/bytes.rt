@@ -1,7 +1,7 @@
 ghost use Rattle.std.specs.Prelude.{IfOk, IfErr, IsSomeAnd};
 ghost use Rattle.std.specs.Io.KnownBytes.{Appends};
+ghost use Rattle.level_text.specs.Games.{spelled_game};
 ghost use Rattle.log_text.specs.Text.{events_text};
-ghost use Rattle.play_run.specs.Games.{spelled_game};
 ghost use Rattle.play_run.specs.Plays.{IsPlayed, IsPlayFault};
 
 use crate::fault::PlayFault;

@@ -1,6 +1,5 @@
 ghost use Rattle.std.specs.Prelude.{◌≡◌, ◌==◌, ℕ, IfOk, IfSome, None, false};
-ghost use Rattle.run_shared.specs.Counts.{names};
-ghost use Rattle.play_run.specs.Reports.{ends_draw_of, counts_for, AreCountsOf};
+ghost use Rattle.play_run.specs.Reports.{counts_for, AreCountsOf};
 
 use std::alloc::{AllocError, Global};
 use task_board::{Event, JobName};
@@ -14,45 +13,6 @@ pub(crate) enum Counted {
     Bands,
 }
 
-// The worker that the event names.
-fn worker_of(event: &Event) -> Option<u32>
-    ensures some { IfSome result (λ worker. (w : ℕ) → names w event.now ≡ (worker == w)) }
-    ensures none { result ≡ None → (w : ℕ) → names w event.now ≡ false }
-{
-    match event {
-        Event::Start { worker, .. } => Some(*worker),
-        Event::Resume { worker, .. } => Some(*worker),
-        Event::Ask { worker, .. } => Some(*worker),
-        Event::Spread { worker, .. } => Some(*worker),
-        Event::Hold { worker, .. } => Some(*worker),
-        Event::Finish { worker, .. } => Some(*worker),
-        Event::Emit { .. } => None,
-        Event::Stop => None,
-    }
-}
-
-// The worker whose Draw the event ends.
-fn drawer_of(event: &Event) -> Option<u32>
-    ensures some { IfSome result (λ worker. (w : ℕ) → ends_draw_of w event.now ≡ (worker == w)) }
-    ensures none { result ≡ None → (w : ℕ) → ends_draw_of w event.now ≡ false }
-{
-    match event {
-        Event::Finish { worker, job } => match job {
-            JobName::Draw { .. } => Some(*worker),
-            JobName::Logic { .. } => None,
-            JobName::Think { .. } => None,
-            JobName::Path { .. } => None,
-        },
-        Event::Start { .. } => None,
-        Event::Resume { .. } => None,
-        Event::Ask { .. } => None,
-        Event::Spread { .. } => None,
-        Event::Hold { .. } => None,
-        Event::Emit { .. } => None,
-        Event::Stop => None,
-    }
-}
-
 impl Counted {
     // The worker for which the event counts.
     fn counts(self, event: &Event) -> Option<u32>
@@ -60,8 +20,14 @@ impl Counted {
         ensures none { result ≡ None → (w : ℕ) → counts_for self w event.now ≡ false }
     {
         match self {
-            Self::Steps => worker_of(event),
-            Self::Bands => drawer_of(event),
+            Self::Steps => event.worker(),
+            Self::Bands => match event {
+                Event::Finish {
+                    worker,
+                    job: JobName::Draw { .. },
+                } => Some(*worker),
+                _ => None,
+            },
         }
     }
 

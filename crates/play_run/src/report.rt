@@ -1,9 +1,7 @@
-ghost use Rattle.std.specs.Prelude.{◌≡◌, ◌*◌, IfOk, IfErr, count_by, sum, Some};
-ghost use Rattle.job_core.specs.Core.{IsComplete};
-ghost use Rattle.frame_state.specs.Contents.{bands_in};
-ghost use Rattle.run_shared.specs.Counts.{names_worker};
-ghost use Rattle.task_board.specs.Setups.{setup_for};
-ghost use Rattle.play_run.specs.Reports.{AreStepsOf, AreBandsOf};
+ghost use Rattle.std.specs.Prelude.{◌≡◌, ℕ, List, Option, IfOk, IfErr, sum, Some};
+ghost use Rattle.std.specs.Io.KnownBytes.{Appends};
+ghost use Rattle.game_rules.specs.Text.{texts};
+ghost use Rattle.play_run.specs.Plays.{IsPlayed};
 
 use crate::counted::Counted;
 use game_session::Session;
@@ -43,12 +41,7 @@ pub fn report_on<L: RunLedger, M: Ledger, D: Ledger>(
     requires run { (L.game ≡ Some session.now) × (L.numbers ≡ Some settings) }
     requires whole { (all.old.parts ≡ L.parts) × (emits.old.parts ≡ M.parts) × (draws.old.parts ≡ D.parts) }
     ensures fault { IfErr result (λ e. e.frames ≡ settings.frames) }
-    ensures frames { IfOk result (λ r. r.frames ≡ settings.frames) }
-    ensures complete { IfOk result (λ r. IsComplete (setup_for session.now settings) r.events.items) }
-    ensures steps { IfOk result (λ r. AreStepsOf settings.workers r.events.items r.steps.items) }
-    ensures sum { IfOk result (λ r. sum r.steps.items ≡ count_by names_worker r.events.items) }
-    ensures bands { IfOk result (λ r. AreBandsOf settings.workers r.events.items r.bands.items) }
-    ensures band_sum { IfOk result (λ r. sum r.bands.items ≡ settings.frames * bands_in session.now) }
+    ensures played { IfOk result (λ r. (old new : Option (List ℕ)) → Appends old new (texts session.now settings.frames) → IsPlayed old new session.now settings r) }
     ensures shares { IfOk result (λ r. (sum r.steps.items ≡ all.old.amount) × (sum r.bands.items ≡ draws.old.amount)) }
     ensures taken { IfOk result (λ r. r.bands.items ≡ taken.now) }
 {

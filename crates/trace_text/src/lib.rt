@@ -14,5 +14,5 @@ mod whole;
 
 pub use reading::{begun_at, slices_of};
 pub use slice::Slice;
-pub use span::{FrameSpan, frame_of};
+pub use span::FrameSpan;
 pub use whole::trace;

@@ -5,7 +5,7 @@ ghost use Rattle.trace_text.specs.Trace.{slice_text, text_within, slices_text};
 use crate::arrows::push_arrow;
 use crate::parts::{push_text, push_where, thread_of};
 use crate::slice::Slice;
-use crate::span::{FrameSpan, frame_of};
+use crate::span::FrameSpan;
 use byte_streams::push_number;
 use job_core::names::{Event, JobName};
 use std::alloc::AllocError;
@@ -134,7 +134,7 @@ fn push_slice(text: &mut Vec<u8>, slice: &Slice) -> Result<(), AllocError>
 fn push_within(text: &mut Vec<u8>, span: FrameSpan, slice: &Slice) -> Result<(), AllocError>
     ensures { OnOk result (text.new.items ≡ text.old.items ++ text_within span slice.now) }
 {
-    if span.has(frame_of(slice.job)) {
+    if span.has(slice.job.frame()) {
         return push_slice(text, slice);
     }
     Ok(())

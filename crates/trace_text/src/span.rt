@@ -1,8 +1,5 @@
 ghost use Rattle.std.specs.Prelude.{◌≡◌};
-ghost use Rattle.job_core.specs.Names.{frame_of};
 ghost use Rattle.trace_text.specs.Spans.{has_frame};
-
-use job_core::names::JobName;
 
 /// Frames from the first to the last, both among them. Frames count from 1.
 #[derive(Clone, Copy, Debug, PartialEq, Eq)]
@@ -18,11 +15,4 @@ impl FrameSpan {
     {
         self.first <= frame && frame <= self.last
     }
-}
-
-/// The frame that a job is of.
-pub fn frame_of(job: JobName) -> u32
-    ensures { result ≡ frame_of job }
-{
-    job.frame()
 }
