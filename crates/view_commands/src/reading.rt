@@ -1,7 +1,7 @@
-ghost use Rattle.std.specs.Prelude.{List, ℕ, map, string_bytes, IfOk, IfErr};
+ghost use Rattle.std.specs.Prelude.{List, ℕ, codes, map, string_bytes, IfOk, IfErr};
 ghost use Rattle.clap.specs.Words.{found_of, rows_of};
 ghost use Rattle.words.specs.Program.{IsNoHelp};
-ghost use Rattle.view_commands.specs.Program.{IsReading, AreFrames, IsAskedFor, IsEntered};
+ghost use Rattle.view_commands.specs.Program.{IsReading, Enters, AreFrames, IsAskedFor, IsEntered};
 
 use crate::arguments::{SUBCOMMANDS, program_command};
 use crate::request::View;
@@ -19,22 +19,38 @@ fn frames_entry(alloc: Global, matches: &ArgMatches<'_>) -> Result<FrameSpan, Wo
     Ok(FrameSpan { first, last })
 }
 
+fn trace_words(alloc: Global, matches: &ArgMatches<'_>) -> Result<View, WordsFault>
+    ensures reading { IfOk result (λ v. (ws : List (List ℕ))
+        → Enters ws (codes "trace") (rows_of (found_of matches.now)) → IsReading ws v) }
+    ensures fault { IfErr result IsNoHelp }
+{
+    Ok(View::Trace {
+        log: text_entry(alloc, matches, "log")?,
+        frames: frames_entry(alloc, matches)?,
+    })
+}
+
+fn page_words(alloc: Global, matches: &ArgMatches<'_>) -> Result<View, WordsFault>
+    ensures reading { IfOk result (λ v. (ws : List (List ℕ))
+        → Enters ws (codes "page") (rows_of (found_of matches.now)) → IsReading ws v) }
+    ensures fault { IfErr result IsNoHelp }
+{
+    Ok(View::Page {
+        level: text_entry(alloc, matches, "level")?,
+        log: text_entry(alloc, matches, "log")?,
+        script: optional_entry(alloc, matches, "script")?,
+        frames: frames_entry(alloc, matches)?,
+    })
+}
+
 /// What the command asks for that clap's matches have entered.
 fn command_words(alloc: Global, matches: &ArgMatches<'_>) -> Result<View, WordsFault>
     ensures reading { IfOk result (λ v. (ws : List (List ℕ)) → IsEntered ws matches.now → IsReading ws v) }
     ensures fault { IfErr result IsNoHelp }
 {
     match matches.subcommand() {
-        Some(("trace", trace)) => Ok(View::Trace {
-            log: text_entry(alloc, trace, "log")?,
-            frames: frames_entry(alloc, trace)?,
-        }),
-        Some(("page", page)) => Ok(View::Page {
-            level: text_entry(alloc, page, "level")?,
-            log: text_entry(alloc, page, "log")?,
-            script: optional_entry(alloc, page, "script")?,
-            frames: frames_entry(alloc, page)?,
-        }),
+        Some(("trace", trace)) => trace_words(alloc, trace),
+        Some(("page", page)) => page_words(alloc, page),
         _ => Err(missing(alloc, "command")),
     }
 }

@@ -1,5 +1,5 @@
-ghost use Rattle.std.specs.Prelude.{◌≡◌, ◌⊎◌, ℕ, List, [], map, string_bytes, IfOk, IfErr};
-ghost use Rattle.words.specs.Program.{IsReading, AreNumbers, IsNoHelp, IsAskedFor, IsToldAs};
+ghost use Rattle.std.specs.Prelude.{◌≡◌, ◌⊎◌, ℕ, List, [], codes, map, string_bytes, IfOk, IfErr};
+ghost use Rattle.words.specs.Program.{IsReading, Enters, AreNumbers, IsNoHelp, IsAskedFor, IsToldAs};
 ghost use Rattle.words.specs.Entered.{IsEntered};
 ghost use Rattle.clap.specs.Words.{found_of, kind_of, rows_of};
 
@@ -61,62 +61,131 @@ fn settings_entry(alloc: Global, matches: &ArgMatches<'_>) -> Result<Settings, W
     }
 }
 
+fn play_words(alloc: Global, matches: &ArgMatches<'_>) -> Result<Words, WordsFault>
+    ensures reading { IfOk result (λ w. (ws : List (List ℕ))
+        → Enters ws (codes "play") (rows_of (found_of matches.now)) → IsReading ws w) }
+    ensures fault { IfErr result IsNoHelp }
+{
+    Ok(Words::Play {
+        level: text_entry(alloc, matches, "level")?,
+        settings: settings_entry(alloc, matches)?,
+        script: optional_entry(alloc, matches, "script")?,
+        log: optional_entry(alloc, matches, "log")?,
+    })
+}
+
+fn replay_words(alloc: Global, matches: &ArgMatches<'_>) -> Result<Words, WordsFault>
+    ensures reading { IfOk result (λ w. (ws : List (List ℕ))
+        → Enters ws (codes "replay") (rows_of (found_of matches.now)) → IsReading ws w) }
+    ensures fault { IfErr result IsNoHelp }
+{
+    Ok(Words::Replay {
+        level: text_entry(alloc, matches, "level")?,
+        log: text_entry(alloc, matches, "log")?,
+        script: optional_entry(alloc, matches, "script")?,
+    })
+}
+
+fn check_words(alloc: Global, matches: &ArgMatches<'_>) -> Result<Words, WordsFault>
+    ensures reading { IfOk result (λ w. (ws : List (List ℕ))
+        → Enters ws (codes "check") (rows_of (found_of matches.now)) → IsReading ws w) }
+    ensures fault { IfErr result IsNoHelp }
+{
+    Ok(Words::Check {
+        level: text_entry(alloc, matches, "level")?,
+    })
+}
+
+fn explain_words(alloc: Global, matches: &ArgMatches<'_>) -> Result<Words, WordsFault>
+    ensures reading { IfOk result (λ w. (ws : List (List ℕ))
+        → Enters ws (codes "explain") (rows_of (found_of matches.now)) → IsReading ws w) }
+    ensures fault { IfErr result IsNoHelp }
+{
+    Ok(Words::Explain {
+        level: text_entry(alloc, matches, "level")?,
+        script: optional_entry(alloc, matches, "script")?,
+        log: optional_entry(alloc, matches, "log")?,
+    })
+}
+
+fn digest_words(alloc: Global, matches: &ArgMatches<'_>) -> Result<Words, WordsFault>
+    ensures reading { IfOk result (λ w. (ws : List (List ℕ))
+        → Enters ws (codes "digest") (rows_of (found_of matches.now)) → IsReading ws w) }
+    ensures fault { IfErr result IsNoHelp }
+{
+    Ok(Words::Digest {
+        level: text_entry(alloc, matches, "level")?,
+        frames: number_entry(alloc, matches, "frames")?,
+        script: optional_entry(alloc, matches, "script")?,
+    })
+}
+
+fn state_words(alloc: Global, matches: &ArgMatches<'_>) -> Result<Words, WordsFault>
+    ensures reading { IfOk result (λ w. (ws : List (List ℕ))
+        → Enters ws (codes "state") (rows_of (found_of matches.now)) → IsReading ws w) }
+    ensures fault { IfErr result IsNoHelp }
+{
+    Ok(Words::State {
+        level: text_entry(alloc, matches, "level")?,
+        frame: number_entry(alloc, matches, "frame")?,
+        script: optional_entry(alloc, matches, "script")?,
+    })
+}
+
+fn why_words(alloc: Global, matches: &ArgMatches<'_>) -> Result<Words, WordsFault>
+    ensures reading { IfOk result (λ w. (ws : List (List ℕ))
+        → Enters ws (codes "why") (rows_of (found_of matches.now)) → IsReading ws w) }
+    ensures fault { IfErr result IsNoHelp }
+{
+    Ok(Words::Why {
+        level: text_entry(alloc, matches, "level")?,
+        frame: number_entry(alloc, matches, "frame")?,
+        agent: text_entry(alloc, matches, "agent")?,
+        script: optional_entry(alloc, matches, "script")?,
+    })
+}
+
+fn complete_words(alloc: Global, matches: &ArgMatches<'_>) -> Result<Words, WordsFault>
+    ensures reading { IfOk result (λ w. (ws : List (List ℕ))
+        → Enters ws (codes "complete") (rows_of (found_of matches.now)) → IsReading ws w) }
+    ensures fault { IfErr result IsNoHelp }
+{
+    Ok(Words::Complete {
+        level: text_entry(alloc, matches, "level")?,
+        log: text_entry(alloc, matches, "log")?,
+        whole: text_entry(alloc, matches, "whole")?,
+        script: optional_entry(alloc, matches, "script")?,
+    })
+}
+
+fn record_words(alloc: Global, matches: &ArgMatches<'_>) -> Result<Words, WordsFault>
+    ensures reading { IfOk result (λ w. (ws : List (List ℕ))
+        → Enters ws (codes "record") (rows_of (found_of matches.now)) → IsReading ws w) }
+    ensures fault { IfErr result IsNoHelp }
+{
+    Ok(Words::Record {
+        level: text_entry(alloc, matches, "level")?,
+        journal: text_entry(alloc, matches, "journal")?,
+        settings: settings_entry(alloc, matches)?,
+        script: optional_entry(alloc, matches, "script")?,
+    })
+}
+
 /// What the command asks for that clap's matches have entered.
 fn command_words(alloc: Global, matches: &ArgMatches<'_>) -> Result<Words, WordsFault>
     ensures reading { IfOk result (λ w. (ws : List (List ℕ)) → IsEntered ws matches.now → IsReading ws w) }
     ensures fault { IfErr result IsNoHelp }
 {
-    let Some((name, entered)) = matches.subcommand() else {
-        return Err(missing(alloc, "command"));
-    };
-    // Each command has one.
-    let level = text_entry(alloc, entered, "level")?;
-    match name {
-        "play" => Ok(Words::Play {
-            level,
-            settings: settings_entry(alloc, entered)?,
-            script: optional_entry(alloc, entered, "script")?,
-            log: optional_entry(alloc, entered, "log")?,
-        }),
-        "replay" => Ok(Words::Replay {
-            level,
-            log: text_entry(alloc, entered, "log")?,
-            script: optional_entry(alloc, entered, "script")?,
-        }),
-        "check" => Ok(Words::Check { level }),
-        "explain" => Ok(Words::Explain {
-            level,
-            script: optional_entry(alloc, entered, "script")?,
-            log: optional_entry(alloc, entered, "log")?,
-        }),
-        "digest" => Ok(Words::Digest {
-            level,
-            frames: number_entry(alloc, entered, "frames")?,
-            script: optional_entry(alloc, entered, "script")?,
-        }),
-        "state" => Ok(Words::State {
-            level,
-            frame: number_entry(alloc, entered, "frame")?,
-            script: optional_entry(alloc, entered, "script")?,
-        }),
-        "why" => Ok(Words::Why {
-            level,
-            frame: number_entry(alloc, entered, "frame")?,
-            agent: text_entry(alloc, entered, "agent")?,
-            script: optional_entry(alloc, entered, "script")?,
-        }),
-        "complete" => Ok(Words::Complete {
-            level,
-            log: text_entry(alloc, entered, "log")?,
-            whole: text_entry(alloc, entered, "whole")?,
-            script: optional_entry(alloc, entered, "script")?,
-        }),
-        "record" => Ok(Words::Record {
-            level,
-            journal: text_entry(alloc, entered, "journal")?,
-            settings: settings_entry(alloc, entered)?,
-            script: optional_entry(alloc, entered, "script")?,
-        }),
+    match matches.subcommand() {
+        Some(("play", play)) => play_words(alloc, play),
+        Some(("replay", replay)) => replay_words(alloc, replay),
+        Some(("check", check)) => check_words(alloc, check),
+        Some(("explain", explain)) => explain_words(alloc, explain),
+        Some(("digest", digest)) => digest_words(alloc, digest),
+        Some(("state", state)) => state_words(alloc, state),
+        Some(("why", why)) => why_words(alloc, why),
+        Some(("complete", complete)) => complete_words(alloc, complete),
+        Some(("record", recording)) => record_words(alloc, recording),
         _ => Err(missing(alloc, "command")),
     }
 }
