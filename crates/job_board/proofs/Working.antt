@@ -1,43 +1,67 @@
--- What work comes to, made of a result that is of the job where it stands.
-use Rattle.std.proofs.Common.{◌≡◌, ◌<◌, ℕ, true, nat_lt, refl, ap, subst, arith}
+-- What work comes to, of what a board is told of a task.
+use Rattle.std.proofs.Common.{◌≡◌, ◌<◌, ℕ, true, false, nat_lt, sym, ap, ◌∙◌, subst, arith}
 use Rattle.game_rules.specs.Game.{Game}
+use Rattle.job_core.specs.Names.{frame_of}
+use Rattle.job_core.specs.declared.names.JobName.{JobName}
 use Rattle.job_core.specs.declared.names.JobName.TheVariants.{Logic, Think, Path, Draw}
 use Rattle.job_core.proofs.ByCases.{by_lt}
-use Rattle.frame_state.specs.Names.{FrameOf, PartOf, QuestionOf, frame_of, part_of, question_of, logic_of, think_of}
+use Rattle.frame_state.specs.Names.{FrameOf, PartOf, LogicOf, ThinkOf, QuestionOf, part_of, question_of, logic_of, think_of}
 use Rattle.frame_state.specs.Contents.{questions_in}
+use Rattle.frame_state.specs.Logic.{IsLogicStep}
+use Rattle.frame_state.specs.declared.logic_step.LogicStep.{LogicStep}
+use Rattle.frame_state.specs.declared.logic_step.LogicStep.TheVariants.{Begins, Turned}
+use Rattle.frame_params.specs.Tasks.{job_of, IsTaskAt}
+use Rattle.frame_params.specs.Thinks.{IsThinkStep}
+use Rattle.frame_params.specs.BoardSteps.{IsToldOf}
+use Rattle.frame_params.specs.declared.task.Task.{Task}
 use Rattle.frame_params.specs.declared.task.Task.TheVariants.{Logic as LogicTask, Think as ThinkTask, Path as PathTask, Draw as DrawTask}
-use Rattle.frame_params.specs.declared.board_step.BoardStep.TheVariants.{Logic as LogicStep, Think as ThinkStep, Path as PathStep, Draw as DrawStep}
-use Rattle.frame_state.specs.declared.logic_step.LogicStep.TheVariants.{Turned}
+use Rattle.frame_params.specs.declared.think_step.ThinkStep.{ThinkStep}
 use Rattle.frame_params.specs.declared.think_step.ThinkStep.TheVariants.{Ended, Asks}
-use Rattle.task_board.specs.Dones.{game_done, job_done, step_done}
-use Rattle.task_board.specs.declared.done.Done.{Done}
-use Rattle.task_board.specs.declared.done.Done.TheVariants.{Turned as DoneTurned, Thought as DoneThought, Way as DoneWay, Drawn as DoneDrawn}
-use Rattle.job_board.specs.Works.{IsStepAt, IsOver}
+use Rattle.frame_params.specs.declared.board_step.BoardStep.{BoardStep}
+use Rattle.frame_params.specs.declared.board_step.BoardStep.TheVariants.{Logic as LogicTold, Think as ThinkTold, Path as PathTold, Draw as DrawTold}
+use Rattle.job_board.specs.Works.{work_told, IsWorkOf}
 
-is_above : (k : ℕ) → 0 < k → nat_lt 0 k ≡ true
-is_above k l = by_lt 0 k (λ b. b ≡ true) (λ _. refl) (λ n. absurd (omega (arith, l, n)))
+-- what a Logic's step says of how often it has spread
+not_above : (k : ℕ) → nat_lt 0 k ≡ false → k ≡ 0
+not_above k = by_lt 0 k (λ b. b ≡ false → k ≡ 0) (λ _ e. absurd cc) (λ n _. omega (arith, n))
 
-turned_step : (g : Game) (k : ℕ) (t : FrameOf) → t.game ≡ g → 0 < k → IsStepAt g (Logic t.frame) k (LogicStep (Turned t))
-turned_step g k t e l = (LogicTask (logic_of g t.frame (nat_lt 0 k)), refl, (is_above k l, ap (λ x. frame_of x t.frame) e))
+is_above : (k : ℕ) → nat_lt 0 k ≡ true → 0 < k
+is_above k = by_lt 0 k (λ b. b ≡ true → 0 < k) (λ l _. l) (λ _ e. absurd cc)
 
-ended_step : (g : Game) (k : ℕ) (t : PartOf) → t.game ≡ g → k ≡ questions_in g t.frame t.number → IsStepAt g (Think t.frame t.number) k (ThinkStep (Ended t))
-ended_step g k t e q = (ThinkTask (think_of g t.frame t.number k), refl, (q, ap (λ x. part_of x t.frame t.number) e))
-
-pub asks_step : (g : Game) (q : QuestionOf) → q.game ≡ g → q.question < questions_in q.game q.frame q.agent → IsStepAt g (Think q.frame q.agent) q.question (ThinkStep (Asks q))
-asks_step g q e l = (
-  ThinkTask (think_of g q.frame q.agent q.question),
-  refl,
-  (subst (λ x. q.question < questions_in x q.frame q.agent) e l, ap (λ x. question_of x q.frame q.agent q.question) e),
+logic_work : (g : Game) (f k : ℕ) (l : LogicOf) (step : LogicStep) → l ≡ logic_of g f (nat_lt 0 k) → IsLogicStep l step → IsWorkOf g (Logic f) k (work_told l.frame (LogicTold step))
+logic_work g f k l Begins is told = (ap (λ (x : LogicOf). Logic x.frame) is, not_above k (sym (ap (λ (x : LogicOf). x.has_spread) is) ∙ told))
+logic_work g f k l (Turned turn) is told = (
+  ap (λ (t : FrameOf). Logic t.frame) told.1 ∙ ap (λ (x : LogicOf). Logic x.frame) is,
+  ap (λ (t : FrameOf). t.game) told.1 ∙ ap (λ (x : LogicOf). x.game) is,
+  is_above k (sym (ap (λ (x : LogicOf). x.has_spread) is) ∙ told.0),
 )
 
-way_step : (g : Game) (k : ℕ) (q : QuestionOf) → q.game ≡ g → IsStepAt g (Path q.frame q.agent q.question) k (PathStep q)
-way_step g k q e = (PathTask (question_of g q.frame q.agent q.question), refl, ap (λ x. question_of x q.frame q.agent q.question) e)
+think_work : (g : Game) (f a k : ℕ) (t : ThinkOf) (step : ThinkStep) → t ≡ think_of g f a k → IsThinkStep t step → IsWorkOf g (Think f a) k (work_told t.frame (ThinkTold step))
+think_work g f a k t (Ended thought) is told =
+    let here : (k ≡ questions_in g f a) × (thought ≡ part_of g f a) = subst (λ (x : ThinkOf). (x.answered ≡ questions_in x.game x.frame x.agent) × (thought ≡ part_of x.game x.frame x.agent)) is told in (
+      ap (λ (p : PartOf). Think p.frame p.number) here.1,
+      ap (λ (p : PartOf). p.game) here.1,
+      here.0 ∙ ap (λ (p : PartOf). questions_in p.game p.frame p.number) (sym here.1),
+    )
+think_work g f a k t (Asks parked) is told =
+    let here : (k < questions_in g f a) × (parked ≡ question_of g f a k) = subst (λ (x : ThinkOf). (x.answered < questions_in x.game x.frame x.agent) × (parked ≡ question_of x.game x.frame x.agent x.answered)) is told in (
+      ap (λ (q : QuestionOf). Think q.frame q.agent) here.1,
+      ap (λ (q : QuestionOf). q.question) here.1,
+      ap (λ (q : QuestionOf). q.game) here.1,
+      subst (λ (q : QuestionOf). k < questions_in q.game q.frame q.agent) (sym here.1) here.0,
+    )
 
-drawn_step : (g : Game) (k : ℕ) (d : PartOf) → d.game ≡ g → IsStepAt g (Draw d.frame d.number) k (DrawStep d)
-drawn_step g k d e = (DrawTask (part_of g d.frame d.number), refl, ap (λ x. part_of x d.frame d.number) e)
-
-pub done_step : (g : Game) (k : ℕ) (done : Done) → game_done done ≡ g → IsOver g (job_done done) k → IsStepAt g (job_done done) k (step_done done)
-done_step g k (DoneTurned turn) e o = turned_step g k turn e o
-done_step g k (DoneThought thought) e o = ended_step g k thought e o
-done_step g k (DoneWay way) e o = way_step g k way e
-done_step g k (DoneDrawn mark) e o = drawn_step g k mark e
+pub work_is : (task : Task) (step : BoardStep) → IsToldOf task step → (g : Game) (j : JobName) (k : ℕ) → IsTaskAt g j k task → IsWorkOf g j k (work_told (frame_of (job_of task)) step)
+work_is (LogicTask l) (LogicTold step) told g (Logic f) k is = logic_work g f k l step is told
+work_is (ThinkTask t) (ThinkTold step) told g (Think f a) k is = think_work g f a k t step is told
+work_is (PathTask q) (PathTold way) told g (Path f a i) k is = (
+  ap (λ (x : QuestionOf). Path x.frame x.agent x.question) (told ∙ is),
+  ap (λ (x : QuestionOf). x.game) (told ∙ is),
+  tt,
+)
+work_is (DrawTask d) (DrawTold mark) told g (Draw f n) k is = (ap (λ (x : PartOf). Draw x.frame x.number) (told ∙ is), ap (λ (x : PartOf). x.game) (told ∙ is), tt)
+work_is (LogicTask l) (LogicTold step) told g _ k is = absurd is
+work_is (ThinkTask t) (ThinkTold step) told g _ k is = absurd is
+work_is (PathTask q) (PathTold way) told g _ k is = absurd is
+work_is (DrawTask d) (DrawTold mark) told g _ k is = absurd is
+work_is _ _ told g j k is = absurd told

@@ -43,9 +43,9 @@ impl<'t> Model for Board<'t> {
 
     ghost coded = { playing_code };
 
-    ghost view = { λ b. record { run = b.run; worked = map is_some b.works } };
+    ghost view = { λ b. record { run = b.run; worked = map is_some b.works.places.items } };
 
-    ghost invariant = { λ b. IsPlaying b.run b.works };
+    ghost invariant = { λ b. IsPlaying b.run b.works.places.items };
 }
 
 impl<'t> Board<'t> {

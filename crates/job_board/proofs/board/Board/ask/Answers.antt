@@ -12,16 +12,16 @@ returns-in_err-ask-clause-refused c =
     rw (p.1, p.2, ← c.self.view_is) c.in_err-ask.ensures.refused
 
 pub clear-requires : goal.clear-requires
-clear-requires c = has_place c.self.inside.run c.self.inside.works c.self.invariant (Ask c.args.worker (Think c.args.parked.frame c.args.parked.agent)) c.ask.new.self c.in_ok-ask.ensures.ok c.args.worker refl
+clear-requires c = has_place c.self.inside.run c.self.inside.works.places.items c.self.invariant (Ask c.args.worker (Think c.args.parked.frame c.args.parked.agent)) c.ask.new.self c.in_ok-ask.ensures.ok c.args.worker refl
 
 pub invariant_of-self-2 : goal.invariant_of-self-2
-invariant_of-self-2 c = rw c.clear.ensures (works_after c.self.inside.run c.self.inside.works c.self.invariant (Ask c.args.worker (Think c.args.parked.frame c.args.parked.agent)) c.ask.new.self c.in_ok-ask.ensures.ok c.args.worker refl None tt)
+invariant_of-self-2 c = rw c.clear.ensures (works_after c.self.inside.run c.self.inside.works.places.items c.self.invariant (Ask c.args.worker (Think c.args.parked.frame c.args.parked.agent)) c.ask.new.self c.in_ok-ask.ensures.ok c.args.worker refl None tt)
 
 pub returns-clause-ok : goal.returns-clause-ok
 returns-clause-ok c = rw (← c.self.view_is) c.in_ok-ask.ensures.ok
 
 pub returns-clause-worked : goal.returns-clause-worked
-returns-clause-worked c = rw (c.clear.ensures, ← c.self.view_is) (map-set is_some c.self.inside.works c.args.worker None)
+returns-clause-worked c = rw (c.clear.ensures, ← c.self.view_is) (map-set is_some c.self.inside.works.places.items c.args.worker None)
 
 pub returns-clause-own : goal.returns-clause-own
 returns-clause-own c = rw (← c.self.view_is) c.in_ok-ask.ensures.own
