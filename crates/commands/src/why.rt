@@ -70,7 +70,15 @@ fn push_argument(text: &mut Vec<u8>, node: &Node<Global>) -> Result<(), AllocErr
         }
         Node::Signal(signal) => text.extend_from_slice(&[b' ', b'a' + signal.number() as u8]),
         Node::Give(letter) => text.extend_from_slice(&[b' ', b'A' + letter.number() as u8]),
-        _ => Ok(()),
+        Node::Seq(_)
+        | Node::Fallback(_)
+        | Node::SeqStar(_)
+        | Node::FallbackStar(_)
+        | Node::Not(_)
+        | Node::Take
+        | Node::Drop
+        | Node::Carrying
+        | Node::Item => Ok(()),
     }
 }
 
