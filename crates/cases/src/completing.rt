@@ -1,6 +1,6 @@
 // Logs that are completed.
 use crate::case::Completion;
-use crate::streams::Taker;
+use crate::streams::Output;
 use anyhow::{Context, Result};
 use game_session::Session;
 use level_text::{read_level, read_script};
@@ -16,8 +16,8 @@ pub fn complete_files<H: Files + Alloc<A = Global>>(
     rt: &H,
     alloc: Global,
     files: &Completion,
-    out: &mut Taker,
-    err: &mut Taker,
+    out: &mut Output,
+    err: &mut Output,
 ) -> Result<u8> {
     let level = fs::read(rt, files.level.as_str())?;
     let level = read_level(alloc, &level).ok().context("no level")?;

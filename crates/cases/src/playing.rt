@@ -3,9 +3,9 @@ use crate::case::{Act, Case};
 use crate::completing::complete_files;
 use crate::folder::{take_files, take_made, write_files};
 use crate::judging::judge;
-use crate::outcome::Outcome;
+use crate::ran::Ran;
 use crate::run::{Run, runs_of};
-use crate::streams::{Pieces, Taker};
+use crate::streams::{Output, Pieces};
 use crate::tally::Tally;
 use anyhow::Result;
 use commands::command;
@@ -30,8 +30,8 @@ impl Program {
         alloc: Global,
         words: &[String],
         input: &mut Pieces<'_>,
-        out: &mut Taker,
-        err: &mut Taker,
+        out: &mut Output,
+        err: &mut Output,
     ) -> u8 {
         match self {
             Program::Btworld => command(rt, alloc, words, input, out, err),
@@ -54,8 +54,8 @@ impl Program {
             size: 1,
             fails: false,
         };
-        let mut out = Taker::new(alloc);
-        let mut err = Taker::new(alloc);
+        let mut out = Output::new(alloc);
+        let mut err = Output::new(alloc);
         let status = self.play(rt, alloc, words, &mut input, &mut out, &mut err);
         status == 0 && out.bytes.as_slice() == case.out.bytes.as_slice()
     }
@@ -66,17 +66,17 @@ impl Program {
         alloc: Global,
         case: &Case,
         run: &Run<'_>,
-    ) -> Result<Outcome> {
+    ) -> Result<Ran> {
         write_files(rt, case, run)?;
         let mut input = Pieces {
             left: run.input_of(case),
             size: case.pieces,
             fails: case.input_fails,
         };
-        let mut out = Taker::new(alloc);
+        let mut out = Output::new(alloc);
         out.room = run.room;
         out.flush_fails = case.flush_fails;
-        let mut err = Taker::new(alloc);
+        let mut err = Output::new(alloc);
         let status = match run.act {
             Act::Words(words) => self.play(rt, alloc, words, &mut input, &mut out, &mut err),
             Act::Complete(files) => complete_files(rt, alloc, files, &mut out, &mut err)?,
@@ -84,7 +84,7 @@ impl Program {
         let repeats = self.repeats(rt, alloc, case);
         take_files(rt, case)?;
         let has_made = take_made(rt, case)?;
-        Ok(Outcome {
+        Ok(Ran {
             status,
             out: out.bytes,
             err: err.bytes,
@@ -103,8 +103,8 @@ impl Program {
     ) -> Result<Tally> {
         let mut tally = Tally::new();
         for run in &runs_of(alloc, case)? {
-            let outcome = self.play_run(rt, alloc, case, run)?;
-            tally.count(judge(rt, case, run, &outcome)?);
+            let ran = self.play_run(rt, alloc, case, run)?;
+            tally.count(judge(rt, case, run, &ran)?);
         }
         Ok(tally)
     }

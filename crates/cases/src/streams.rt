@@ -25,17 +25,17 @@ impl Read for Pieces<'_> {
 
 /// Takes all bytes, or one at a time until its room is full. Counts the flushes.
 #[derive(Drop)]
-pub struct Taker {
+pub struct Output {
     pub bytes: Vec<u8>,
     pub room: Option<usize>,
     pub flushes: u32,
     pub flush_fails: bool,
 }
 
-impl Taker {
+impl Output {
     /// Takes all bytes, and its flushes succeed.
-    pub fn new(alloc: Global) -> Taker {
-        Taker {
+    pub fn new(alloc: Global) -> Output {
+        Output {
             bytes: Vec::new(alloc),
             room: None,
             flushes: 0,
@@ -44,7 +44,7 @@ impl Taker {
     }
 }
 
-impl Write for Taker {
+impl Write for Output {
     fn write(&mut self, buf: &[u8]) -> io::Result<usize> {
         match self.room {
             None => {

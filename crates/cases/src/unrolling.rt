@@ -1,6 +1,6 @@
 // The frames in pages of samples, read as they stand there.
 use crate::sample::Played;
-use crate::streams::Taker;
+use crate::streams::Output;
 use anyhow::{Context, Result};
 use std::alloc::Global;
 use std::io::Write;
@@ -69,7 +69,7 @@ fn text_of(alloc: Global, film: &str, played: &Played) -> Result<Vec<u8>> {
 
 /// The text of the frames in the page of a sample.
 pub fn unrolled(alloc: Global, played: &Played) -> Result<Vec<u8>> {
-    let mut out = Taker::new(alloc);
+    let mut out = Output::new(alloc);
     let sources = (
         played.path.as_bytes(),
         &played.level[..],

@@ -1,18 +1,18 @@
 // Ways from the top value of a JSON text to one in it.
 use std::alloc::{AllocError, Global};
 
-/// A step from a value to one in it.
+/// What leads from a value to one in it: a reference token of RFC 6901.
 #[derive(Debug, Drop)]
-pub(crate) enum Step {
+pub(crate) enum ReferenceToken {
     Member(String),
     Item(usize),
 }
 
-/// The steps from the top value to one in it.
+/// What leads from the top value to one in it.
 #[derive(Debug, Drop)]
 pub(crate) struct Pointer {
     alloc: Global,
-    steps: Vec<Step>,
+    tokens: Vec<ReferenceToken>,
 }
 
 impl Pointer {
@@ -20,39 +20,38 @@ impl Pointer {
     pub(crate) fn new(alloc: Global) -> Pointer {
         Pointer {
             alloc,
-            steps: Vec::new(alloc),
+            tokens: Vec::new(alloc),
         }
     }
 
-    pub(crate) fn steps(&self) -> &[Step] {
-        &self.steps
+    pub(crate) fn tokens(&self) -> &[ReferenceToken] {
+        &self.tokens
     }
 
     /// Goes on to a member of the value.
     pub(crate) fn member(&mut self, name: &str) -> Result<(), AllocError> {
-        self.steps
-            .push(Step::Member(String::from_str(self.alloc, name)?))?;
+        self.tokens.push(ReferenceToken::Member(String::from_str(self.alloc, name)?))?;
         Ok(())
     }
 
     /// Goes on to an item of the value.
     pub(crate) fn item(&mut self, index: usize) -> Result<(), AllocError> {
-        self.steps.push(Step::Item(index))?;
+        self.tokens.push(ReferenceToken::Item(index))?;
         Ok(())
     }
 
-    /// Goes back to the value that the last step left.
+    /// Goes back to the value that the last one led from.
     pub(crate) fn leave(&mut self) {
-        drop(self.steps.pop());
+        drop(self.tokens.pop());
     }
 
     /// The pointer as text, as RFC 6901 writes it.
     pub(crate) fn text(&self) -> Result<String, AllocError> {
         let mut text = String::new(self.alloc);
-        for step in &self.steps {
-            match step {
-                Step::Member(name) => push_name(&mut text, name)?,
-                Step::Item(index) => write!(text, "/{index}")?,
+        for token in &self.tokens {
+            match token {
+                ReferenceToken::Member(name) => push_name(&mut text, name)?,
+                ReferenceToken::Item(index) => write!(text, "/{index}")?,
             }
         }
         Ok(text)

@@ -1,5 +1,5 @@
 // Where in a JSON text a value begins.
-use crate::pointer::{Pointer, Step};
+use crate::pointer::{Pointer, ReferenceToken};
 use json::{Reader, Scratch, Token};
 use std::alloc::{AllocError, Global};
 
@@ -26,27 +26,27 @@ impl Tracker {
         }
     }
 
-    /// The step that the way takes from the innermost open value; none outside of the top value.
-    fn step<'p>(&self, steps: &'p [Step]) -> Option<&'p Step> {
-        steps.get(self.on_way.checked_sub(1)?)
+    /// What leads on from the innermost open value; none outside of the top value.
+    fn next<'p>(&self, pointer: &'p [ReferenceToken]) -> Option<&'p ReferenceToken> {
+        pointer.get(self.on_way.checked_sub(1)?)
     }
 
-    fn key(&mut self, key: &str, steps: &[Step]) {
-        self.has_key = match self.step(steps) {
-            Some(Step::Member(name)) => self.depth == self.on_way && name.as_str() == key,
+    fn key(&mut self, key: &str, pointer: &[ReferenceToken]) {
+        self.has_key = match self.next(pointer) {
+            Some(ReferenceToken::Member(name)) => self.depth == self.on_way && name.as_str() == key,
             _ => false,
         };
     }
 
     /// Whether the value that begins holds the one that is looked for, or is it.
-    fn is_on_way(&mut self, steps: &[Step]) -> bool {
+    fn is_on_way(&mut self, pointer: &[ReferenceToken]) -> bool {
         if self.depth != self.on_way {
             return false;
         }
-        match self.step(steps) {
+        match self.next(pointer) {
             None => true,
-            Some(Step::Member(_)) => self.has_key,
-            Some(Step::Item(index)) => {
+            Some(ReferenceToken::Member(_)) => self.has_key,
+            Some(ReferenceToken::Item(index)) => {
                 let here = self.begun == *index;
                 self.begun = self.begun.saturating_add(1);
                 here
@@ -54,8 +54,8 @@ impl Tracker {
         }
     }
 
-    fn open(&mut self, is_on_way: bool, steps: &[Step]) {
-        if is_on_way && self.on_way < steps.len() {
+    fn open(&mut self, is_on_way: bool, pointer: &[ReferenceToken]) {
+        if is_on_way && self.on_way < pointer.len() {
             self.on_way = self.on_way.saturating_add(1);
             self.begun = 0;
             self.has_key = false;
@@ -74,16 +74,16 @@ impl Tracker {
     }
 
     /// Goes past a token, and says whether with it the value begins that is looked for.
-    fn pass(&mut self, token: &Token<'_>, steps: &[Step]) -> bool {
+    fn pass(&mut self, token: &Token<'_>, pointer: &[ReferenceToken]) -> bool {
         match token {
             Token::Key(key) => {
-                self.key(key, steps);
+                self.key(key, pointer);
                 false
             }
             Token::BeginObject | Token::BeginArray => {
-                let is_on_way = self.is_on_way(steps);
-                let is_wanted = is_on_way && self.on_way == steps.len();
-                self.open(is_on_way, steps);
+                let is_on_way = self.is_on_way(pointer);
+                let is_wanted = is_on_way && self.on_way == pointer.len();
+                self.open(is_on_way, pointer);
                 is_wanted
             }
             Token::EndObject | Token::EndArray => {
@@ -91,7 +91,7 @@ impl Tracker {
                 false
             }
             Token::String(_) | Token::Number(_) | Token::Bool(_) | Token::Null => {
-                self.is_on_way(steps) && self.on_way == steps.len()
+                self.is_on_way(pointer) && self.on_way == pointer.len()
             }
             Token::Bad => false,
         }
@@ -117,7 +117,7 @@ pub(crate) fn offset_of(alloc: Global, text: &str, pointer: &Pointer) -> Result<
     let mut found = 0;
     let mut behind = 0;
     while let Some(token) = reader.next() {
-        if tracker.pass(&token, pointer.steps()) {
+        if tracker.pass(&token, pointer.tokens()) {
             found = value_from(text.as_bytes(), behind);
         }
         behind = reader.offset();

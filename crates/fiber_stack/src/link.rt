@@ -1,7 +1,7 @@
 ghost use Rattle.std.specs.Prelude.{◌≡◌, [], ◌∷◌, drop, reverse, IfOk, MatchResult};
 ghost use Rattle.fiber_stack.specs.Links.{chunks};
 
-use crate::slots::Slots;
+use crate::eight::Eight;
 use std::alloc::{AllocError, Allocator};
 use std::mem;
 
@@ -12,11 +12,11 @@ pub(crate) enum Link<F: Copy, A: Allocator> {
     More(Box<Chunk<F, A>, A>),
 }
 
-/// Eight slots, and the chunks below.
+/// Eight values, and the chunks below.
 #[derive(Drop)]
 #[cycle(links)]
 pub(crate) struct Chunk<F: Copy, A: Allocator> {
-    pub(crate) slots: Slots<F>,
+    pub(crate) eight: Eight<F>,
     pub(crate) below: Link<F, A>,
 }
 
@@ -27,7 +27,7 @@ impl<F: Copy, A: Allocator> Drop for Link<F, A> {
             match self {
                 Link::End => return,
                 Link::More(chunk) => {
-                    let Chunk { slots: _, below } = Box::into_inner(chunk);
+                    let Chunk { eight: _, below } = Box::into_inner(chunk);
                     self = below;
                 }
             }
@@ -37,12 +37,12 @@ impl<F: Copy, A: Allocator> Drop for Link<F, A> {
 
 impl<F: Copy, A: Allocator> Link<F, A> {
     /// Puts a chunk on top of these. Where memory is refused they are unchanged.
-    pub(crate) fn push(&mut self, alloc: A, slots: Slots<F>) -> Result<(), AllocError>
-        ensures { MatchResult result (λ done. chunks self.new ≡ slots ∷ chunks self.old)
+    pub(crate) fn push(&mut self, alloc: A, eight: Eight<F>) -> Result<(), AllocError>
+        ensures { MatchResult result (λ done. chunks self.new ≡ eight ∷ chunks self.old)
             (λ refused. chunks self.new ≡ chunks self.old) }
     {
         let chunk = Chunk {
-            slots,
+            eight,
             below: Link::End,
         };
         let mut chunk = Box::new(alloc, chunk)?;
@@ -58,7 +58,7 @@ impl<F: Copy, A: Allocator> Link<F, A> {
         match self {
             Link::End => Link::End,
             Link::More(chunk) => {
-                let Chunk { slots: _, below } = Box::into_inner(chunk);
+                let Chunk { eight: _, below } = Box::into_inner(chunk);
                 below
             }
         }
@@ -95,7 +95,7 @@ impl<F: Copy, A: Allocator> Link<F, A> {
         let mut rest = self;
         'chunks: while let Link::More(chunk) = rest {
             let copy = Chunk {
-                slots: chunk.slots,
+                eight: chunk.eight,
                 below: turned,
             };
             turned = Link::More(Box::new(alloc.clone()?, copy)?);

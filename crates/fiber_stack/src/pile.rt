@@ -1,8 +1,8 @@
 ghost use Rattle.std.specs.Prelude.{◌≡◌, ◌≢◌, ◌-◌, ◌<◌, ◌^◌, ◌%◌, List, [], ◌∷◌, length, MatchResult, MatchOption, IfOk, IsOk};
 
+use crate::eight::Eight;
 use crate::frame::Frame;
 use crate::link::Link;
-use crate::slots::Slots;
 use std::alloc::{AllocError, Allocator};
 use std::marker::Model;
 
@@ -11,7 +11,7 @@ use std::marker::Model;
 #[derive(Drop)]
 pub struct Pile<F: Copy, A: Allocator> {
     top: Link<F, A>,
-    // How many slots of the first chunk are free, the first ones.
+    // How many places of the first chunk are free: the first ones.
     free: u32,
     depth: u32,
     alloc: A,
@@ -59,7 +59,7 @@ impl<F: Copy, A: Allocator> Pile<F, A> {
     {
         match &self.top {
             Link::End => None,
-            Link::More(chunk) => Some(chunk.slots.at(self.free)),
+            Link::More(chunk) => Some(chunk.eight.at(self.free)),
         }
     }
 
@@ -70,7 +70,7 @@ impl<F: Copy, A: Allocator> Pile<F, A> {
     {
         let value = match &self.top {
             Link::End => return None,
-            Link::More(chunk) => *chunk.slots.at(self.free),
+            Link::More(chunk) => *chunk.eight.at(self.free),
         };
         self.depth -= 1;
         if self.free < 7 {
@@ -91,8 +91,8 @@ impl<F: Copy, A: Allocator> Pile<F, A> {
         match &mut self.top {
             Link::End => None,
             Link::More(chunk) => {
-                let value = *chunk.slots.at(self.free);
-                chunk.slots.set(self.free, element);
+                let value = *chunk.eight.at(self.free);
+                chunk.eight.set(self.free, element);
                 Some(value)
             }
         }
@@ -113,14 +113,14 @@ impl<F: Copy, A: Allocator + Clone> Pile<F, A> {
             self.depth += 1;
             self.free -= 1;
             if let Link::More(chunk) = &mut self.top {
-                chunk.slots.set(self.free, element);
+                chunk.eight.set(self.free, element);
             }
             return Ok(());
         }
         let Ok(alloc) = self.alloc.clone() else {
             return Err(element);
         };
-        match self.top.push(alloc, Slots::of(element)) {
+        match self.top.push(alloc, Eight::of(element)) {
             Ok(()) => {
                 self.free = 7;
                 self.depth += 1;

@@ -44,7 +44,7 @@ impl<'t> DrawTask<'t> {
         requires { band < bands_in turn.now.game }
         ensures { IfOk result (λ t. t ≡ record { game = turn.now.game; frame = turn.now.frame; number = band }) }
     {
-        Ok(DrawTask::with(turn.share_world()?, band))
+        Ok(DrawTask::with(turn.clone_world()?, band))
     }
 
     /// The same on a world that is shared already.

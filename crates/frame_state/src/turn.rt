@@ -72,7 +72,7 @@ impl<'t> Turned<'t> {
     }
 
     // The same, once more.
-    fn share_world(&self) -> Result<TurnedWorld<'t>, AllocError>
+    fn clone_world(&self) -> Result<TurnedWorld<'t>, AllocError>
         ensures { IfOk result (λ w. w ≡ self.now) }
     {
         Ok(TurnedWorld {
@@ -209,10 +209,10 @@ impl<'t> Turn<'t> {
     }
 
     /// The same, once more; nothing is copied.
-    pub fn share_world(&self) -> Result<TurnedWorld<'t>, AllocError>
+    pub fn clone_world(&self) -> Result<TurnedWorld<'t>, AllocError>
         ensures { IfOk result (λ w. w ≡ self.now) }
     {
-        self.turned.share_world()
+        self.turned.clone_world()
     }
 
     /// How many bands the frame has.

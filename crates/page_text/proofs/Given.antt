@@ -1,6 +1,6 @@
 -- Changes give the new text.
 use Rattle.std.proofs.Common.{◌≡◌, ℕ, suc, ◌+◌, Bool, true, false, ◌==◌, if◌then◌else◌, List, [], ◌∷◌, ◌++◌, length, refl, sym, ap, ◌∙◌, arith, eqb-true}
-use Rattle.page_text.specs.declared.change.Change.{Change}
+use Rattle.page_text.specs.declared.byte_change.ByteChange.{ByteChange}
 use Rattle.page_text.specs.Changes.{changes_from, put, changed}
 
 -- a place behind a front
@@ -23,7 +23,7 @@ length_more : (front : List ℕ) (c : ℕ) → length (front ++ c ∷ []) ≡ su
 length_more [] c = refl
 length_more (d ∷ front) c = ap suc (length_more front c)
 
-by_same : (front old new : List ℕ) (at o n : ℕ) (same : Bool) (changes : List Change) → (n == o) ≡ same → at ≡ length front
+by_same : (front old new : List ℕ) (at o n : ℕ) (same : Bool) (changes : List ByteChange) → (n == o) ≡ same → at ≡ length front
     → changed (front ++ n ∷ old) changes ≡ front ++ n ∷ new → changed (front ++ o ∷ old) (if same then changes else record { place = at; glyph = n } ∷ changes) ≡ front ++ n ∷ new
 by_same front old new at o n true changes e l h = ap (λ c. changed (front ++ c ∷ old) changes) (sym (eqb-true n o e)) ∙ h
 by_same front old new at o n false changes e l h = ap (λ t. changed t changes) (put_here front at n o old l) ∙ h

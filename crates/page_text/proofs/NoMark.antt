@@ -4,7 +4,7 @@ use Rattle.std.specs.List.{All}
 use Rattle.std.proofs.lemmas.Fmt.{decimal_by_steps}
 use Rattle.std.proofs.lemmas.List.Concat.{flat_map-cons}
 use Rattle.std.proofs.lemmas.List.Elements.{All-nil, All-cons, All-append}
-use Rattle.page_text.specs.declared.change.Change.{Change}
+use Rattle.page_text.specs.declared.byte_change.ByteChange.{ByteChange}
 use Rattle.page_text.specs.Changes.{change_text, changes_from, changes_text}
 use Rattle.page_text.specs.Films.{Frame, HasNoMark, IsFrameOf, IsWithoutMark, film_after, film_of, kept_rows}
 use Rattle.page_text.proofs.Unrolled.{feeds_length}
@@ -28,11 +28,11 @@ number n small = decimal_by_steps AreOther one_digit more_digits n small
 
 -- ---- changes
 
-pub record IsPlain (change : Change) : Type 0 where
+pub record IsPlain (change : ByteChange) : Type 0 where
   pub glyph : change.glyph ≢ 60
   pub place : change.place < 2 ^ 64
 
-by_same : (at n : ℕ) (same : Bool) (changes : List Change) → n ≢ 60 → at < 2 ^ 64 → All IsPlain changes
+by_same : (at n : ℕ) (same : Bool) (changes : List ByteChange) → n ≢ 60 → at < 2 ^ 64 → All IsPlain changes
     → All IsPlain (if same then changes else record { place = at; glyph = n } ∷ changes)
 by_same at n true changes other small all = all
 by_same at n false changes other small all =
@@ -45,12 +45,12 @@ plain at (o ∷ old) (n ∷ new) few other =
     by_same at n (n == o) (changes_from (suc at) old new) (other 0 n (omega arith)) (omega (arith, few))
     (plain (suc at) old new (omega (arith, few)) (λ k d l. other (suc k) d (omega (arith, l))))
 
-change_plain : (change : Change) → IsPlain change → HasNoMark (change_text change)
+change_plain : (change : ByteChange) → IsPlain change → HasNoMark (change_text change)
 change_plain change is =
     All-cons IsOther change.glyph (decimal change.place ++ codes ",") is.glyph
     (All-append IsOther (decimal change.place) (codes ",") (number change.place is.place) (All-cons IsOther 44 [] (λ e. omega (arith, e)) (All-nil IsOther)))
 
-changes_plain : (changes : List Change) → All IsPlain changes → HasNoMark (changes_text changes)
+changes_plain : (changes : List ByteChange) → All IsPlain changes → HasNoMark (changes_text changes)
 changes_plain [] are = All-nil IsOther
 changes_plain (change ∷ changes) are =
     subst HasNoMark (sym (flat_map-cons change_text change changes))

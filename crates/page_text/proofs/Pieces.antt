@@ -7,10 +7,10 @@ use Rattle.std.proofs.lemmas.Bool.Decides.{Decides-eqb}
 use Rattle.std.proofs.lemmas.Grind.{flat_map-append}
 use Rattle.std.proofs.lemmas.List.{drop-drop, length-drop, length-take-le, take-append-drop}
 use Rattle.std.proofs.lemmas.Slice.Eq.{slice_eq-Decides}
-use Rattle.page_text.specs.declared.change.Change.{Change}
+use Rattle.page_text.specs.declared.byte_change.ByteChange.{ByteChange}
 use Rattle.page_text.specs.Changes.{change_text, changes_from, changes_text, unless}
 
-by_same : (same : Bool) (change : Change) (some more : List Change) → (if same then some ++ more else change ∷ (some ++ more)) ≡ (if same then some else change ∷ some) ++ more
+by_same : (same : Bool) (change : ByteChange) (some more : List ByteChange) → (if same then some ++ more else change ∷ (some ++ more)) ≡ (if same then some else change ∷ some) ++ more
 by_same true change some more = refl
 by_same false change some more = refl
 

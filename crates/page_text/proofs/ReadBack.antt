@@ -4,7 +4,7 @@ use Rattle.std.specs.List.{All}
 use Rattle.std.proofs.lemmas.Fmt.{decimal_by_steps}
 use Rattle.std.proofs.lemmas.Grind.{common_steps}
 use Rattle.std.proofs.lemmas.List.Concat.{flat_map-cons}
-use Rattle.page_text.specs.declared.change.Change.{Change}
+use Rattle.page_text.specs.declared.byte_change.ByteChange.{ByteChange}
 use Rattle.page_text.specs.Changes.{change_text, changes_text}
 use Rattle.page_text.specs.Reading.{and_more, read, IsReadable}
 
@@ -41,13 +41,13 @@ line_read : (rest : List ℕ) → read None (10 ∷ rest) ≡ ([], rest)
 unfolding read
 line_read rest = refl
 
-one_change : (change : Change) → IsReadable change → (rest : List ℕ) → read None (change_text change ++ rest) ≡ and_more change (read None rest)
+one_change : (change : ByteChange) → IsReadable change → (rest : List ℕ) → read None (change_text change ++ rest) ≡ and_more change (read None rest)
 one_change change can rest =
     glyph_read change.glyph can.0 ((decimal change.place ++ codes ",") ++ rest)
     ∙ ap (read (Some (change.glyph, 0))) (append_assoc (decimal change.place) (codes ",") rest)
     ∙ number_read change.glyph change.place can.1 (44 ∷ rest) ∙ comma_read change.glyph change.place rest
 
-pub read_back : (changes : List Change) (rest : List ℕ) → All IsReadable changes → read None (changes_text changes ++ 10 ∷ rest) ≡ (changes, rest)
+pub read_back : (changes : List ByteChange) (rest : List ℕ) → All IsReadable changes → read None (changes_text changes ++ 10 ∷ rest) ≡ (changes, rest)
 read_back [] rest can = line_read rest
 read_back (change ∷ changes) rest can =
     ap (λ text. read None (text ++ 10 ∷ rest)) (flat_map-cons change_text change changes)

@@ -4,7 +4,7 @@ use Rattle.std.specs.List.{All}
 use Rattle.std.proofs.lemmas.Bool.{true≢false, eq-eqb}
 use Rattle.std.proofs.lemmas.List.{take_at, drop_at}
 use Rattle.std.proofs.lemmas.List.Elements.{All-nil, All-cons}
-use Rattle.page_text.specs.declared.change.Change.{Change}
+use Rattle.page_text.specs.declared.byte_change.ByteChange.{ByteChange}
 use Rattle.page_text.specs.Changes.{changed, changes_from, changes_text}
 use Rattle.page_text.specs.Films.{Frame, IsFrameOf, as_frame, feeds_of, film_after, film_of, frames_after, frames_in, kept_rows, lines_of}
 use Rattle.page_text.specs.Reading.{read, IsReadable}
@@ -29,7 +29,7 @@ more_feeds (b ∷ feeds) = feeds
 no_feed : (o n : ℕ) → (n == o) ≡ false → (o == 10) ≡ (n == 10) → n ≢ 10
 no_feed o n other feeds e = true≢false (sym (eq-eqb n o (e ∙ sym (eqb-true o 10 (feeds ∙ eq-eqb n 10 e)))) ∙ other)
 
-by_same : (at o n : ℕ) (same : Bool) (changes : List Change) → (n == o) ≡ same → (o == 10) ≡ (n == 10) → at < 2 ^ 64 → All IsReadable changes
+by_same : (at o n : ℕ) (same : Bool) (changes : List ByteChange) → (n == o) ≡ same → (o == 10) ≡ (n == 10) → at < 2 ^ 64 → All IsReadable changes
     → All IsReadable (if same then changes else record { place = at; glyph = n } ∷ changes)
 by_same at o n true changes e feeds small all = all
 by_same at o n false changes e feeds small all = All-cons IsReadable (record { place = at; glyph = n }) changes (no_feed o n e feeds, small) all
@@ -46,7 +46,7 @@ readable at (o ∷ old) (n ∷ new) feeds few =
 abbrev lines_read : (agents n : ℕ) (rows : List ℕ) → List ℕ × List ℕ → List Frame
 lines_read agents n rows parts = as_frame rows parts.0 ∷ frames_after agents n rows parts.1
 
-abbrev rows_read : (agents n : ℕ) (old : List ℕ) → List Change × List ℕ → List Frame
+abbrev rows_read : (agents n : ℕ) (old : List ℕ) → List ByteChange × List ℕ → List Frame
 rows_read agents n old parts = lines_read agents n (changed old parts.0) (lines_of agents parts.1)
 
 kept_read : (c : ℕ) (old new rest : List ℕ) → feeds_of (c ∷ old) ≡ feeds_of new → length (c ∷ old) ≤ 16512

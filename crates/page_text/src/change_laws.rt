@@ -1,6 +1,6 @@
 // Laws over the definitions alone.
 ghost use Rattle.std.specs.Prelude.{◌≡◌, ◌≢◌, ◌≤◌, ℕ, Bool, List, [], ◌∷◌, ◌++◌, length, All, None};
-ghost use Rattle.page_text.specs.declared.change.Change.{Change};
+ghost use Rattle.page_text.specs.declared.byte_change.ByteChange.{ByteChange};
 ghost use Rattle.page_text.specs.Changes.{changes_from, changes_text, changed};
 ghost use Rattle.page_text.specs.Films.{Frame, IsFrameOf, IsWithoutMark, HasNoMark, film_of, frames_in};
 ghost use Rattle.page_text.specs.Reading.{read, IsReadable};
@@ -12,7 +12,7 @@ pub fn changes_give_the_new_text()
 
 /// A line of changes is read back, with what is behind it.
 pub fn lines_are_read_back()
-    ensures { (changes : List Change) (rest : List ℕ) → All IsReadable changes → read None (changes_text changes ++ 10 ∷ rest) ≡ (changes, rest) }
+    ensures { (changes : List ByteChange) (rest : List ℕ) → All IsReadable changes → read None (changes_text changes ++ 10 ∷ rest) ≡ (changes, rest) }
 {}
 
 /// A film is read as the very frames that it is of, by their number, that of their agents and how many bytes their rows have.

@@ -3,7 +3,7 @@
 #![tactic(auto)]
 
 mod body;
-mod change;
+mod byte_change;
 pub mod change_laws;
 mod drawn;
 mod emits;

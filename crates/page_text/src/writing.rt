@@ -1,14 +1,14 @@
 ghost use Rattle.std.specs.Prelude.{◌≡◌, ◌≤◌, ◌+◌, ◌++◌, length, OnOk};
 ghost use Rattle.page_text.specs.Changes.{changes_from, change_text, changes_text};
 
-use crate::change::Change;
+use crate::byte_change::ByteChange;
 use itoa::Buffer;
 use std::alloc::AllocError;
 
 // How many bytes are compared at a time.
 const PIECE: usize = 128;
 
-fn push_change(text: &mut Vec<u8>, change: Change) -> Result<(), AllocError>
+fn push_change(text: &mut Vec<u8>, change: ByteChange) -> Result<(), AllocError>
     ensures { OnOk result (text.new.items ≡ text.old.items ++ change_text change) }
 {
     let mut digits = Buffer::new();
@@ -27,7 +27,7 @@ fn push_piece(text: &mut Vec<u8>, at: usize, old: &[u8], new: &[u8]) -> Result<(
         if *glyph != old[index] {
             push_change(
                 text,
-                Change {
+                ByteChange {
                     place: (at + index) as u32,
                     glyph: *glyph,
                 },

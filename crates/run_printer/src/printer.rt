@@ -14,7 +14,7 @@ use crate::noting::note_news;
 use byte_streams::write_whole;
 use draw_list::{Band, band_count, frame_text};
 use game_session::Session;
-use run_shared::{Cause, Rest, RunFault, RunLedger, Shared, ShownFrame, Trials};
+use run_shared::{Cause, RunFault, RunLedger, Shared, ShownFrame, SleepTime, Trials};
 use std::alloc::{AllocError, Global};
 use std::io::Write;
 use std::sync::Wait;
@@ -85,7 +85,7 @@ impl<'t, L: RunLedger> Printer<'t, L> {
         shared: &Shared<'t, L, M, D>,
         frame: u32,
         bands: u32,
-        rest: &mut Rest,
+        sleep: &mut SleepTime,
     ) -> Result<(), Cause>
         requires { self.old.inbox.taker.mail ≡ shared.now.mail }
         ensures mail { self.new.inbox.taker.mail ≡ shared.now.mail }
@@ -107,7 +107,7 @@ impl<'t, L: RunLedger> Printer<'t, L> {
             if shared.waiting.printer.is_over() {
                 return Err(Cause::Stranger);
             }
-            shared.waiting.printer.wait(rt, rest);
+            shared.waiting.printer.wait(rt, sleep);
         }
         unreachable!()
     }
@@ -119,7 +119,7 @@ impl<'t, L: RunLedger> Printer<'t, L> {
         rt: &R,
         shared: &Shared<'t, L, M, D>,
         emits: &mut Share<M>,
-        rest: &mut Rest,
+        sleep: &mut SleepTime,
     ) -> Result<Shown<'t>, Cause>
         requires emits { (emits.old.parts ≡ M.parts) × (0 < M.parts) }
         requires drawn { (g : Game) → L.game ≡ Some g → AreAllBands g (emits.old.amount + 1) self.now.next.items }
@@ -142,7 +142,7 @@ impl<'t, L: RunLedger> Printer<'t, L> {
                     }
                     return Ok(shown);
                 }
-                Err(BoardFault::Illegal) => shared.waiting.printer.wait(rt, rest),
+                Err(BoardFault::Illegal) => shared.waiting.printer.wait(rt, sleep),
                 Err(BoardFault::OutOfMemory) => return Err(Cause::OutOfMemory),
                 // Who stopped a board has a cause of its own, which goes before this one.
                 Err(_) => return Err(Cause::Stranger),
@@ -159,7 +159,7 @@ impl<'t, L: RunLedger> Printer<'t, L> {
         session: &Session,
         shared: &Shared<'t, L, M, D>,
         frame: u32,
-        rest: &mut Rest,
+        sleep: &mut SleepTime,
         emits: &mut Share<M>,
     ) -> Result<Vec<u8>, Cause>
         requires run { L.game ≡ Some session.now }
@@ -171,8 +171,8 @@ impl<'t, L: RunLedger> Printer<'t, L> {
         ensures counted { OnOk result (emits.new.amount ≡ emits.old.amount + 1) }
         ensures text { IfOk result (λ text. text.items ≡ frame_text session.now frame) }
     {
-        self.gather(rt, shared, frame, bands_of(session), rest)?;
-        let turn = self.show(rt, shared, emits, rest)?.into_turn();
+        self.gather(rt, shared, frame, bands_of(session), sleep)?;
+        let turn = self.show(rt, shared, emits, sleep)?.into_turn();
         let text = frame_text(alloc, frame, &self.next, turn.world(), turn.statuses());
         shared.leave_printed(rt, &mut self.next);
         match text {
@@ -207,10 +207,18 @@ pub fn print<'t, W: Write, J: Journal, L: RunLedger, M: Ledger, D: Ledger, R: Wa
 {
     let last = settings.frames();
     let mut noted = Vec::new(alloc);
-    let mut rest = Rest::new();
+    let mut sleep = SleepTime::new();
     let mut trials = Trials::new();
     for done in 0..last {
-        let text = match printer.next_text(rt, alloc, session, shared, done + 1, &mut rest, emits) {
+        let text = match printer.next_text(
+            rt,
+            alloc,
+            session,
+            shared,
+            done + 1,
+            &mut sleep,
+            emits,
+        ) {
             Ok(text) => text,
             Err(cause) => {
                 shared.stop(rt);

@@ -1,4 +1,4 @@
-use crate::rest::Rest;
+use crate::sleep_time::SleepTime;
 use crossbeam_utils::CachePadded;
 use std::hint;
 use std::sync::Wait;
@@ -70,16 +70,16 @@ impl Parking {
     }
 
     /// Waits until the thread is called, or for a while: it looks for a call first, and then sleeps.
-    pub fn wait<R: Wait>(&self, rt: &R, rest: &mut Rest) {
+    pub fn wait<R: Wait>(&self, rt: &R, sleep: &mut SleepTime) {
         for _ in 0..LOOKS {
             if self.take_call() {
-                rest.learn(true);
+                sleep.learn(true);
                 return;
             }
             hint::spin_loop();
         }
-        let is_called = self.sleep(rt, rest.length());
-        rest.learn(is_called);
+        let is_called = self.sleep(rt, sleep.length());
+        sleep.learn(is_called);
     }
 
     /// Sleeps until the thread is called, or for a while. Whether it was called.

@@ -16,7 +16,7 @@ use band_mail::Putter;
 use frame_params::{BoardStep, Lease, Step, Task};
 use game_session::Session;
 use run_shared::{
-    Cause, Given, HandedIn, Rest, RunBand, RunLedger, RunTask, Shared, Worked, draws_in,
+    Cause, Given, HandedIn, RunBand, RunLedger, RunTask, Shared, SleepTime, Worked, draws_in,
 };
 use std::alloc::Global;
 use std::hint;
@@ -75,13 +75,13 @@ impl<'h, 't, L: RunLedger, M: Ledger, D: Ledger, G: Gate, R: Wait> Worker<'h, 't
         ensures part { share.new.parts ≡ share.old.parts }
     {
         let waiting = &self.shared.waiting;
-        let mut rest = Rest::new();
+        let mut sleep = SleepTime::new();
         for _ in self.rt.forever() {
             waiting.rest(self.rt);
             waiting.workers.enter();
             let given = self.look(lease, share);
             if let Ok(Given::Nothing) = &given {
-                waiting.workers.wait(self.rt, &mut rest);
+                waiting.workers.wait(self.rt, &mut sleep);
             }
             waiting.workers.leave();
             match given {
@@ -160,7 +160,7 @@ impl<'h, 't, L: RunLedger, M: Ledger, D: Ledger, G: Gate, R: Wait> Worker<'h, 't
         ensures kept { result ≡ false → putter.new ≡ putter.old }
     {
         let waiting = &self.shared.waiting;
-        let mut rest = Rest::new();
+        let mut sleep = SleepTime::new();
         let mut band = band;
         waiting.room.enter();
         for _ in self.rt.forever() {
@@ -177,7 +177,7 @@ impl<'h, 't, L: RunLedger, M: Ledger, D: Ledger, G: Gate, R: Wait> Worker<'h, 't
                 return false;
             }
             waiting.printer.call_one();
-            waiting.room.wait(self.rt, &mut rest);
+            waiting.room.wait(self.rt, &mut sleep);
         }
         unreachable!()
     }

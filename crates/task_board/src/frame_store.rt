@@ -203,7 +203,7 @@ impl<'t> FrameStore<'t> {
     {
         match lease.take_world(frame) {
             Some(world) => Ok(world),
-            None => Ok(self.turn_of(frame).share_world()?),
+            None => Ok(self.turn_of(frame).clone_world()?),
         }
     }
 

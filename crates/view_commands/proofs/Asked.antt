@@ -4,8 +4,8 @@ use Rattle.clap.specs.Words.{Row, Text, first_of}
 use Rattle.words.specs.Program.{IsNumber}
 use Rattle.words.proofs.Asked.{name_in, rows_in}
 use Rattle.trace_text.specs.declared.span.FrameSpan.{FrameSpan}
-use Rattle.view_commands.specs.declared.request.View.{View}
-use Rattle.view_commands.specs.declared.request.View.TheVariants.{Trace, Page}
+use Rattle.view_commands.specs.declared.request.ViewWords.{ViewWords}
+use Rattle.view_commands.specs.declared.request.ViewWords.TheVariants.{Trace, Page}
 use Rattle.view_commands.specs.Program.{AreFrames, AsksForPage, AsksToTrace, Enters, IsReading}
 
 one_row : (words : List Text) (name : Text) (r q : List Row) → Enters words name r → Enters words name q → r ≡ q
@@ -30,7 +30,7 @@ one_span r q a b e i j =
     ap (λ f. span_of f a.last) first ∙ ap (λ l. span_of b.first l) last
 
 -- they are read as a Trace of these frames, and as nothing else
-pub read_as_trace : (words : List Text) (v : View) (frames : FrameSpan) (P : View → Type 0) (Q : FrameSpan → Type 0) → IsReading words v
+pub read_as_trace : (words : List Text) (v : ViewWords) (frames : FrameSpan) (P : ViewWords → Type 0) (Q : FrameSpan → Type 0) → IsReading words v
     → AsksToTrace words frames → ((log : _) (span : FrameSpan) → P (Trace log span) → Q span) → P v → Q frames
 read_as_trace words (Trace log span) frames P Q reading asks step done =
     subst Q (one_span reading.0 asks.0 span frames (one_row words (codes "trace") reading.0 asks.0 reading.1 asks.1) reading.3 asks.2)
@@ -39,7 +39,7 @@ read_as_trace words (Page level log script span) frames P Q reading asks step do
     absurd (apart 5 4 (one_length words (codes "trace") (codes "page") asks.0 reading.0 asks.1 reading.1) (omega arith))
 
 -- and as a Page
-pub read_as_page : (words : List Text) (v : View) (frames : FrameSpan) (P : View → Type 0) (Q : FrameSpan → Type 0) → IsReading words v
+pub read_as_page : (words : List Text) (v : ViewWords) (frames : FrameSpan) (P : ViewWords → Type 0) (Q : FrameSpan → Type 0) → IsReading words v
     → AsksForPage words frames → ((level : _) (log : _) (script : _) (span : FrameSpan) → P (Page level log script span) → Q span) → P v → Q frames
 read_as_page words (Trace log span) frames P Q reading asks step done =
     absurd (apart 5 4 (one_length words (codes "trace") (codes "page") reading.0 asks.0 reading.1 asks.1) (omega arith))

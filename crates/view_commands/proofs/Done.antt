@@ -6,8 +6,8 @@ use Rattle.trace_text.specs.declared.span.FrameSpan.{FrameSpan}
 use Rattle.words.specs.declared.program_fault.Fault.{Fault}
 use Rattle.words.specs.Faults.{status_in}
 use Rattle.words.proofs.Statuses.{ok_at_zero}
-use Rattle.view_commands.specs.declared.request.View.{View}
-use Rattle.view_commands.specs.declared.request.View.TheVariants.{Trace, Page}
+use Rattle.view_commands.specs.declared.request.ViewWords.{ViewWords}
+use Rattle.view_commands.specs.declared.request.ViewWords.TheVariants.{Trace, Page}
 use Rattle.view_commands.specs.Doing.{IsDone, IsPartDone, TracesSome, TracesSomePart}
 use Rattle.view_commands.specs.Paging.{PagesSome, PagesSomePart}
 use Rattle.view_commands.specs.Program.{AsksForPage, AsksToTrace, IsReading}
@@ -15,18 +15,18 @@ use Rattle.view_commands.proofs.Asked.{read_as_page, read_as_trace}
 use Rattle.view_commands.proofs.Paged.{pages_some_part}
 use Rattle.view_commands.proofs.Traced.{traces_some_part}
 
-done_in_part : (old new : Option (List ℕ)) (v : View) → IsDone old new v → IsPartDone old new v
+done_in_part : (old new : Option (List ℕ)) (v : ViewWords) → IsDone old new v → IsPartDone old new v
 done_in_part old new (Trace log frames) h = traces_some_part old new frames h
 done_in_part old new (Page level log script frames) h = pages_some_part old new frames h
 
 -- done or not, it is a part
-part_of : (r : Result (⊤) Fault) (old new : Option (List ℕ)) (v : View) → OnOk r (IsDone old new v) → OnErr r (IsPartDone old new v)
+part_of : (r : Result (⊤) Fault) (old new : Option (List ℕ)) (v : ViewWords) → OnOk r (IsDone old new v) → OnErr r (IsPartDone old new v)
     → IsPartDone old new v
 part_of (Ok x) old new v done part = done_in_part old new v done
 part_of (Err f) old new v done part = part
 
 -- by the words, and the status where all is done
-module _ (old new : Option (List ℕ)) (words : List Text) (v : View) (r : Result (⊤) Fault) (frames : FrameSpan) (reading : IsReading words v) where
+module _ (old new : Option (List ℕ)) (words : List Text) (v : ViewWords) (r : Result (⊤) Fault) (frames : FrameSpan) (reading : IsReading words v) where
   pub traced : (n : ℕ) → AsksToTrace words frames → n ≡ 0 → n ≡ status_in r → OnOk r (IsDone old new v) → TracesSome old new frames
   traced n asks zero is done =
       read_as_trace words v frames (IsDone old new) (TracesSome old new) reading asks (λ log span h. h) (ok_at_zero r n _ is zero done)

@@ -11,8 +11,8 @@ use Rattle.words.specs.declared.program_fault.Fault.{Fault}
 use Rattle.words.specs.declared.program_fault.Fault.TheVariants.{Write}
 use Rattle.words.specs.Faults.{IsReadingFault}
 use Rattle.view_commands.specs.Paging.{PagesSome, PagesSomePart}
-use Rattle.view_commands.specs.declared.request.View.{View}
-use Rattle.view_commands.specs.declared.request.View.TheVariants.{Trace, Page}
+use Rattle.view_commands.specs.declared.request.ViewWords.{ViewWords}
+use Rattle.view_commands.specs.declared.request.ViewWords.TheVariants.{Trace, Page}
 
 -- the trace of the settings and events was written that the log's bytes spell
 abbrev pub Traces : (old new : Option (List ℕ)) → FrameSpan → (log : List ℕ) → Type 0
@@ -35,11 +35,11 @@ abbrev pub TracesSomePart : (old new : Option (List ℕ)) → FrameSpan → Type
 TracesSomePart old new frames = Keeps old new ⊎ ((log : List ℕ) × TracesPart old new frames log)
 
 -- what the words ask for is done
-abbrev pub IsDone : (old new : Option (List ℕ)) → View → Type 0
+abbrev pub IsDone : (old new : Option (List ℕ)) → ViewWords → Type 0
 IsDone old new (Trace log frames) = TracesSome old new frames
 IsDone old new (Page level log script frames) = PagesSome old new frames
 
 -- or a part of it
-abbrev pub IsPartDone : (old new : Option (List ℕ)) → View → Type 0
+abbrev pub IsPartDone : (old new : Option (List ℕ)) → ViewWords → Type 0
 IsPartDone old new (Trace log frames) = TracesSomePart old new frames
 IsPartDone old new (Page level log script frames) = PagesSomePart old new frames

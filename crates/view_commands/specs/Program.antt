@@ -6,8 +6,8 @@ use Rattle.clap.specs.declared.parser.matches.ArgMatches.{ArgMatches}
 use Rattle.trace_text.specs.declared.span.FrameSpan.{FrameSpan}
 use Rattle.words.specs.declared.fault.WordsFault.{WordsFault}
 use Rattle.words.specs.Program.{default_rule, new_program, path_rule, word_rule, IsAskedOf, IsNumber, IsOptional, IsText}
-use Rattle.view_commands.specs.declared.request.View.{View}
-use Rattle.view_commands.specs.declared.request.View.TheVariants.{Trace, Page}
+use Rattle.view_commands.specs.declared.request.ViewWords.{ViewWords}
+use Rattle.view_commands.specs.declared.request.ViewWords.TheVariants.{Trace, Page}
 
 -- `[--from F] [--to T]`
 abbrev pub with_frames : App → App
@@ -56,7 +56,7 @@ abbrev pub AsksForPage : List Text → FrameSpan → Type 0
 AsksForPage words frames = (rows : List Row) × Enters words (codes "page") rows × AreFrames rows frames
 
 -- the subcommand and the entries of clap's reading
-abbrev pub IsReading : List Text → View → Type 0
+abbrev pub IsReading : List Text → ViewWords → Type 0
 IsReading words (Trace log frames) = (rows : List Row) × Enters words (codes "trace") rows × IsText rows (codes "log") log × AreFrames rows frames
 IsReading words (Page level log script frames) = (rows : List Row) × Enters words (codes "page") rows × IsText rows (codes "level") level
     × IsText rows (codes "log") log × IsOptional rows (codes "script") script × AreFrames rows frames

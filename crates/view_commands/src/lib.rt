@@ -12,6 +12,6 @@ mod tracing;
 pub use paging::page_bytes;
 pub use program::view_command;
 pub use reading::read_view_words;
-pub use request::View;
+pub use request::ViewWords;
 pub use tracing::trace_bytes;
 pub use words::{refuse_unread_words, words_given};

@@ -7,7 +7,7 @@ ghost use Rattle.view_commands.specs.Program.{AreRefused, AsksForPage, AsksToTra
 
 use crate::paging::page_files;
 use crate::reading::read_view_words;
-use crate::request::View;
+use crate::request::ViewWords;
 use crate::tracing::trace_file;
 use std::alloc::Global;
 use std::io::Write;
@@ -15,13 +15,13 @@ use std::rt::Files;
 use words::{Fault, end_with, refuse_words};
 
 /// Does what words ask for.
-fn act<H: Files, W: Write>(rt: &H, alloc: Global, view: View, out: &mut W) -> Result<(), Fault>
+fn act<H: Files, W: Write>(rt: &H, alloc: Global, view: ViewWords, out: &mut W) -> Result<(), Fault>
     ensures ok { OnOk result (IsDone (W.contents out.old) (W.contents out.new) view) }
     ensures part { OnErr result (IsPartDone (W.contents out.old) (W.contents out.new) view) }
 {
     match view {
-        View::Trace { log, frames } => trace_file(rt, alloc, log, frames, out),
-        View::Page {
+        ViewWords::Trace { log, frames } => trace_file(rt, alloc, log, frames, out),
+        ViewWords::Page {
             level,
             log,
             script,

@@ -4,7 +4,7 @@ ghost use Rattle.words.specs.Program.{IsNoHelp};
 ghost use Rattle.view_commands.specs.Program.{IsReading, Enters, AreFrames, IsAskedFor, IsEntered};
 
 use crate::arguments::{SUBCOMMANDS, program_command};
-use crate::request::View;
+use crate::request::ViewWords;
 use clap::ArgMatches;
 use std::alloc::Global;
 use trace_text::FrameSpan;
@@ -19,23 +19,23 @@ fn frames_entry(alloc: Global, matches: &ArgMatches<'_>) -> Result<FrameSpan, Wo
     Ok(FrameSpan { first, last })
 }
 
-fn trace_words(alloc: Global, matches: &ArgMatches<'_>) -> Result<View, WordsFault>
+fn trace_words(alloc: Global, matches: &ArgMatches<'_>) -> Result<ViewWords, WordsFault>
     ensures reading { IfOk result (λ v. (ws : List (List ℕ))
         → Enters ws (codes "trace") (rows_of (found_of matches.now)) → IsReading ws v) }
     ensures fault { IfErr result IsNoHelp }
 {
-    Ok(View::Trace {
+    Ok(ViewWords::Trace {
         log: text_entry(alloc, matches, "log")?,
         frames: frames_entry(alloc, matches)?,
     })
 }
 
-fn page_words(alloc: Global, matches: &ArgMatches<'_>) -> Result<View, WordsFault>
+fn page_words(alloc: Global, matches: &ArgMatches<'_>) -> Result<ViewWords, WordsFault>
     ensures reading { IfOk result (λ v. (ws : List (List ℕ))
         → Enters ws (codes "page") (rows_of (found_of matches.now)) → IsReading ws v) }
     ensures fault { IfErr result IsNoHelp }
 {
-    Ok(View::Page {
+    Ok(ViewWords::Page {
         level: text_entry(alloc, matches, "level")?,
         log: text_entry(alloc, matches, "log")?,
         script: optional_entry(alloc, matches, "script")?,
@@ -44,7 +44,7 @@ fn page_words(alloc: Global, matches: &ArgMatches<'_>) -> Result<View, WordsFaul
 }
 
 /// What the command asks for that clap's matches have entered.
-fn command_words(alloc: Global, matches: &ArgMatches<'_>) -> Result<View, WordsFault>
+fn command_words(alloc: Global, matches: &ArgMatches<'_>) -> Result<ViewWords, WordsFault>
     ensures reading { IfOk result (λ v. (ws : List (List ℕ)) → IsEntered ws matches.now → IsReading ws v) }
     ensures fault { IfErr result IsNoHelp }
 {
@@ -59,7 +59,7 @@ fn command_words(alloc: Global, matches: &ArgMatches<'_>) -> Result<View, WordsF
 ///
 /// No words and words that clap refuses, numbers out of their limits among them, are `Refused` with a text; `--help` is
 /// `Help` with its text.
-pub fn read_view_words(alloc: Global, words: &[String]) -> Result<View, WordsFault>
+pub fn read_view_words(alloc: Global, words: &[String]) -> Result<ViewWords, WordsFault>
     ensures reading { IfOk result (IsReading (map string_bytes words.now)) }
     ensures help { IfErr result (IsAskedFor (map string_bytes words.now)) }
 {

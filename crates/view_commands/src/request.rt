@@ -2,7 +2,7 @@ use trace_text::FrameSpan;
 
 /// What the viewer's words ask for. Each text is the path of a file.
 #[derive(Debug, Drop)]
-pub enum View {
+pub enum ViewWords {
     /// Write what workers did in these frames of a log, for a viewer of traces.
     Trace {
         log: String,

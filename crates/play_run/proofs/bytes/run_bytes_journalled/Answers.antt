@@ -6,13 +6,4 @@ pub returns-in-Ok-run_journalled-clause-ok : goal.returns-in-Ok-run_journalled-c
 returns-in-Ok-run_journalled-clause-ok g c =
     played (g.W.Write.contents c.args.out.now) (g.W.Write.contents c.run_journalled.new.out) c.args.level.now c.args.script.now (value_of c.in-Ok.level) c.in-Ok-read_script.script c.new-session.result c.args.settings c.in-Ok-run_journalled.report
     c.in-Ok.ensures.ok c.in-Ok-read_script.ensures.ok c.new-session.ensures
-    (record {
-      text = c.in-Ok-run_journalled.ensures.ok;
-      frames = c.in-Ok-run_journalled.ensures.frames;
-      complete = c.in-Ok-run_journalled.ensures.complete;
-      once = c.in-Ok-run_journalled.ensures.once;
-      steps = c.in-Ok-run_journalled.ensures.steps;
-      total = c.in-Ok-run_journalled.ensures.sum;
-      bands = c.in-Ok-run_journalled.ensures.bands;
-      band_total = c.in-Ok-run_journalled.ensures.band_sum;
-    })
+    c.in-Ok-run_journalled.ensures.played

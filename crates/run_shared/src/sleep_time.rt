@@ -8,14 +8,14 @@ const LONGEST: u64 = 1_000;
 /// How long a thread sleeps at most before it looks for what nobody called it for: a millisecond at first, and twice as
 /// long each time that it was not called, up to a second.
 #[derive(Drop)]
-pub struct Rest {
+pub struct SleepTime {
     millis: u64,
 }
 
-impl Rest {
-    /// The shortest rest.
-    pub fn new() -> Rest {
-        Rest { millis: SHORTEST }
+impl SleepTime {
+    /// The shortest sleep.
+    pub fn new() -> SleepTime {
+        SleepTime { millis: SHORTEST }
     }
 
     /// How long it is.

@@ -3,7 +3,7 @@ use crate::case::Wanted;
 
 /// What a run answered and wrote.
 #[derive(Drop)]
-pub struct Outcome {
+pub struct Ran {
     pub status: u8,
     pub out: Vec<u8>,
     pub err: Vec<u8>,
@@ -31,7 +31,7 @@ fn is_wanted(given: &[u8], wanted: &Wanted, most: usize) -> bool {
     given == &wanted.bytes[..most.min(wanted.bytes.len())]
 }
 
-impl Outcome {
+impl Ran {
     /// The first thing that is not as it has to be. Of the text of standard output so many bytes have to be there.
     pub fn difference(
         &self,

@@ -1,5 +1,5 @@
 ghost use Rattle.std.specs.Prelude.{◌≡◌, ◌<◌, ◌≤◌, replicate, slice_index_or, slice_set};
-ghost use Rattle.fiber_stack.specs.Chunks.{two, four, slots};
+ghost use Rattle.fiber_stack.specs.Chunks.{two, four, eight};
 
 /// Room for two values.
 #[derive(Clone, Copy)]
@@ -67,25 +67,25 @@ impl<F: Copy> Four<F> {
     }
 }
 
-/// Room for eight values. It is cut into halves, so that a slot's address comes of three choices with no branch: an array of
+/// Room for eight values. It is cut into halves, so that a value's address comes of three choices with no branch: an array of
 /// a type parameter would owe that its size is small.
 #[derive(Clone, Copy)]
-pub(crate) struct Slots<F: Copy> {
+pub(crate) struct Eight<F: Copy> {
     low: Four<F>,
     high: Four<F>,
 }
 
-impl<F: Copy> Slots<F> {
-    /// The value in each slot.
-    pub(crate) fn of(value: F) -> Slots<F>
-        ensures { slots result ≡ replicate 8 value }
+impl<F: Copy> Eight<F> {
+    /// The same value eight times.
+    pub(crate) fn of(value: F) -> Eight<F>
+        ensures { eight result ≡ replicate 8 value }
     {
         let pair = Two { a: value, b: value };
         let half = Four {
             low: pair,
             high: pair,
         };
-        Slots {
+        Eight {
             low: half,
             high: half,
         }
@@ -102,7 +102,7 @@ impl<F: Copy> Slots<F> {
     #[inline(always)]
     pub(crate) fn at(&self, index: u32) -> &F
         requires { index < 8 }
-        ensures { result.now ≡ slice_index_or (slots self.now) index result.now }
+        ensures { result.now ≡ slice_index_or (eight self.now) index result.now }
     {
         self.half(index).at(index % 4)
     }
@@ -110,7 +110,7 @@ impl<F: Copy> Slots<F> {
     #[inline(always)]
     pub(crate) fn set(&mut self, index: u32, value: F)
         requires { index < 8 }
-        ensures { slots self.new ≡ slice_set (slots self.old) index value }
+        ensures { eight self.new ≡ slice_set (eight self.old) index value }
     {
         if index < 4 {
             self.low.set(index, value);
