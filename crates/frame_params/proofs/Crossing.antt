@@ -4,7 +4,7 @@ use denote.Param.Send.{IsSend, IsSync, sendable}
 use Rattle.std.proofs.Crossing.{crosses}
 use Rattle.bt_nodes.proofs.node.Node.TheLaws.TheKnot.{both_send-Node, both_sync-Node, send-Node, sync-Node}
 use Rattle.fiber_stack.proofs.link.Link.TheLaws.TheKnot.{send-Link, sync-Link}
-use Rattle.fiber_stack.proofs.slots.Slots.TheSendSync.{the_send as slots_send, the_sync as slots_sync}
+use Rattle.fiber_stack.proofs.eight.Eight.TheSendSync.{the_send as eight_send, the_sync as eight_sync}
 use Rattle.grid_world.proofs.cell.Answer.TheSendSync.{the_send as answer_send, the_sync as answer_sync}
 use Rattle.grid_world.proofs.cell.Intent.TheSendSync.{the_send as intent_send, the_sync as intent_sync}
 use Rattle.grid_world.proofs.place.Place.TheSendSync.{the_send as place_send, the_sync as place_sync}
@@ -26,7 +26,7 @@ use Rattle.frame_params.specs.contracts.task.Task as Task
 ruleset of_parts = (answer_send, answer_sync, intent_send, intent_sync, place_send, place_sync, memory_send, memory_sync, kept_send, kept_sync)
 
 -- those of a tick that stands at a question
-ruleset of_ticks = (both_send-Node, both_sync-Node, send-Link, sync-Link, slots_send, slots_sync, send-Node, sync-Node)
+ruleset of_ticks = (both_send-Node, both_sync-Node, send-Link, sync-Link, eight_send, eight_sync, send-Node, sync-Node)
 
 -- as a field of another type
 pub pending_field_send : (κ : NamedLft) → IsSend (Pending.the_field κ Global.the_row Global.the_row ghosts ghosts).row
