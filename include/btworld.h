@@ -6,7 +6,7 @@
  *  - a handle is BTWORLD_CLOSED_GAME at first, and is changed by these calls alone; it may be moved, and its old place is not
  *    used any more: a copy of a handle is no second game (btworld_fork makes one);
  *  - the handles, the buffers and the other pointers of one call don't overlap, and none is null, but for bytes of length 0;
- *  - a buffer has as many bytes as its length says, and a length is at most PTRDIFF_MAX;
+ *  - a buffer has the room that its length says, and a length is at most PTRDIFF_MAX;
  *  - a game is used by one thread at a time, and games, forks too, side by side on as many as there are. Where another thread goes
  *    on with a game, a lock, or the start or the join of a thread, lies between;
  *  - malloc, realloc and free come from one allocator, and align to 16 bytes; no call comes from a signal handler.
@@ -16,7 +16,7 @@
  *
  * Each call but btworld_version and btworld_close answers a status, and says below what it *fails with*, in the order in which it looks; NO_MEMORY may
  * come in between. After any failure each handle and each buffer is as it was, and the same call may come again, but for what is
- * said at btworld_step and btworld_replay, and that SHORT writes *size: how many bytes are wanted.
+ * said at btworld_step, btworld_replay and btworld_log_frames, and that SHORT writes *size: how much is wanted.
  *
  * In all versions 2.x these stay, so that a program goes on with a newer shared library (libbtworld.so.2) as it was built:
  *  - the name, the arguments and the meaning of each call, and the number of each status: a new status comes of new calls alone;
@@ -284,8 +284,9 @@ uint32_t btworld_replay(const uint8_t *level, size_t level_length, const uint8_t
 uint32_t btworld_log_frames(const uint8_t *level, size_t level_length, const uint8_t *script, size_t script_length,
                             const uint8_t *log, size_t log_length, uint32_t *frames, uint64_t *event);
 
-/* The log of a complete run that begins with the events of a log that was broken off, at the start of a buffer. A first line alone
- * is such a log too. It takes as long as to play all frames that the log is of.
+/* The log of a complete run that begins with the events of a log that broke off behind a line feed, at the start of a buffer: the
+ * caller cuts off a part of a line, and a journal's first line. A first line alone is such a log too. It takes as long as to play
+ * all frames that the log is of.
  * Fails with NO_MEMORY, LEVEL, SCRIPT, LOG_HEAD, LOG_LINE, LOG_ILLEGAL, LOG_STOPPED, SHORT. */
 uint32_t btworld_complete(const uint8_t *level, size_t level_length, const uint8_t *script, size_t script_length, const uint8_t *log,
                           size_t log_length, uint8_t *whole, size_t capacity, size_t *size);
