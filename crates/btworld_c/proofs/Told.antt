@@ -1,6 +1,6 @@
 -- What a status tells of a level.
-use Rattle.std.proofs.Common.{◌≡◌, ◌∙◌, ◌⊎◌, inl, inr, ℕ, Bool, List, Option, Some, None, true, false, sym, ap, Result, Ok, Err}
-use Rattle.std.specs.Prelude.{is_some}
+use Rattle.std.proofs.Common.{◌≡◌, ◌∙◌, ◌⊎◌, inl, inr, ℕ, Bool, List, Option, Some, None, true, false, sym, ap, arith, Result, Ok, Err}
+use Rattle.std.specs.Prelude.{◌≢◌, [], is_some}
 use Rattle.std.proofs.lemmas.Bool.{both_ways}
 use Rattle.game_session.specs.Parts.{Parts}
 use Rattle.game_session.specs.Faults.{Fault}
@@ -10,9 +10,13 @@ use Rattle.level_text.specs.declared.level_fault.LevelFault.{LevelFault}
 use Rattle.level_text.specs.declared.script_file.ScriptFault.{ScriptFault}
 use Rattle.level_text.specs.declared.script_file.ScriptFault.TheVariants.{OutOfMemory}
 use Rattle.game_rules.specs.declared.change.Change.{Change}
+use Rattle.game_session.specs.Sessions.{game_of}
 use Rattle.stepping.specs.Played.{Played}
-use Rattle.btworld_c.specs.Statuses.{no_memory, taken, fault_status, spelled_status, script_status, session_status, IsLevelStatus, IsSessionStatus, IsStateFault}
-use Rattle.btworld_c.specs.Games.{IsOpenStatus, IsOpenBesideStatus, IsLoadStatus}
+use Rattle.stepping.specs.StateText.{IsNoText}
+use Rattle.stepping.specs.declared.load_fault.LoadFault.{LoadFault}
+use Rattle.stepping.specs.declared.load_fault.LoadFault.TheVariants as loads
+use Rattle.btworld_c.specs.Statuses.{no_memory, taken, fault_status, spelled_status, script_status, session_status, load_status, IsLevelStatus, IsSessionStatus, IsStateFault}
+use Rattle.btworld_c.specs.Games.{IsOpenStatus, IsOpenBesideStatus, IsUnloadable, IsLoadStatus}
 
 named_told : (right : Result Parts Fault) (f : Option Fault) (status : ℕ) → Names f right → status ≡ fault_status f → (status ≡ no_memory) ⊎ (status ≡ spelled_status right)
 named_told right None status n e = inl e
@@ -63,21 +67,28 @@ beside_taken_told level script (Some game) is_open status says open_now e = e
 
 -- ---- a level and a state
 
-pub load_told : (bytes : List ℕ) (held : Option Played) (is_open : Bool) (status : ℕ) → is_open ≡ is_some held → is_open ≡ false
-    → IsLevelStatus bytes status ⊎ ((level : Parts) × (spelled bytes ≡ Ok level) × IsStateFault status) → IsLoadStatus bytes held status
-load_told bytes None is_open status says closed told = told
-load_told bytes (Some game) is_open status says closed told = absurd (both_ways is_open closed says)
+pub load_told : (bytes text : List ℕ) (held : Option Played) (is_open : Bool) (status : ℕ) → is_open ≡ is_some held → is_open ≡ false
+    → IsLevelStatus bytes status ⊎ IsUnloadable bytes text status → IsLoadStatus bytes text held status
+load_told bytes text None is_open status says closed told = told
+load_told bytes text (Some game) is_open status says closed told = absurd (both_ways is_open closed says)
 
-pub load_taken_told : (bytes : List ℕ) (held : Option Played) (is_open : Bool) (status : ℕ) → is_open ≡ is_some held → is_open ≡ true → status ≡ taken → IsLoadStatus bytes held status
-load_taken_told bytes None is_open status says open_now e = absurd (both_ways is_open says open_now)
-load_taken_told bytes (Some game) is_open status says open_now e = e
+pub load_taken_told : (bytes text : List ℕ) (held : Option Played) (is_open : Bool) (status : ℕ) → is_open ≡ is_some held → is_open ≡ true → status ≡ taken
+    → IsLoadStatus bytes text held status
+load_taken_told bytes text None is_open status says open_now e = absurd (both_ways is_open says open_now)
+load_taken_told bytes text (Some game) is_open status says open_now e = e
+
+-- what a fault tells of the text goes with its number
+pub fault_told : (text : Type 0) (fault : LoadFault) (status : ℕ) → (fault ≢ loads.OutOfMemory → text) → status ≡ load_status fault → (status ≡ no_memory) ⊎ (IsStateFault status × text)
+fault_told text loads.OutOfMemory status told e = inl e
+fault_told text loads.Text status told e = inr (inl e, told (λ o. let z : 64 ≡ 1 = ap load_status o in omega (arith, z)))
+fault_told text loads.Level status told e = inr (inr (inl e), told (λ o. let z : 65 ≡ 1 = ap load_status o in omega (arith, z)))
+fault_told text loads.World status told e = inr (inr (inr e), told (λ o. let z : 66 ≡ 1 = ap load_status o in omega (arith, z)))
 
 -- why a level's game was not loaded
-pub load_refused : (bytes : List ℕ) (level : Parts) (status : ℕ) → spelled bytes ≡ Ok level → (status ≡ no_memory) ⊎ IsStateFault status
-    → IsLevelStatus bytes status ⊎ ((level : Parts) × (spelled bytes ≡ Ok level) × IsStateFault status)
-load_refused bytes level status spells (inl e) = inl (inl e)
-load_refused bytes level status spells (inr is) = inr (level, spells, is)
+pub load_refused : (bytes text : List ℕ) (level : Parts) (status : ℕ) → spelled bytes ≡ Ok level
+    → (status ≡ no_memory) ⊎ (IsStateFault status × IsNoText (game_of level []) text) → IsLevelStatus bytes status ⊎ IsUnloadable bytes text status
+load_refused bytes text level status spells (inl e) = inl (inl e)
+load_refused bytes text level status spells (inr is) = inr (record { level = level; spells = spells; no_state = is.1; fault = is.0 })
 
-pub load_done : (bytes : List ℕ) (level : Parts) (status : ℕ) → spelled bytes ≡ Ok level → status ≡ 0
-    → IsLevelStatus bytes status ⊎ ((level : Parts) × (spelled bytes ≡ Ok level) × IsStateFault status)
-load_done bytes level status spells e = inl (inr (e ∙ sym (ap spelled_status spells)))
+pub load_done : (bytes text : List ℕ) (level : Parts) (status : ℕ) → spelled bytes ≡ Ok level → status ≡ 0 → IsLevelStatus bytes status ⊎ IsUnloadable bytes text status
+load_done bytes text level status spells e = inl (inr (e ∙ sym (ap spelled_status spells)))

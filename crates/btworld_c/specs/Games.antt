@@ -6,7 +6,7 @@ use Rattle.game_session.specs.Sessions.{game_of}
 use Rattle.level_text.specs.Levels.{spelled}
 use Rattle.level_text.specs.Scripts.{script_of}
 use Rattle.stepping.specs.Played.{Played, opened, bits, scripted_signals, IsRefused, IsStepped}
-use Rattle.stepping.specs.StateText.{state_text}
+use Rattle.stepping.specs.StateText.{state_text, IsNoText}
 use Rattle.btworld_c.specs.Statuses.{taken, IsLevelStatus, IsSessionStatus, IsStateFault}
 
 -- it is the game of the level that bytes spell, before the first frame, with an empty script beside it
@@ -42,10 +42,17 @@ pub record IsLoaded (bytes text : List ℕ) (held : Option Played) : Type 0 wher
   pub no_script : game.script ≡ []
   pub is : held ≡ Some game
 
+-- the bytes spell a level, and the text is that of no state of it
+pub record IsUnloadable (bytes text : List ℕ) (status : ℕ) : Type 0 where
+  pub level : Parts
+  pub spells : spelled bytes ≡ Ok level
+  pub no_state : IsNoText (game_of level []) text
+  pub fault : IsStateFault status
+
 -- what loading answers: that a game is there already, or how the bytes are as a level, or why the text is not loaded
-abbrev pub IsLoadStatus : List ℕ → Option Played → ℕ → Type 0
-IsLoadStatus bytes None status = IsLevelStatus bytes status ⊎ ((level : Parts) × (spelled bytes ≡ Ok level) × IsStateFault status)
-IsLoadStatus bytes (Some game) status = status ≡ taken
+abbrev pub IsLoadStatus : (bytes text : List ℕ) → Option Played → ℕ → Type 0
+IsLoadStatus bytes text None status = IsLevelStatus bytes status ⊎ IsUnloadable bytes text status
+IsLoadStatus bytes text (Some game) status = status ≡ taken
 
 -- a game was held, and is a frame on, in which the signals were on whose bits are
 abbrev pub IsSteppedIn : ℕ → Option Played → Option Played → Type 0

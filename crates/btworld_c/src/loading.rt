@@ -2,7 +2,7 @@
 ghost use Rattle.std.specs.Prelude.{◌≡◌, ◌≢◌, ◌⊎◌, [], IfOk, IfErr};
 ghost use Rattle.game_session.specs.Levels.{value_of};
 ghost use Rattle.game_session.specs.Sessions.{game_of};
-ghost use Rattle.stepping.specs.StateText.{state_text};
+ghost use Rattle.stepping.specs.StateText.{state_text, IsNoText};
 ghost use Rattle.btworld_c.specs.Statuses.{done, no_memory, IsStateFault};
 ghost use Rattle.btworld_c.specs.Games.{IsLoaded, IsLoadStatus};
 
@@ -13,11 +13,12 @@ use level_text::read_level;
 use std::alloc::Global;
 use stepping::Stepping;
 
+#[tactic(auto, using(crate::proofs::Told::fault_told))]
 fn loaded(alloc: Global, level: Level, state: &[u8]) -> Result<Box<Stepping>, u32>
     ensures text { IfOk result (λ b. state_text b.value ≡ state.now) }
     ensures game { IfOk result (λ b. b.value.game ≡ game_of (value_of level) b.value.game.changes) }
     ensures script { IfOk result (λ b. b.value.script ≡ []) }
-    ensures status { IfErr result (λ status. (status ≡ no_memory) ⊎ IsStateFault status) }
+    ensures status { IfErr result (λ status. (status ≡ no_memory) ⊎ (IsStateFault status × IsNoText (game_of (value_of level) []) state.now)) }
 {
     let game = match Stepping::load(alloc, level, Script::empty(alloc), state) {
         Ok(game) => game,
@@ -38,7 +39,7 @@ fn loaded(alloc: Global, level: Level, state: &[u8]) -> Result<Box<Stepping>, u3
 #[unsafe(no_mangle)]
 pub extern "C" fn btworld_load(alloc: Global, game: &mut Game, level: &[u8], state: &[u8]) -> u32
     ensures ok { result ≡ done → IsLoaded level.now state.now game.new.handle.value }
-    ensures status { IsLoadStatus level.now game.old.handle.value result }
+    ensures status { IsLoadStatus level.now state.now game.old.handle.value result }
     ensures refused { result ≢ done → game.new.handle.value ≡ game.old.handle.value }
 {
     if game.is_open {

@@ -1,13 +1,21 @@
--- What two machines write of a game, to compare it.
-use Rattle.std.specs.Prelude.{ℕ, List, ◌++◌, codes, decimal}
+-- What is written of a level, and what two machines write of a game, to compare it.
+use Rattle.std.specs.Prelude.{ℕ, List, ◌++◌, length, codes, decimal}
 use Rattle.std.specs.List.{flat_map}
 use Rattle.byte_streams.specs.Hex.{hex}
 use Rattle.grid_world.specs.Map.{count_up}
+use Rattle.game_session.specs.Parts.{Parts}
+use Rattle.game_session.specs.Faults.{world_of}
 use Rattle.game_rules.specs.Game.{Game, signals}
 use Rattle.game_rules.specs.Play.{play}
 use Rattle.stepping.specs.Digest.{digest_of}
 use Rattle.stepping.specs.LevelDigest.{level_digest_of, script_digest_of}
 use Rattle.stepping.specs.Played.{State}
+
+-- the line that tells of a right level: its width and height, how many agents and trees it has
+abbrev pub check_line : Parts → List ℕ
+check_line level =
+    codes "ok " ++ decimal (world_of level).width ++ codes " " ++ decimal (world_of level).height ++ codes " " ++ decimal (length (world_of level).agents)
+    ++ codes " " ++ decimal (length level.trees) ++ codes "\n"
 
 -- a game after a frame; the frame's signals stay until others are handed in
 abbrev pub state_after : Game → ℕ → State
