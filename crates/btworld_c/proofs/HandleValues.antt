@@ -1,6 +1,6 @@
 -- The machine values of a `Handle`. Assumes `Logic`.
 use Rattle.std.proofs.Common.{◌≡◌, ℕ, List, [], ◌∷◌, ◌++◌, refl, subst, lit<, Some, None}
-use mathlib.Core.Bool.{Bool, true, false, ◌&&◌}
+use mathlib.Core.Bool.{true, ◌&&◌}
 use lib.Dec.{T}
 use seplogic.Ra.Ura.{Ura}
 use mir.Syntax.{w64}
@@ -30,7 +30,7 @@ use Rattle.std.specs.contracts.impls.GlobalAllocator.TheImpl.{ghosts}
 use Rattle.btworld_c.specs.Held
 use Rattle.stepping.specs.contracts.played.Stepping as held_type
 use Rattle.btworld_c.specs.contracts.handle.Handle as handle
-use Rattle.btworld_c.proofs.Values.{both, both_tt, al}
+use Rattle.btworld_c.proofs.Values.{both, al}
 
 abbrev pub R : RattleType
 R = held_type.the_row

@@ -1,14 +1,16 @@
 -- What is written of a game, by what the game is.
-use Rattle.std.proofs.Common.{◌≡◌, ◌∙◌, ◌++◌, ℕ, List, [], Option, Some, None, refl, sym, ap, ap₂, subst, append-nil}
-use Rattle.std.specs.Prelude.{MatchOption, IsSomeAnd}
+use Rattle.std.proofs.Common.{◌≡◌, ◌∙◌, ◌++◌, ℕ, List, [], Option, Some, None, Result, Ok, refl, sym, ap, ap₂, subst, append-nil}
+use Rattle.std.specs.Prelude.{MatchOption, IsSomeAnd, IfOk}
 use Rattle.std.specs.Io.KnownBytes.{Appends, Keeps}
 use Rattle.byte_streams.specs.Streams.{AppendsPart}
 use Rattle.game_rules.specs.Game.{Game}
+use Rattle.game_session.specs.Faults.{Fault}
+use Rattle.game_session.specs.Parts.{Parts}
 use Rattle.stepping.specs.LevelDigest.{level_digest_of, script_digest_of}
 use Rattle.stepping.specs.Played.{Played}
 use Rattle.stepping.specs.StateText.{state_text, scripted_state_text}
 use Rattle.commands.specs.Opening.{IsSteppedTo}
-use Rattle.commands.specs.Texts.{digests_head, digest_lines, digests_text}
+use Rattle.commands.specs.Texts.{check_line, digests_head, digest_lines, digests_text}
 use Rattle.commands.proofs.Stepped.{text_is}
 
 pub digests_are : (game : Option Game) (p : Played) (level script frames : ℕ) (first all : List ℕ) → IsSomeAnd game (λ g. IsSteppedTo g 0 p)
@@ -44,3 +46,9 @@ none_written (Some xs) all = ([], all, refl, sym (append-nil xs))
 pub untouched : (of : Game → List ℕ) (a : Option (List ℕ)) (game : Option Game) → MatchOption game (Keeps a a) (λ g. AppendsPart a a (of g))
 untouched of a None = kept a
 untouched of a (Some g) = none_written a (of g)
+
+-- a part of a right level's line was written
+pub line_part : (right : Result Parts Fault) (level : Parts) (line : List ℕ) (old new : Option (List ℕ)) → right ≡ Ok level → line ≡ check_line level
+    → AppendsPart old new line → IfOk right (λ l. AppendsPart old new (check_line l))
+line_part right level line old new spells is wrote =
+    subst (λ r. IfOk r (λ l. AppendsPart old new (check_line l))) (sym spells) (subst (λ t. AppendsPart old new t) is wrote)

@@ -1,5 +1,4 @@
 use mir.Raw.{raw}
-use base.Fml.{Fml}
 use base.Shift.{Keyless}
 use Rattle.std.specs.Prelude.{Option, Some, None}
 use denote.Memory.{lone}

@@ -1,27 +1,27 @@
 -- a walk of its MIR
-use Rattle.std.proofs.Common.{◌≡◌, ◌≢◌, List, [], ◌∷◌, ◌++◌, refl, sym, ap, ◌∙◌, subst, Some, None, Option}
-use mir.Val.{Val, vptr, vint}
+use Rattle.std.proofs.Common.{◌≡◌, List, [], ◌∷◌, ◌++◌, refl, sym, subst, None, Option}
+use mir.Val.{Val, vint}
 use mir.Syntax.{w64}
 use base.Logic.{SProp, ent, emp, id⊢}
 use base.Fml.{ftrue}
 use prog.Wp.{WpFn}
-use types.Kit.{‵, raw, ◌⊛◌, ◌$◌, ◌∵◌, !, qed, by, move, keep, drop, split, join, fsplit, fjoin, suffices, use0, use1}
-use types.Run.{stop, fld, lit, of_opd, no_more, and_then, returns, enter}
-use types.ByLocal.{alloc_all, pass_all, free_all, look_at, get, get_in, sets}
-use types.Part.{agg, sub, whole}
+use types.Kit.{‵, raw, ◌⊛◌, ◌$◌, ◌∵◌, !, qed, by, move, keep, split, fsplit, fjoin, suffices, use0}
+use types.Run.{lit, no_more, and_then, returns, enter}
+use types.ByLocal.{alloc_all, pass_all, free_all, look_at, get, sets}
+use types.Part.{agg}
 use contract.Monad.{fact, fact_i}
 use contract.Running.{tables}
-use denote.Exit.{yes, no}
-use denote.RattleType.{RattleType, owns}
+use denote.Exit.{yes}
+use denote.RattleType.{owns}
 use denote.Signature.{types_at, plain}
-use denote.RawPtr.{block_ptr, null_ptr}
-use denote.Steps.{nothing, heard}
+use denote.RawPtr.{null_ptr}
+use denote.Steps.{nothing}
 use denote.Triple.Walked.{Stays, stay_dropped, walk_of, Goes-dropped}
 use Rattle.std.proofs.raw_atomic.Walks.{proved_at, leaves}
 use Rattle.std.specs.contracts.impls.GlobalAllocator.TheImpl.{ghosts}
 use Rattle.std.proofs.alloc.Calls.{handle_tells}
-use Rattle.btworld_c.proofs.Values.{al, both, Loose, loose_good, loose_out, loose_in}
-use Rattle.btworld_c.proofs.HandleValues.{R, Z, LZ, Handle, null_good, handle_in, closed_in, handle_out}
+use Rattle.btworld_c.proofs.Values.{al, both}
+use Rattle.btworld_c.proofs.HandleValues.{R, Z, LZ, null_good, closed_in}
 use Rattle.btworld_c.specs.contracts.handle.Handle.closed.{ended, clauses}
 use Rattle.btworld_c.specs.contracts.handle.Handle.closed.Key.{name as #self}
 use Rattle.btworld_c.proofs.handle.Handle.closed.Statement.{statement}
