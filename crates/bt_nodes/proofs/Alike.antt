@@ -1,6 +1,6 @@
 -- A tree is settled by its root's kind, the number that stands in it, and what stands below it.
 use Rattle.std.proofs.Common.{◌≡◌, ◌≢◌, map, take, ℕ, zero, suc, ◌+◌, ◌<◌, ◌≤◌, List, [], ◌∷◌, length, get_or, Option, Some, None, refl, sym, ap, ◌∙◌, arith, unwrap_or}
-use Rattle.bt_nodes.specs.Plain.{Seq, Fallback, Take, Drop, At, Carrying, Item, Signal, Near, Give, Plain, Composite, Star, Par, Not, Tries, Ticks, Wait, Move, Does, Forest, none, forest_of, plain, plains}
+use Rattle.bt_nodes.specs.Plain.{Seq, Fallback, Carrying, Plain, Composite, Star, Par, Not, Tries, Ticks, Wait, Move, Does, Forest, none, forest_of, plain, plains}
 use Rattle.std.proofs.lemmas.List.{take_more, take_all}
 use Rattle.bt_nodes.specs.Sizes.{size, sizes, count}
 use Rattle.bt_nodes.specs.Heads.{kind_of, number_of, listed, decorated}
@@ -20,19 +20,12 @@ built kind.Tries n cs c = Tries (unwrap_or n 0) (unwrap_or c (Does Carrying))
 built kind.Ticks n cs c = Ticks (unwrap_or n 0) (unwrap_or c (Does Carrying))
 built kind.Wait n cs c = Wait (unwrap_or n 0)
 built kind.Move n cs c = Move (unwrap_or n 0)
-built kind.Take n cs c = Does Take
-built kind.Drop n cs c = Does Drop
-built kind.At n cs c = Does (At (unwrap_or n 0))
-built kind.Carrying n cs c = Does Carrying
-built kind.Item n cs c = Does Item
-built kind.Signal n cs c = Does (Signal (unwrap_or n 0))
-built kind.Near n cs c = Does (Near (unwrap_or n 0))
-built kind.Give n cs c = Does (Give (unwrap_or n 0))
+built (kind.Does leaf) n cs c = Does leaf
 
 again : (p : Plain) → built (kind_of p) (number_of p) (listed p) (decorated p) ≡ p
 again (Composite Seq cs) = refl
 again (Star Seq cs) = refl
-again (Does Take) = refl
+again (Does leaf) = refl
 again _ = refl
 
 pub same_tree : (p q : Plain) → kind_of p ≡ kind_of q → number_of p ≡ number_of q → listed p ≡ listed q → decorated p ≡ decorated q → p ≡ q

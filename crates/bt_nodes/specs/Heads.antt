@@ -4,15 +4,16 @@ use Rattle.bt_nodes.specs.Plain.{Seq, Fallback, Leaf, Take, Drop, At, Carrying, 
 use Rattle.bt_nodes.specs.declared.head.NodeKind.{NodeKind}
 use Rattle.bt_nodes.specs.declared.head.NodeKind.TheVariants as kind
 
-abbrev pub leaf_kind : Leaf → NodeKind
-leaf_kind Take = kind.Take
-leaf_kind Drop = kind.Drop
-leaf_kind (At p) = kind.At
-leaf_kind Carrying = kind.Carrying
-leaf_kind Item = kind.Item
-leaf_kind (Signal a) = kind.Signal
-leaf_kind (Near n) = kind.Near
-leaf_kind (Give b) = kind.Give
+-- the number of a leaf's kind among all kinds of nodes
+abbrev pub leaf_code : Leaf → ℕ
+leaf_code Take = 10
+leaf_code Drop = 11
+leaf_code (At p) = 12
+leaf_code Carrying = 13
+leaf_code Item = 14
+leaf_code (Signal a) = 15
+leaf_code (Near n) = 16
+leaf_code (Give b) = 17
 
 abbrev pub kind_of : Plain → NodeKind
 kind_of (Composite Seq children) = kind.Seq
@@ -25,7 +26,7 @@ kind_of (Tries n child) = kind.Tries
 kind_of (Ticks n child) = kind.Ticks
 kind_of (Wait n) = kind.Wait
 kind_of (Move p) = kind.Move
-kind_of (Does leaf) = leaf_kind leaf
+kind_of (Does leaf) = kind.Does leaf
 
 abbrev pub leaf_number : Leaf → Option ℕ
 leaf_number Take = None
@@ -68,3 +69,8 @@ decorated (Not child) = Some child
 decorated (Tries n child) = Some child
 decorated (Ticks n child) = Some child
 decorated _ = None
+
+-- whether it is an action or a condition
+abbrev pub is_leaf : Plain → Bool
+is_leaf (Does leaf) = true
+is_leaf _ = false

@@ -77,15 +77,10 @@ impl<A: Allocator> Node<A> {
         match self {
             Node::Wait(ticks) => Node::Wait(*ticks),
             Node::Move(place) => Node::Move(*place),
-            Node::Take => Node::Take,
-            Node::Drop => Node::Drop,
-            Node::At(place) => Node::At(*place),
-            Node::Carrying => Node::Carrying,
-            Node::Item => Node::Item,
-            Node::Signal(signal) => Node::Signal(*signal),
-            Node::Near(distance) => Node::Near(*distance),
-            Node::Give(letter) => Node::Give(*letter),
-            _ => unreachable!(),
+            _ => match self.leaf() {
+                Some(leaf) => leaf.into_node(),
+                None => unreachable!(),
+            },
         }
     }
 }

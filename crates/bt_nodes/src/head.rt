@@ -1,12 +1,13 @@
 // The parts of a node: its kind, the number that stands in it, and what stands right below it.
-ghost use Rattle.std.specs.Prelude.{◌≡◌, option_map};
-ghost use Rattle.bt_nodes.specs.Plain.{plain, plains};
-ghost use Rattle.bt_nodes.specs.Heads.{kind_of, number_of, listed, lists, decorated};
+ghost use Rattle.std.specs.Prelude.{◌≡◌, None, IfSome, false, option_map};
+ghost use Rattle.bt_nodes.specs.Plain.{Does, plain, plains};
+ghost use Rattle.bt_nodes.specs.Heads.{is_leaf, kind_of, number_of, listed, lists, decorated};
 
+use crate::leaf::Leaf;
 use crate::node::Node;
 use std::alloc::Allocator;
 
-/// What a node is, without its number and its children.
+/// What a node is: of one that is no leaf without its number and its children.
 #[derive(Clone, Copy, Debug, PartialEq, Eq)]
 pub(crate) enum NodeKind {
     Seq,
@@ -19,14 +20,7 @@ pub(crate) enum NodeKind {
     Ticks,
     Wait,
     Move,
-    Take,
-    Drop,
-    At,
-    Carrying,
-    Item,
-    Signal,
-    Near,
-    Give,
+    Does(Leaf),
 }
 
 impl<A: Allocator> Node<A> {
@@ -44,39 +38,44 @@ impl<A: Allocator> Node<A> {
             Node::Ticks(_, _) => NodeKind::Ticks,
             Node::Wait(_) => NodeKind::Wait,
             Node::Move(_) => NodeKind::Move,
-            Node::Take => NodeKind::Take,
-            Node::Drop => NodeKind::Drop,
-            Node::At(_) => NodeKind::At,
-            Node::Carrying => NodeKind::Carrying,
-            Node::Item => NodeKind::Item,
-            Node::Signal(_) => NodeKind::Signal,
-            Node::Near(_) => NodeKind::Near,
-            Node::Give(_) => NodeKind::Give,
+            Node::Take => NodeKind::Does(Leaf::Take),
+            Node::Drop => NodeKind::Does(Leaf::Drop),
+            Node::At(place) => NodeKind::Does(Leaf::At(*place)),
+            Node::Carrying => NodeKind::Does(Leaf::Carrying),
+            Node::Item => NodeKind::Does(Leaf::Item),
+            Node::Signal(signal) => NodeKind::Does(Leaf::Signal(*signal)),
+            Node::Near(distance) => NodeKind::Does(Leaf::Near(*distance)),
+            Node::Give(letter) => NodeKind::Does(Leaf::Give(*letter)),
         }
     }
 
-    // The number that stands in a node: a threshold, ticks, a place, a signal, a distance or an agent.
-    pub(crate) fn number(&self) -> Option<u64>
+    /// The action or the condition that it is, if it is one.
+    pub fn leaf(&self) -> Option<Leaf>
+        ensures some { IfSome result (λ leaf. plain self.now ≡ Does leaf) }
+        ensures none { result ≡ None → is_leaf (plain self.now) ≡ false }
+    {
+        match self.kind() {
+            NodeKind::Does(leaf) => Some(leaf),
+            _ => None,
+        }
+    }
+
+    /// The number that stands in a node: a threshold, ticks, a place, a signal, a distance or an agent.
+    pub fn number(&self) -> Option<u64>
         ensures { result ≡ number_of (plain self.now) }
     {
         match self {
             Node::Par(number, _)
             | Node::Tries(number, _)
             | Node::Ticks(number, _)
-            | Node::Wait(number)
-            | Node::Near(number) => Some(*number),
-            Node::Move(place) | Node::At(place) => Some(u64::from(place.number())),
-            Node::Signal(signal) => Some(u64::from(signal.number())),
-            Node::Give(letter) => Some(u64::from(letter.number())),
+            | Node::Wait(number) => Some(*number),
+            Node::Move(place) => Some(u64::from(place.number())),
             Node::Seq(_)
             | Node::Fallback(_)
             | Node::SeqStar(_)
             | Node::FallbackStar(_)
-            | Node::Not(_)
-            | Node::Take
-            | Node::Drop
-            | Node::Carrying
-            | Node::Item => None,
+            | Node::Not(_) => None,
+            _ => self.leaf()?.number(),
         }
     }
 
