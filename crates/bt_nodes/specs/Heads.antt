@@ -1,10 +1,9 @@
 -- The root of a tree: its kind, the number that stands in it, and what stands below it. They say which tree it is.
-use Rattle.std.specs.Prelude.{ℕ, Bool, true, false, Option, Some, None}
+use Rattle.std.specs.Prelude.{ℕ, ◌==◌, if◌then◌else◌, Bool, true, false, Option, Some, None}
 use Rattle.bt_nodes.specs.Plain.{Seq, Fallback, Leaf, Take, Drop, At, Carrying, Item, Signal, Near, Give, Plain, Composite, Star, Par, Not, Tries, Ticks, Wait, Move, Does, Forest, none}
 use Rattle.bt_nodes.specs.declared.head.NodeKind.{NodeKind}
 use Rattle.bt_nodes.specs.declared.head.NodeKind.TheVariants as kind
 
--- the number of a leaf's kind among all kinds of nodes
 abbrev pub leaf_code : Leaf → ℕ
 leaf_code Take = 10
 leaf_code Drop = 11
@@ -28,6 +27,23 @@ kind_of (Wait n) = kind.Wait
 kind_of (Move p) = kind.Move
 kind_of (Does leaf) = kind.Does leaf
 
+abbrev kind_code : NodeKind → ℕ
+kind_code kind.Seq = 0
+kind_code kind.Fallback = 1
+kind_code kind.SeqStar = 2
+kind_code kind.FallbackStar = 3
+kind_code kind.Par = 4
+kind_code kind.Not = 5
+kind_code kind.Tries = 6
+kind_code kind.Ticks = 7
+kind_code kind.Wait = 8
+kind_code kind.Move = 9
+kind_code (kind.Does leaf) = leaf_code leaf
+
+-- the number of a node's kind, by which digests know it
+abbrev pub code_of : Plain → ℕ
+code_of p = kind_code (kind_of p)
+
 abbrev pub leaf_number : Leaf → Option ℕ
 leaf_number Take = None
 leaf_number Drop = None
@@ -48,6 +64,12 @@ number_of (Ticks n child) = Some n
 number_of (Wait n) = Some n
 number_of (Move p) = Some p
 number_of (Does leaf) = leaf_number leaf
+
+-- the leaf of such a kind in which this number stands
+abbrev pub leaf_by : ℕ → ℕ → Leaf
+leaf_by code n =
+    if code == 10 then Take else (if code == 11 then Drop else (if code == 12 then At n else (if code == 13 then Carrying else
+    (if code == 14 then Item else (if code == 15 then Signal n else (if code == 16 then Near n else Give n))))))
 
 -- the children that it lists
 abbrev pub listed : Plain → Forest

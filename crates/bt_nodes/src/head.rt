@@ -1,7 +1,7 @@
 // The parts of a node: its kind, the number that stands in it, and what stands right below it.
 ghost use Rattle.std.specs.Prelude.{◌≡◌, None, IfSome, false, option_map};
 ghost use Rattle.bt_nodes.specs.Plain.{Does, plain, plains};
-ghost use Rattle.bt_nodes.specs.Heads.{is_leaf, kind_of, number_of, listed, lists, decorated};
+ghost use Rattle.bt_nodes.specs.Heads.{is_leaf, code_of, kind_of, number_of, listed, lists, decorated};
 
 use crate::leaf::Leaf;
 use crate::node::Node;
@@ -57,6 +57,26 @@ impl<A: Allocator> Node<A> {
         match self.kind() {
             NodeKind::Does(leaf) => Some(leaf),
             _ => None,
+        }
+    }
+
+    /// The number of its kind, by which digests know it: from 0 seq, fallback, seq*, fallback*, par, not, tries, ticks, wait,
+    /// move, and then the leaves.
+    pub fn code(&self) -> u8
+        ensures { result ≡ code_of (plain self.now) }
+    {
+        match self.kind() {
+            NodeKind::Seq => 0,
+            NodeKind::Fallback => 1,
+            NodeKind::SeqStar => 2,
+            NodeKind::FallbackStar => 3,
+            NodeKind::Par => 4,
+            NodeKind::Not => 5,
+            NodeKind::Tries => 6,
+            NodeKind::Ticks => 7,
+            NodeKind::Wait => 8,
+            NodeKind::Move => 9,
+            NodeKind::Does(leaf) => leaf.code(),
         }
     }
 

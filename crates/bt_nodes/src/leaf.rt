@@ -22,8 +22,8 @@ pub enum Leaf {
 }
 
 impl Leaf {
-    /// The number of its kind among all kinds of nodes, the first ten of which are no leaves.
-    pub fn code(self) -> u8
+    // The number of its kind, behind those of the nodes that are no leaves.
+    pub(crate) fn code(self) -> u8
         ensures { result ≡ leaf_code self }
     {
         match self {

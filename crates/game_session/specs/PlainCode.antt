@@ -1,8 +1,9 @@
 -- How the logic stores a tree: as a list of pairs of numbers, one pair for each node and for each child, last things first.
-use Rattle.std.specs.Prelude.{◌≡◌, ℕ, ◌==◌, if◌then◌else◌, List, [], ◌∷◌, refl}
+use Rattle.std.specs.Prelude.{◌≡◌, ℕ, ◌+◌, ◌-◌, ◌==◌, unwrap_or, if◌then◌else◌, List, [], ◌∷◌, refl}
 use Rattle.std.proofs.Common.{ap, ◌∙◌}
 use Rattle.std.specs.Coded.{Coded, code_by, coded×, coded_ℕ, coded_list}
-use Rattle.bt_nodes.specs.Plain.{Kind, Seq, Fallback, Leaf, Take, Drop, At, Carrying, Item, Signal, Near, Give, Plain, Composite, Star, Par, Not, Tries, Ticks, Wait, Move, Does, Forest, none, tree}
+use Rattle.bt_nodes.specs.Heads.{leaf_code, leaf_number, leaf_by}
+use Rattle.bt_nodes.specs.Plain.{Kind, Seq, Fallback, Leaf, Take, Carrying, Plain, Composite, Star, Par, Not, Tries, Ticks, Wait, Move, Does, Forest, none, tree}
 
 abbrev Token : Type 0
 Token = ℕ × ℕ
@@ -17,15 +18,9 @@ abbrev star_token : Kind → Token
 star_token Seq = (2, 0)
 star_token Fallback = (3, 0)
 
+-- behind those of all other nodes and lists
 abbrev leaf_token : Leaf → Token
-leaf_token Take = (10, 0)
-leaf_token Drop = (11, 0)
-leaf_token (At p) = (12, p)
-leaf_token Carrying = (13, 0)
-leaf_token Item = (14, 0)
-leaf_token (Signal a) = (15, a)
-leaf_token (Near n) = (16, n)
-leaf_token (Give b) = (19, b)
+leaf_token leaf = (20 + leaf_code leaf, unwrap_or (leaf_number leaf) 0)
 
 -- in front of what follows
 abbrev mutual
@@ -70,11 +65,6 @@ child [] lists s = s
 child (p ∷ trees) [] s = s
 child (p ∷ trees) (cs ∷ lists) s = record { trees = trees; lists = tree p cs ∷ lists }
 
-abbrev leaf_at : ℕ → ℕ → Leaf
-leaf_at t n =
-    if t == 10 then Take else (if t == 11 then Drop else (if t == 12 then At n else (if t == 13 then Carrying else
-    (if t == 14 then Item else (if t == 15 then Signal n else (if t == 16 then Near n else Give n))))))
-
 abbrev after_token : ℕ → ℕ → Waiting → Waiting
 after_token t n s =
     if t == 0 then over_list (Composite Seq) s.lists s else (if t == 1 then over_list (Composite Fallback) s.lists s else
@@ -83,7 +73,7 @@ after_token t n s =
     (if t == 6 then over_tree (Tries n) s.trees s else (if t == 7 then over_tree (Ticks n) s.trees s else
     (if t == 8 then with_tree (Wait n) s else (if t == 9 then with_tree (Move n) s else
     (if t == 17 then record s { lists = none ∷ s.lists } else (if t == 18 then child s.trees s.lists s else
-    with_tree (Does (leaf_at t n)) s)))))))))))
+    with_tree (Does (leaf_by (t - 20) n)) s)))))))))))
 
 abbrev read : List Token → Waiting → Waiting
 read [] s = s
@@ -97,13 +87,7 @@ first_tree (p ∷ ps) = p
 
 leaf_again : (leaf : Leaf) (rest : List Token) (s : Waiting) → read (leaf_token leaf ∷ rest) s ≡ read rest (with_tree (Does leaf) s)
 leaf_again Take rest s = refl
-leaf_again Drop rest s = refl
-leaf_again (At p) rest s = refl
-leaf_again Carrying rest s = refl
-leaf_again Item rest s = refl
-leaf_again (Signal a) rest s = refl
-leaf_again (Near n) rest s = refl
-leaf_again (Give b) rest s = refl
+leaf_again _ rest s = refl
 
 mutual
   read-written : (p : Plain) (rest : List Token) (s : Waiting) → read (written p rest) s ≡ read rest (with_tree p s)

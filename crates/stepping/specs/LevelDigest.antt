@@ -3,9 +3,9 @@ use Rattle.std.specs.Prelude.{ℕ, List, [], ◌∷◌, ◌++◌, length, unwrap
 use Rattle.std.specs.List.{flat_map}
 use Rattle.grid_world.specs.declared.cell.Cell.{Cell}
 use Rattle.grid_world.specs.declared.cell.Cell.TheVariants.{Wall, Floor, Door, Spot}
-use Rattle.bt_nodes.specs.Plain.{Seq, Fallback, Leaf, Take, Drop, At, Carrying, Item, Signal, Near, Give, Plain, Composite, Star, Par, Not, Tries, Ticks, Wait, Move, Does, Forest, none, tree}
+use Rattle.bt_nodes.specs.Plain.{Plain, Composite, Star, Par, Not, Tries, Ticks, Wait, Move, Does, Forest, none, tree}
 use Rattle.bt_nodes.specs.Sizes.{count}
-use Rattle.bt_nodes.specs.Heads.{number_of}
+use Rattle.bt_nodes.specs.Heads.{code_of, number_of}
 use Rattle.game_rules.specs.declared.change.Change.{Change}
 use Rattle.game_rules.specs.Game.{Game}
 use Rattle.stepping.specs.Digest.{fnv_all, bytes, bit, agent_bytes, item_bytes}
@@ -18,32 +18,9 @@ cell_bytes (Spot p) = 3 ∷ p ∷ []
 
 -- ---- trees
 
-abbrev pub leaf_code : Leaf → ℕ
-leaf_code Take = 10
-leaf_code Drop = 11
-leaf_code (At p) = 12
-leaf_code Carrying = 13
-leaf_code Item = 14
-leaf_code (Signal a) = 15
-leaf_code (Near n) = 16
-leaf_code (Give b) = 17
-
-abbrev pub kind_code : Plain → ℕ
-kind_code (Composite Seq children) = 0
-kind_code (Composite Fallback children) = 1
-kind_code (Star Seq children) = 2
-kind_code (Star Fallback children) = 3
-kind_code (Par m children) = 4
-kind_code (Not child) = 5
-kind_code (Tries n child) = 6
-kind_code (Ticks n child) = 7
-kind_code (Wait n) = 8
-kind_code (Move p) = 9
-kind_code (Does leaf) = leaf_code leaf
-
 -- a node alone: its kind, the number that stands in it, or 0, and how many children it has
 abbrev pub node_bytes : Plain → ℕ → List ℕ
-node_bytes p children = kind_code p ∷ bytes 2 (unwrap_or (number_of p) 0) ++ bytes 1 children
+node_bytes p children = code_of p ∷ bytes 2 (unwrap_or (number_of p) 0) ++ bytes 1 children
 
 -- the nodes in preorder
 abbrev mutual

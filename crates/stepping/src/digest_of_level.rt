@@ -1,12 +1,11 @@
 // FNV-1a of 64 bits over the bytes of a level: its map, agents, items and trees.
-ghost use Rattle.std.specs.Prelude.{◌≡◌, [], length, unwrap_or};
+ghost use Rattle.std.specs.Prelude.{◌≡◌, [], length};
 ghost use Rattle.std.specs.List.{flat_map};
-ghost use Rattle.bt_nodes.specs.Heads.{number_of};
 ghost use Rattle.bt_nodes.specs.Plain.{plain, plains};
 ghost use Rattle.game_session.specs.Levels.{value_of, agent_trees};
 ghost use Rattle.game_session.specs.Sessions.{game_of};
 ghost use Rattle.stepping.specs.Digest.{fnv_all};
-ghost use Rattle.stepping.specs.LevelDigest.{cell_bytes, kind_code, node_bytes, tree_bytes, forest_bytes, level_digest_of};
+ghost use Rattle.stepping.specs.LevelDigest.{cell_bytes, node_bytes, tree_bytes, forest_bytes, level_digest_of};
 
 use crate::digest::{OFFSET, with_agents, with_byte, with_items, with_two};
 use crate::played::Stepping;
@@ -38,39 +37,12 @@ fn with_grounds(hash: u64, cells: &[Cell]) -> u64
     so_far
 }
 
-// The code of a node's kind, and the number that stands in the node, or 0.
-fn kind_and_number(node: &Node<Global>) -> (u8, u64)
-    ensures kind { result.0 ≡ kind_code (plain node.now) }
-    ensures number { result.1 ≡ unwrap_or (number_of (plain node.now)) 0 }
-{
-    match node {
-        Node::Seq(_) => (0, 0),
-        Node::Fallback(_) => (1, 0),
-        Node::SeqStar(_) => (2, 0),
-        Node::FallbackStar(_) => (3, 0),
-        Node::Par(number, _) => (4, *number),
-        Node::Not(_) => (5, 0),
-        Node::Tries(number, _) => (6, *number),
-        Node::Ticks(number, _) => (7, *number),
-        Node::Wait(number) => (8, *number),
-        Node::Move(place) => (9, u64::from(place.number())),
-        Node::Take => (10, 0),
-        Node::Drop => (11, 0),
-        Node::At(place) => (12, u64::from(place.number())),
-        Node::Carrying => (13, 0),
-        Node::Item => (14, 0),
-        Node::Signal(signal) => (15, u64::from(signal.number())),
-        Node::Near(number) => (16, *number),
-        Node::Give(letter) => (17, u64::from(letter.number())),
-    }
-}
-
 // With a node alone.
 fn with_node(hash: u64, node: &Node<Global>, children: u64) -> u64
     ensures { result ≡ fnv_all hash (node_bytes (plain node.now) children) }
 {
-    let (kind, number) = kind_and_number(node);
-    let own = with_two(with_byte(hash, kind), number);
+    let number = node.number().unwrap_or(0);
+    let own = with_two(with_byte(hash, node.code()), number);
     with_byte(own, (children % 256) as u8)
 }
 
