@@ -1,6 +1,7 @@
 -- A tree is settled by its root's kind, the number that stands in it, and what stands below it.
 use Rattle.std.proofs.Common.{◌≡◌, ◌≢◌, map, take, ℕ, zero, suc, ◌+◌, ◌<◌, ◌≤◌, List, [], ◌∷◌, length, get_or, Option, Some, None, refl, sym, ap, ◌∙◌, arith, unwrap_or}
-use Rattle.bt_nodes.specs.Plain.{Seq, Fallback, Carrying, Plain, Composite, Star, Par, Not, Tries, Ticks, Wait, Move, Does, Forest, none, forest_of, plain, plains}
+use Rattle.bt_nodes.specs.declared.leaf.Leaf.TheVariants.{Carrying}
+use Rattle.bt_nodes.specs.Plain.{Seq, Fallback, Plain, Composite, Star, Par, Not, Tries, Ticks, Wait, Move, Does, Forest, none, forest_of, plain, plains}
 use Rattle.std.proofs.lemmas.List.{take_more, take_all}
 use Rattle.bt_nodes.specs.Sizes.{size, sizes, count}
 use Rattle.bt_nodes.specs.Heads.{kind_of, number_of, listed, decorated}

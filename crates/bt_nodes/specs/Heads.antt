@@ -1,6 +1,8 @@
 -- The root of a tree: its kind, the number that stands in it, and what stands below it. They say which tree it is.
 use Rattle.std.specs.Prelude.{ℕ, ◌==◌, if◌then◌else◌, Bool, true, false, Option, Some, None}
-use Rattle.bt_nodes.specs.Plain.{Seq, Fallback, Leaf, Take, Drop, At, Carrying, Item, Signal, Near, Give, Plain, Composite, Star, Par, Not, Tries, Ticks, Wait, Move, Does, Forest, none}
+use Rattle.bt_nodes.specs.declared.leaf.Leaf.{Leaf}
+use Rattle.bt_nodes.specs.declared.leaf.Leaf.TheVariants.{Take, Drop, At, Carrying, Item, Signal, Near, Give}
+use Rattle.bt_nodes.specs.Plain.{Seq, Fallback, Plain, Composite, Star, Par, Not, Tries, Ticks, Wait, Move, Does, Forest, none}
 use Rattle.bt_nodes.specs.declared.head.NodeKind.{NodeKind}
 use Rattle.bt_nodes.specs.declared.head.NodeKind.TheVariants as kind
 

@@ -1,6 +1,7 @@
 -- The limits of a tree, and the first one that a tree breaks.
 use Rattle.std.specs.Prelude.{ℕ, Bool, true, false, ◌&&◌, nat_le, nat_lt, if◌then◌else◌, Option, Some, None}
-use Rattle.bt_nodes.specs.Plain.{Plain, Composite, Star, Par, Not, Tries, Ticks, Wait, Does, Near, Forest, none, tree}
+use Rattle.bt_nodes.specs.declared.leaf.Leaf.TheVariants.{Near}
+use Rattle.bt_nodes.specs.Plain.{Plain, Composite, Star, Par, Not, Tries, Ticks, Wait, Does, Forest, none, tree}
 use Rattle.bt_nodes.specs.Sizes.{size, depth, count}
 use Rattle.bt_nodes.specs.declared.fault.TreeFault.{TreeFault}
 use Rattle.bt_nodes.specs.declared.fault.TreeFault.TheVariants.{TooManyNodes, TooDeep, NoChild, Threshold, Count}

@@ -6,7 +6,9 @@ use Rattle.grid_world.specs.declared.cell.Answer.TheVariants.{Here, NoWay, Step}
 use Rattle.grid_world.specs.declared.cell.Intent.TheVariants as intent
 use Rattle.bt_nodes.specs.declared.node.Status.{Status}
 use Rattle.bt_nodes.specs.declared.node.Status.TheVariants.{Success, Failure, Running}
-use Rattle.bt_nodes.specs.Plain.{Kind, Seq, Fallback, Leaf, Take, Drop, At, Carrying, Item, Signal, Near, Give, Plain, Composite, Star, Par, Not, Tries, Ticks, Wait, Move, Does, Forest, none, tree}
+use Rattle.bt_nodes.specs.declared.leaf.Leaf.{Leaf}
+use Rattle.bt_nodes.specs.declared.leaf.Leaf.TheVariants.{Take, Drop, At, Carrying, Item, Signal, Near, Give}
+use Rattle.bt_nodes.specs.Plain.{Kind, Seq, Fallback, Plain, Composite, Star, Par, Not, Tries, Ticks, Wait, Move, Does, Forest, none, tree}
 use Rattle.bt_nodes.specs.Sizes.{size, count}
 use Rattle.game_rules.specs.View.{View, carries, is_on_item, stands_on, has_signal, is_near, can_give}
 use Rattle.game_rules.specs.Tick.{Reply, Gives, Stands, State, Result, gives, on, on_reply, number_of, put, want, follow, ask, test, does, stops, on_kind, tick, tick_line, tick_star, tick_all}

@@ -8,7 +8,9 @@ use Rattle.bt_nodes.specs.declared.node.Node.{the_lemmas}
 use Rattle.bt_nodes.specs.declared.node.Node as node
 use Rattle.bt_nodes.specs.declared.node.Status.{Status}
 use Rattle.bt_nodes.specs.declared.node.Status.TheVariants.{Success, Failure, Running}
-use Rattle.bt_nodes.specs.Plain.{Plain, Kind, Leaf, Composite, Not, Tries, Ticks, Wait, Does, Forest, Take, Drop, At, Carrying, Item, Signal, Near, Give, plain}
+use Rattle.bt_nodes.specs.declared.leaf.Leaf.{Leaf}
+use Rattle.bt_nodes.specs.declared.leaf.Leaf.TheVariants.{Take, Drop, At, Carrying, Item, Signal, Near, Give}
+use Rattle.bt_nodes.specs.Plain.{Plain, Kind, Composite, Not, Tries, Ticks, Wait, Does, Forest, plain}
 use Rattle.bt_nodes.specs.Sizes.{size}
 use Rattle.game_rules.specs.View.{View, carries, is_on_item, can_give}
 use Rattle.game_rules.specs.Tick.{State, gives, put, want, number_of, test, does, tick}

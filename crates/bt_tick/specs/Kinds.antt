@@ -1,6 +1,7 @@
 -- Kinds of nodes.
 use Rattle.std.specs.Prelude.{◌≡◌, Bool, true, false}
-use Rattle.bt_nodes.specs.Plain.{Plain, Kind, Composite, Star, Par, Move, Does, At, Carrying, Item, Signal, Near, Forest}
+use Rattle.bt_nodes.specs.declared.leaf.Leaf.TheVariants.{At, Carrying, Item, Signal, Near}
+use Rattle.bt_nodes.specs.Plain.{Plain, Kind, Composite, Star, Par, Move, Does, Forest}
 
 abbrev pub HasList : Plain → Type 0
 HasList (Composite kind cs) = Unit {0}

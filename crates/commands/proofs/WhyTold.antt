@@ -2,7 +2,8 @@
 use Rattle.std.proofs.Common.{◌≡◌, ◌∙◌, ◌<◌, ◌≤◌, ◌+◌, ◌-◌, ◌++◌, ℕ, zero, suc, List, [], Bool, Option, None, Some, sym, ap, subst, length, arith, codes, decimal, append-nil, append_assoc}
 use Rattle.std.specs.Prelude.{IsSomeAnd, slice_index_or}
 use Rattle.grid_world.specs.Grid.{agent_of}
-use Rattle.bt_nodes.specs.Plain.{Plain, Does, Carrying}
+use Rattle.bt_nodes.specs.declared.leaf.Leaf.TheVariants.{Carrying}
+use Rattle.bt_nodes.specs.Plain.{Plain, Does}
 use Rattle.bt_nodes.specs.declared.node.Status.{Status}
 use Rattle.bt_nodes.specs.declared.node.Status.TheVariants.{Success}
 use Rattle.game_rules.specs.Game.{Game, signals}

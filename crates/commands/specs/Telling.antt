@@ -2,7 +2,8 @@
 use Rattle.std.specs.Prelude.{ℕ, ◌++◌, List, [], codes, decimal, slice_index_or}
 use Rattle.grid_world.specs.Grid.{agent_of}
 use Rattle.bt_nodes.specs.declared.node.Status.TheVariants.{Success}
-use Rattle.bt_nodes.specs.Plain.{Does, Carrying}
+use Rattle.bt_nodes.specs.declared.leaf.Leaf.TheVariants.{Carrying}
+use Rattle.bt_nodes.specs.Plain.{Does}
 use Rattle.game_rules.specs.Text.{agent_text}
 use Rattle.stepping.specs.Played.{Played, answers_under, scripted_signals, sight}
 use Rattle.commands.specs.Why.{Tick, node_lines}

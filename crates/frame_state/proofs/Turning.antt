@@ -8,7 +8,8 @@ use Rattle.grid_world.specs.declared.cell.Intent.{Intent}
 use Rattle.bt_nodes.specs.declared.node.Status.{Status}
 use Rattle.grid_world.specs.Map.{count_up}
 use Rattle.grid_world.proofs.CountUp.{get_or-map-count_up, length-map-count_up}
-use Rattle.bt_nodes.specs.Plain.{Plain, Does, Carrying}
+use Rattle.bt_nodes.specs.declared.leaf.Leaf.TheVariants.{Carrying}
+use Rattle.bt_nodes.specs.Plain.{Plain, Does}
 use Rattle.bt_nodes.specs.Bounds.{Fits, zero_memory}
 use Rattle.game_rules.specs.Game.{Game, signals}
 use Rattle.game_rules.specs.Thought.{Thought, thought}

@@ -1,6 +1,7 @@
 -- What a level stands for.
 use Rattle.std.specs.Prelude.{ℕ, List, map, find, option_map, unwrap_or}
-use Rattle.bt_nodes.specs.Plain.{Plain, Does, Carrying}
+use Rattle.bt_nodes.specs.declared.leaf.Leaf.TheVariants.{Carrying}
+use Rattle.bt_nodes.specs.Plain.{Plain, Does}
 use Rattle.game_session.specs.Parts.{Parts, NamedPlain}
 use Rattle.game_session.specs.Faults.{is_named}
 use Rattle.game_session.specs.Kept.{kept}

@@ -3,7 +3,9 @@ use Rattle.std.specs.Prelude.{◌≡◌, ℕ, ◌+◌, ◌-◌, ◌==◌, unwrap
 use Rattle.std.proofs.Common.{ap, ◌∙◌}
 use Rattle.std.specs.Coded.{Coded, code_by, coded×, coded_ℕ, coded_list}
 use Rattle.bt_nodes.specs.Heads.{leaf_code, leaf_number, leaf_by}
-use Rattle.bt_nodes.specs.Plain.{Kind, Seq, Fallback, Leaf, Take, Carrying, Plain, Composite, Star, Par, Not, Tries, Ticks, Wait, Move, Does, Forest, none, tree}
+use Rattle.bt_nodes.specs.declared.leaf.Leaf.{Leaf}
+use Rattle.bt_nodes.specs.declared.leaf.Leaf.TheVariants.{Take, Carrying}
+use Rattle.bt_nodes.specs.Plain.{Kind, Seq, Fallback, Plain, Composite, Star, Par, Not, Tries, Ticks, Wait, Move, Does, Forest, none, tree}
 
 abbrev Token : Type 0
 Token = ℕ × ℕ

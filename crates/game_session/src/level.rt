@@ -1,6 +1,7 @@
 ghost use Rattle.std.specs.Prelude.{◌≡◌, ◌<◌, None, IsTrue, length, map, slice_index_or};
 ghost use Rattle.std.specs.List.{list_all};
-ghost use Rattle.bt_nodes.specs.Plain.{Does, Carrying};
+ghost use Rattle.bt_nodes.specs.declared.leaf.Leaf.TheVariants.{Carrying};
+ghost use Rattle.bt_nodes.specs.Plain.{Does};
 ghost use Rattle.bt_nodes.specs.Trees.{plain_of};
 ghost use Rattle.game_session.specs.Faults.{parts_fault, world_of};
 ghost use Rattle.game_session.specs.Kept.{kept, index_of, texts_view, trees_view};

@@ -1,6 +1,7 @@
 ghost use Rattle.std.specs.Prelude.{◌≡◌, ◌≢◌, ◌<◌, true, false, IsTrue, length, slice_index_or};
 ghost use Rattle.std.specs.List.{list_all};
-ghost use Rattle.bt_nodes.specs.Plain.{Does, Carrying};
+ghost use Rattle.bt_nodes.specs.declared.leaf.Leaf.TheVariants.{Carrying};
+ghost use Rattle.bt_nodes.specs.Plain.{Does};
 ghost use Rattle.bt_nodes.specs.Trees.{plain_of};
 ghost use Rattle.game_session.specs.Places.{places, has_place};
 ghost use Rattle.game_session.specs.Agents.{agents, has_agent};

@@ -1,6 +1,7 @@
 -- Nodes that take no node, as plain trees.
 use Rattle.std.proofs.Common.{◌≡◌, ℕ, Global, rules}
-use Rattle.bt_nodes.specs.Plain.{Wait, Move, Does, Take, Drop, At, Carrying, Item, Signal, Near, Give, plain}
+use Rattle.bt_nodes.specs.declared.leaf.Leaf.TheVariants.{Take, Drop, At, Carrying, Item, Signal, Near, Give}
+use Rattle.bt_nodes.specs.Plain.{Wait, Move, Does, plain}
 use Rattle.bt_nodes.specs.declared.node.Node.{the_lemmas}
 use Rattle.bt_nodes.specs.declared.node.Node as node
 

@@ -3,7 +3,9 @@ use Rattle.std.proofs.Common.{◌≡◌, ℕ, ◌+◌, ◌-◌, ◌<◌, ◌≤�
 use Rattle.std.proofs.lemmas.Bool.{ltb-true, le-leb}
 use Rattle.serde_json.specs.Data.{depth as nesting, items_depth}
 use Rattle.serde_json.specs.Written.{has_float, items_have_float}
-use Rattle.bt_nodes.specs.Plain.{Plain, Composite, Star, Par, Not, Tries, Ticks, Wait, Move, Does, Seq, Fallback, Leaf, Take, At, Signal, Give, Forest, none, tree}
+use Rattle.bt_nodes.specs.declared.leaf.Leaf.{Leaf}
+use Rattle.bt_nodes.specs.declared.leaf.Leaf.TheVariants.{Take, At, Signal, Give}
+use Rattle.bt_nodes.specs.Plain.{Plain, Composite, Star, Par, Not, Tries, Ticks, Wait, Move, Does, Seq, Fallback, Forest, none, tree}
 use Rattle.bt_nodes.specs.Sizes.{depth, deepest}
 use Rattle.level_text.specs.Nodes.{mark_of, node_of, forest_in}
 use Rattle.level_text.specs.Marks.{has_marks, all_have_marks, leaf_has_marks}

@@ -1,6 +1,8 @@
 -- Trees whose places are digits and whose signals and agents are letters, as those of nodes are.
 use Rattle.std.specs.Prelude.{nat_lt, Bool, true, ◌&&◌}
-use Rattle.bt_nodes.specs.Plain.{Plain, Composite, Star, Par, Not, Tries, Ticks, Wait, Move, Does, Leaf, At, Signal, Give, Forest, none, tree}
+use Rattle.bt_nodes.specs.declared.leaf.Leaf.{Leaf}
+use Rattle.bt_nodes.specs.declared.leaf.Leaf.TheVariants.{At, Signal, Give}
+use Rattle.bt_nodes.specs.Plain.{Plain, Composite, Star, Par, Not, Tries, Ticks, Wait, Move, Does, Forest, none, tree}
 
 abbrev pub leaf_has_marks : Leaf → Bool
 leaf_has_marks (At p) = nat_lt p 10

@@ -2,7 +2,9 @@
 use Rattle.std.specs.Prelude.{ℕ, ◌+◌, List, [], ◌∷◌, codes, Option, Some, None}
 use Rattle.serde_json.specs.Data.{Data, number, unsigned, string, array, object, Items, no_items, item, Members, no_members, member}
 use Rattle.serde_json.specs.Written.{compact_text}
-use Rattle.bt_nodes.specs.Plain.{Plain, Composite, Star, Par, Not, Tries, Ticks, Wait, Move, Does, Kind, Seq, Fallback, Leaf, Take, Drop, At, Carrying, Item, Signal, Near, Give, Forest, none, tree}
+use Rattle.bt_nodes.specs.declared.leaf.Leaf.{Leaf}
+use Rattle.bt_nodes.specs.declared.leaf.Leaf.TheVariants.{Take, Drop, At, Carrying, Item, Signal, Near, Give}
+use Rattle.bt_nodes.specs.Plain.{Plain, Composite, Star, Par, Not, Tries, Ticks, Wait, Move, Does, Kind, Seq, Fallback, Forest, none, tree}
 use Rattle.game_session.specs.Parts.{Parts, NamedPlain}
 
 -- ---- nodes

@@ -5,7 +5,9 @@ use Rattle.grid_world.specs.declared.cell.Intent.{Intent}
 use Rattle.grid_world.specs.declared.cell.Intent.TheVariants as intent
 use Rattle.bt_nodes.specs.declared.node.Status.{Status}
 use Rattle.bt_nodes.specs.declared.node.Status.TheVariants.{Success, Failure, Running}
-use Rattle.bt_nodes.specs.Plain.{Plain, Does, Move, plain, Leaf, Take, Drop, At, Carrying, Item, Signal, Near, Give}
+use Rattle.bt_nodes.specs.declared.leaf.Leaf.{Leaf}
+use Rattle.bt_nodes.specs.declared.leaf.Leaf.TheVariants.{Take, Drop, At, Carrying, Item, Signal, Near, Give}
+use Rattle.bt_nodes.specs.Plain.{Plain, Does, Move, plain}
 use Rattle.bt_nodes.specs.declared.node.Node.{Node, the_lemmas}
 use Rattle.bt_nodes.specs.declared.node.Node as node
 use Rattle.game_rules.specs.View.{View, carries, is_on_item, stands_on, has_signal, is_near, can_give}

@@ -5,7 +5,8 @@ use Rattle.std.specs.Option.{option_or}
 use Rattle.std.proofs.lemmas.List.{length-map, get_or-map}
 use Rattle.grid_world.specs.Grid.{Grid}
 use Rattle.grid_world.specs.World.{IsWorld}
-use Rattle.bt_nodes.specs.Plain.{Plain, Does, Carrying}
+use Rattle.bt_nodes.specs.declared.leaf.Leaf.TheVariants.{Carrying}
+use Rattle.bt_nodes.specs.Plain.{Plain, Does}
 use Rattle.bt_nodes.specs.Limits.{tree_fault}
 use Rattle.bt_nodes.specs.declared.node.Status.{Status}
 use Rattle.game_rules.specs.declared.change.Change.{Change}

@@ -6,7 +6,8 @@ use Rattle.std.proofs.lemmas.List.{length-map, get_or-map, get_or_default}
 use Rattle.grid_world.specs.declared.cell.Agent.{Agent}
 use Rattle.grid_world.specs.Grid.{Grid}
 use Rattle.grid_world.specs.Ground.{emptied, furnished}
-use Rattle.bt_nodes.specs.Plain.{Plain, Does, Carrying}
+use Rattle.bt_nodes.specs.declared.leaf.Leaf.TheVariants.{Carrying}
+use Rattle.bt_nodes.specs.Plain.{Plain, Does}
 use Rattle.bt_nodes.specs.Bounds.{Fits, bounds}
 use Rattle.bt_nodes.specs.Limits.{tree_fault}
 use Rattle.bt_nodes.specs.Sizes.{size}

@@ -1,5 +1,6 @@
 ghost use Rattle.std.specs.Prelude.{◌≡◌, ℕ, true, IfOk};
-ghost use Rattle.bt_nodes.specs.Plain.{Leaf, Does, plain};
+ghost use Rattle.bt_nodes.specs.declared.leaf.Leaf.{Leaf};
+ghost use Rattle.bt_nodes.specs.Plain.{Does, plain};
 ghost use Rattle.bt_tick.specs.Views.{view_of, IsInWorld};
 ghost use Rattle.game_rules.specs.Tick.{State, gives, tick};
 ghost use Rattle.stepping.specs.Observing.{wanting};

@@ -1,6 +1,7 @@
 // A tick once more, node by node, that writes down what each node answers.
 ghost use Rattle.std.specs.Prelude.{◌≡◌, ◌+◌, ◌≤◌, ◌<◌, ◌^◌, ℕ, [], None, IfOk, IfSome};
-ghost use Rattle.bt_nodes.specs.Plain.{Leaf, Does, Move, Wait, none, plain, plains};
+ghost use Rattle.bt_nodes.specs.declared.leaf.Leaf.{Leaf};
+ghost use Rattle.bt_nodes.specs.Plain.{Does, Move, Wait, none, plain, plains};
 ghost use Rattle.bt_nodes.specs.Sizes.{size};
 ghost use Rattle.bt_nodes.specs.Trees.{plain_of};
 ghost use Rattle.bt_tick.specs.Views.{view_of, IsInWorld};

@@ -1,5 +1,6 @@
 use Rattle.std.proofs.Common.{sym, ap, ◌∙◌}
-use Rattle.bt_nodes.specs.Plain.{At, Carrying, Item, Signal, Near, plain}
+use Rattle.bt_nodes.specs.declared.leaf.Leaf.TheVariants.{At, Carrying, Item, Signal, Near}
+use Rattle.bt_nodes.specs.Plain.{plain}
 use Rattle.game_rules.specs.Tick.{test}
 use Rattle.bt_tick.specs.Views.{view_of}
 use Rattle.bt_tick.proofs.Beginning.{plain-At, plain-Carrying, plain-Item, plain-Signal, plain-Near, tests_as}

@@ -1,5 +1,6 @@
 use Rattle.std.proofs.Common.{take, List, ◌≡◌, ℕ, map, ◌∙◌, ap, sym, subst, arith, ◌<◌, ◌+◌, length, length-append, [], ◌∷◌}
-use Rattle.bt_nodes.specs.Plain.{Plain, Does, Carrying}
+use Rattle.bt_nodes.specs.declared.leaf.Leaf.TheVariants.{Carrying}
+use Rattle.bt_nodes.specs.Plain.{Plain, Does}
 use Rattle.bt_nodes.specs.Bounds.{Fits, zero_memory}
 use Rattle.bt_nodes.specs.Trees.{plain_of}
 use Rattle.std.proofs.lemmas.List.{get_or_default}

@@ -1,6 +1,7 @@
 use Rattle.std.proofs.Common.{◌≡◌, ◌<◌, ◌≤◌, ◌∙◌, List, length, get_or, ap, sym, arith}
 use Rattle.std.specs.List.{flat_map}
-use Rattle.bt_nodes.specs.Plain.{Plain, Does, Carrying, plain}
+use Rattle.bt_nodes.specs.declared.leaf.Leaf.TheVariants.{Carrying}
+use Rattle.bt_nodes.specs.Plain.{Plain, Does, plain}
 use Rattle.game_session.specs.Levels.{value_of, agent_trees}
 use Rattle.stepping.specs.Digest.{fnv_all}
 use Rattle.stepping.specs.LevelDigest.{tree_bytes}

@@ -2,7 +2,8 @@ use Rattle.std.proofs.Common.{◌≡◌, ◌∙◌, ◌<◌, ◌≤◌, ℕ, Lis
 use Rattle.std.proofs.lemmas.Grind.{common_steps}
 use Rattle.std.proofs.lemmas.List.{length-map, get_or-map}
 use Rattle.std.proofs.lemmas.Result.{err_from_is_err_and}
-use Rattle.bt_nodes.specs.Plain.{Plain, Does, Carrying}
+use Rattle.bt_nodes.specs.declared.leaf.Leaf.TheVariants.{Carrying}
+use Rattle.bt_nodes.specs.Plain.{Plain, Does}
 use Rattle.bt_nodes.specs.Sizes.{size}
 use Rattle.game_session.specs.Levels.{value_of, agent_trees}
 use Rattle.stepping.specs.StateReading.{CrewTold, no_crew, crew_from}

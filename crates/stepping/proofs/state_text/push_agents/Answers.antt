@@ -3,7 +3,8 @@ use Rattle.std.specs.Prelude.{Option, slice_get}
 use Rattle.std.proofs.lemmas.Grind.{common_steps}
 use Rattle.grid_world.specs.declared.cell.Agent.{Agent}
 use Rattle.grid_world.specs.Grid.{Grid, agent_of}
-use Rattle.bt_nodes.specs.Plain.{Plain, Does, Carrying}
+use Rattle.bt_nodes.specs.declared.leaf.Leaf.TheVariants.{Carrying}
+use Rattle.bt_nodes.specs.Plain.{Plain, Does}
 use Rattle.bt_nodes.specs.Trees.{plain_of}
 use Rattle.bt_nodes.specs.declared.node.Status.{Status}
 use Rattle.game_rules.specs.Play.{Position}

@@ -2,7 +2,8 @@ use Rattle.std.proofs.Common.{◌+◌, ◌*◌, ◌<◌, ap, sym, ◌∙◌, sub
 use Rattle.std.proofs.lemmas.List.{length-map}
 use Rattle.grid_world.specs.declared.cell.Intent.TheVariants as intent
 use Rattle.bt_nodes.specs.declared.node.Status.TheVariants.{Failure}
-use Rattle.bt_nodes.specs.Plain.{Seq, Fallback, Star, Wait, Does, Give, none, tree, plain, plains}
+use Rattle.bt_nodes.specs.declared.leaf.Leaf.TheVariants.{Give}
+use Rattle.bt_nodes.specs.Plain.{Seq, Fallback, Star, Wait, Does, none, tree, plain, plains}
 use Rattle.bt_nodes.specs.Sizes.{size}
 use Rattle.bt_nodes.proofs.Views.{plain-Seq, plain-Fallback, plain-SeqStar, plain-FallbackStar, plain-Not, plain-Tries, plain-Ticks}
 use Rattle.game_rules.specs.Tick.{gives}
