@@ -28,11 +28,12 @@ module _ {L : Type 0} {p : run_ledger.Ghosts L} {l : ledger.Ghosts L} where
   counts_in Nothing = 0
   counts_in Over = 0
 
-  -- a worker is given a task, beside whether another one can be taken; or nothing, where no task can be taken now, or never more
-  abbrev pub IsGiven : Played → ℕ → Given L p l → Type 0
-  IsGiven old w (Task task is_more) = (new : Played) × IsTaken old new w (Some task.task) × (IsTrue is_more ↔ GivesJob new)
-  IsGiven old w Nothing = IsTaken old old w None × (IsDone old → ⊥)
-  IsGiven old w Over = IsDone old ⊎ ((state_in old).stopped ≡ true)
+  -- a worker is given a task, beside whether it asked for that and another one can be taken; or nothing, where no task can be
+  -- taken now, or never more
+  abbrev pub IsGiven : Played → ℕ → Bool → Given L p l → Type 0
+  IsGiven old w asks (Task task is_more) = (new : Played) × IsTaken old new w (Some task.task) × (IsTrue is_more ↔ IsTrue asks × GivesJob new)
+  IsGiven old w asks Nothing = IsTaken old old w None × (IsDone old → ⊥)
+  IsGiven old w asks Over = IsDone old ⊎ ((state_in old).stopped ≡ true)
 
 -- a worker's step is handed in, beside whether that ended a Draw and a frame can be shown now
 abbrev pub HandsIn : Played → ℕ → BoardStep → Bool → Type 0

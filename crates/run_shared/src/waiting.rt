@@ -2,15 +2,16 @@
 //!
 //! | Who waits | For | Who calls it |
 //! |---|---|---|
-//! | an idle worker | a job that it can take | who took a job, or showed a frame, and sees another job that can be taken, unless enough are awake |
+//! | an idle worker | a job that it can take | who took a job, or showed a frame, and sees another job that can be taken; nobody looks for one while enough are awake |
 //! | a worker that rests | that more are to be awake (`Trials`), or that no frame is shown | the same, where no worker is idle; else it looks whether frames are shown, every few milliseconds |
 //! | a worker whose queue of the mail is full | room in the mail | the printer, when it took bands; then who found room |
 //! | the printer | a frame that is all drawn | who finished a Draw and sees that a frame can be shown; who found no room |
 //!
 //! Nobody sleeps for ever. Who waits has looked for what it waits for, and who makes that possible calls behind it; a call that
 //! comes between the look and the sleep is kept, so the sleep ends at once. A job that can be taken is seen by the worker that
-//! made it possible, since it takes the next job itself and then looks whether there is another. Whoever rests counts itself out
-//! first and then finds others awake, so one at least stays, and looks once more before it sleeps. Where that one is held up, no
+//! made it possible, since it takes the next job itself and looks whether there is another. Where it doesn't look, enough were
+//! awake behind the event that made it possible, and whoever waits since then found it. Whoever rests counts itself out first
+//! and then finds others awake, so one at least stays, and looks once more before it sleeps. Where that one is held up, no
 //! frame is shown, and those that rest take its jobs. Who fails stops the board and calls all, and the printer calls all workers
 //! behind the last frame. Besides each sleep ends by itself after a second at most.
 use crate::parking::Parking;
@@ -100,8 +101,8 @@ impl Waiting {
         self.workers_count.saturating_sub(waiting)
     }
 
-    // Whether as many workers are awake as are to be.
-    fn are_enough(&self) -> bool {
+    /// Whether as many workers are awake as are to be.
+    pub fn are_enough(&self) -> bool {
         self.wanted.load(Ordering::SeqCst) <= self.awake()
     }
 

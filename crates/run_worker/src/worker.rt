@@ -48,7 +48,7 @@ struct Worker<'h, 't, L: RunLedger, M: Ledger, D: Ledger, G: Gate, R: Wait> {
 }
 
 impl<'h, 't, L: RunLedger, M: Ledger, D: Ledger, G: Gate, R: Wait> Worker<'h, 't, L, M, D, G, R> {
-    // Looks for a task once.
+    // Looks for a task once, and for another one where that would wake a worker.
     #[inline(always)]
     fn look(&self, lease: &mut Lease<'t>, share: &mut Share<L>) -> Result<Given<'t, L>, Cause>
         requires lease { IsLeaseOf self.now.session.now lease.old }
@@ -56,7 +56,10 @@ impl<'h, 't, L: RunLedger, M: Ledger, D: Ledger, G: Gate, R: Wait> Worker<'h, 't
         ensures lease { IsLeaseOf self.now.session.now lease.new }
         ensures part { share.new.parts ≡ share.old.parts }
     {
-        match self.shared.lock(self.rt).take(self.number, lease, share) {
+        // Who is awake stands in other cache lines, so that is read with the lock free.
+        let asks = !self.shared.waiting.are_enough();
+        let hold = self.shared.lock(self.rt);
+        match hold.take(self.number, asks, lease, share) {
             Ok(given) => Ok(given),
             Err(fault) => Err(cause_of(fault)),
         }
