@@ -16,9 +16,9 @@ use Rattle.game_rules.specs.Game.{Game, signals}
 use Rattle.game_rules.specs.Play.{play}
 use Rattle.game_rules.specs.Text.{agent_text, status_letter}
 use Rattle.game_rules.specs.View.{View, cell_of}
+use Rattle.level_text.specs.Arguments.{mark_of}
 use Rattle.level_text.specs.Begun.{head, own}
 use Rattle.level_text.specs.Games.{spelled_game}
-use Rattle.level_text.specs.Nodes.{mark_of}
 use Rattle.stepping.specs.Answered.{node_answers}
 use Rattle.stepping.specs.Played.{sight, statuses_at}
 use Rattle.words.specs.declared.program_fault.Fault.{Fault}

@@ -5,7 +5,8 @@ use Rattle.serde_json.specs.declared.value.Value.{Value}
 use Rattle.bt_nodes.specs.Plain.{Par, Tries, Ticks}
 use Rattle.level_text.specs.Inner.{form_in, inner_in}
 use Rattle.level_text.specs.declared.inner.Inner.{Inner}
-use Rattle.level_text.specs.Nodes.{count_in, first, forest_in, child_in}
+use Rattle.level_text.specs.Arguments.{count_in, first}
+use Rattle.level_text.specs.Nodes.{forest_in, child_in}
 
 paired : {B C : Type 0} → (f : ℕ → B → C) (n : ℕ) (o : Option B) → option_map (λ (p : ℕ × B). f p.0 p.1) (option_map (λ b. (n, b)) o) ≡ option_map (f n) o
 paired f n None = refl

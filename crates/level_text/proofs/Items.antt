@@ -4,8 +4,8 @@ use Rattle.std.proofs.lemmas.List.{drop_more}
 use Rattle.serde_json.specs.View.{view, items_view}
 use Rattle.serde_json.specs.Data.{item, no_items}
 use Rattle.serde_json.specs.declared.value.Value.{Value}
-use Rattle.bt_nodes.specs.Plain.{Plain}
-use Rattle.level_text.specs.Nodes.{only, if_empty, child_in}
+use Rattle.level_text.specs.Arguments.{only, if_empty}
+use Rattle.level_text.specs.Nodes.{child_in}
 
 pub only-two : (vs : List Value) → 2 ≤ length vs → only (items_view vs) ≡ None
 only-two [] h = absurd (omega arith)
@@ -17,9 +17,9 @@ child_in-two [] h = absurd (omega arith)
 child_in-two (v ∷ []) h = absurd (omega arith)
 child_in-two (v ∷ w ∷ vs) h = refl
 
-pub if_empty-one : (vs : List Value) (p : Plain) → 1 ≤ length vs → if_empty (items_view vs) p ≡ None
-if_empty-one [] p h = absurd (omega arith)
-if_empty-one (v ∷ vs) p h = refl
+pub if_empty-one : {A : Type 0} → (vs : List Value) (a : A) → 1 ≤ length vs → if_empty (items_view vs) a ≡ None
+if_empty-one [] a h = absurd (omega arith)
+if_empty-one (v ∷ vs) a h = refl
 
 pub items_view-drop : (xs : List Value) (i : ℕ) (d : Value) → i < length xs
     → items_view (drop i xs) ≡ item (view (get_or xs i d)) (items_view (drop (i + 1) xs))

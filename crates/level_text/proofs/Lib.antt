@@ -5,7 +5,6 @@ pub mod ReadLines
 pub mod Items
 pub mod NodesBefore
 pub mod NamedBelow
-pub mod LeavesRead
 pub mod NodesRead
 pub mod InnerRead
 pub mod TreesRead
@@ -21,7 +20,6 @@ pub mod Drafted
 pub mod ItemsBefore
 pub mod WrittenSteps
 pub mod NodesWritten
-pub mod NodesOwn
 pub mod NodesSpelled
 pub mod LevelsSpelled
 pub mod TreesWritten

@@ -4,10 +4,11 @@ use Rattle.std.proofs.lemmas.Bool.{ltb-true, le-leb}
 use Rattle.serde_json.specs.Data.{depth as nesting, items_depth}
 use Rattle.serde_json.specs.Written.{has_float, items_have_float}
 use Rattle.bt_nodes.specs.declared.leaf.Leaf.{Leaf}
-use Rattle.bt_nodes.specs.declared.leaf.Leaf.TheVariants.{Take, At, Signal, Give}
+use Rattle.bt_nodes.specs.declared.leaf.Leaf.TheVariants.{Take}
 use Rattle.bt_nodes.specs.Plain.{Plain, Composite, Star, Par, Not, Tries, Ticks, Wait, Move, Does, Seq, Fallback, Forest, none, tree}
 use Rattle.bt_nodes.specs.Sizes.{depth, deepest}
-use Rattle.level_text.specs.Nodes.{mark_of, node_of, forest_in}
+use Rattle.level_text.specs.Arguments.{mark_of}
+use Rattle.level_text.specs.Nodes.{node_of, forest_in}
 use Rattle.level_text.specs.Marks.{has_marks, all_have_marks, leaf_has_marks}
 use Rattle.level_text.specs.Written.{leaf_data, node_data, forest_data}
 
@@ -32,10 +33,8 @@ agent_is : (b : ℕ) → b < 26 → mark_of 65 90 ((65 + b) ∷ []) ≡ Some b
 agent_is b h = mark_of-is 65 90 b (omega arith)
 
 leaf_is : (leaf : Leaf) → leaf_has_marks leaf ≡ true → node_of (leaf_data leaf) ≡ Some (Does leaf)
-leaf_is (At p) h = ap (option_map (λ q. Does (At q))) (place_is p (ltb-true p 10 h))
-leaf_is (Signal a) h = ap (option_map (λ b. Does (Signal b))) (signal_is a (ltb-true a 26 h))
-leaf_is (Give b) h = ap (option_map (λ c. Does (Give c))) (agent_is b (ltb-true b 26 h))
-leaf_is _ h = refl
+leaf_is Take h = refl
+leaf_is _ h = grind (arith, place_is, signal_is, agent_is, ltb-true, h)
 
 mutual
   pub node_of-node_data : (p : Plain) → has_marks p ≡ true → node_of (node_data p) ≡ Some p

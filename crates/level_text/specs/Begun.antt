@@ -1,11 +1,14 @@
 -- What the array of a node begins with, before what lies below the node.
-use Rattle.std.specs.Prelude.{ℕ, ◌+◌, List, [], ◌∷◌, codes, nat_lt, Bool, true, Option, None}
+use Rattle.std.specs.Prelude.{ℕ, List, [], ◌∷◌, codes, Bool, true, Option, Some, None, option_map, unwrap_or}
 use Rattle.serde_json.specs.Data.{Data, Items, no_items, item}
 use Rattle.serde_json.specs.View.{view}
 use Rattle.serde_json.specs.declared.value.Value.{Value}
 use Rattle.bt_nodes.specs.Plain.{Plain, Composite, Star, Par, Not, Tries, Ticks, Wait, Move, Does}
-use Rattle.level_text.specs.Marks.{leaf_has_marks}
-use Rattle.level_text.specs.Written.{list_head, star_head, leaf_head, leaf_own, count, mark, node_data, forest_data}
+use Rattle.level_text.specs.declared.argument.Argument.{Argument}
+use Rattle.level_text.specs.declared.argument.Argument.TheVariants.{Count, Place}
+use Rattle.level_text.specs.Arguments.{argument_data, has_mark}
+use Rattle.level_text.specs.Leaves.{leaf_head, leaf_argument}
+use Rattle.level_text.specs.Written.{list_head, star_head, node_data, forest_data}
 
 -- the word that names the kind
 abbrev pub head : Plain → List ℕ
@@ -20,14 +23,18 @@ head (Move p) = codes "move"
 head (Does leaf) = leaf_head leaf
 
 -- the argument that stands in the node itself
+abbrev pub argument : Plain → Option Argument
+argument (Par m children) = Some (Count m)
+argument (Tries n child) = Some (Count n)
+argument (Ticks n child) = Some (Count n)
+argument (Wait n) = Some (Count n)
+argument (Move p) = Some (Place p)
+argument (Does leaf) = leaf_argument leaf
+argument _ = None
+
+-- its JSON value
 abbrev pub own : Plain → Option Data
-own (Par m children) = count m
-own (Tries n child) = count n
-own (Ticks n child) = count n
-own (Wait n) = count n
-own (Move p) = mark (48 + p)
-own (Does leaf) = leaf_own leaf
-own _ = None
+own p = option_map argument_data (argument p)
 
 -- the arguments that are nodes
 abbrev pub below : Plain → Items
@@ -41,9 +48,7 @@ below _ = no_items
 
 -- the place that stands in the node itself is a digit, and the signal or the agent a letter
 abbrev pub has_own_mark : Plain → Bool
-has_own_mark (Move p) = nat_lt p 10
-has_own_mark (Does leaf) = leaf_has_marks leaf
-has_own_mark _ = true
+has_own_mark p = unwrap_or (option_map has_mark (argument p)) true
 
 -- values, before items that are left
 abbrev pub items_before : List Value → Items → Items

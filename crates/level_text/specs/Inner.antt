@@ -4,7 +4,7 @@ use Rattle.serde_json.specs.Data.{Items}
 use Rattle.serde_json.specs.View.{items_view}
 use Rattle.serde_json.specs.declared.value.Value.{Value, size-Value}
 use Rattle.bt_nodes.specs.Plain.{Plain, Composite, Star, Par, Not, Tries, Ticks, Seq, Fallback, Forest}
-use Rattle.level_text.specs.Nodes.{form_of, leaf_of, forest_in, child_in, forest_behind, child_behind}
+use Rattle.level_text.specs.Nodes.{form_of, childless_of, forest_in, child_in, forest_behind, child_behind}
 use Rattle.level_text.specs.declared.inner.Lister.{Lister}
 use Rattle.level_text.specs.declared.inner.Lister.TheVariants as lister
 use Rattle.level_text.specs.declared.inner.Decorator.{Decorator}
@@ -36,7 +36,7 @@ values_of (Decorates d values) = values.now
 
 -- the node, once its values are read; that of another head takes no nodes
 abbrev pub inner_in : Option Inner → List ℕ → Items → Option Plain
-inner_in None head arguments = leaf_of head arguments
+inner_in None head arguments = childless_of head arguments
 inner_in (Some (Lists l values)) head arguments = option_map (over_forest l) (forest_in (items_view values.now))
 inner_in (Some (Decorates d values)) head arguments = option_map (over_child d) (child_in (items_view values.now))
 

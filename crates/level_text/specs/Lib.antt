@@ -1,4 +1,6 @@
 pub mod Scripts
+pub mod Arguments
+pub mod Leaves
 pub mod Nodes
 pub mod Named
 pub mod Inner

@@ -1,14 +1,12 @@
 -- Trees whose places are digits and whose signals and agents are letters, as those of nodes are.
-use Rattle.std.specs.Prelude.{nat_lt, Bool, true, ◌&&◌}
+use Rattle.std.specs.Prelude.{nat_lt, Bool, true, ◌&&◌, option_map, unwrap_or}
 use Rattle.bt_nodes.specs.declared.leaf.Leaf.{Leaf}
-use Rattle.bt_nodes.specs.declared.leaf.Leaf.TheVariants.{At, Signal, Give}
 use Rattle.bt_nodes.specs.Plain.{Plain, Composite, Star, Par, Not, Tries, Ticks, Wait, Move, Does, Forest, none, tree}
+use Rattle.level_text.specs.Arguments.{has_mark}
+use Rattle.level_text.specs.Leaves.{leaf_argument}
 
 abbrev pub leaf_has_marks : Leaf → Bool
-leaf_has_marks (At p) = nat_lt p 10
-leaf_has_marks (Signal a) = nat_lt a 26
-leaf_has_marks (Give b) = nat_lt b 26
-leaf_has_marks _ = true
+leaf_has_marks leaf = unwrap_or (option_map has_mark (leaf_argument leaf)) true
 
 abbrev mutual
   pub has_marks : Plain → Bool

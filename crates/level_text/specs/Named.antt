@@ -1,20 +1,28 @@
 -- The places and the agents that trees name, and those that stand in a node itself.
-use Rattle.std.specs.Prelude.{ℕ, Bool, List, [], ◌∷◌}
+use Rattle.std.specs.Prelude.{ℕ, Bool, List, [], ◌∷◌, Option, Some}
 use Rattle.grid_world.specs.Grid.{Grid}
-use Rattle.bt_nodes.specs.Plain.{Plain, Move, Does, Forest}
-use Rattle.game_session.specs.Places.{places, places_in, leaf_places, has_place}
-use Rattle.game_session.specs.Agents.{agents, agents_in, leaf_agents, has_agent}
+use Rattle.bt_nodes.specs.Plain.{Plain, Forest}
+use Rattle.game_session.specs.Places.{places, places_in, has_place}
+use Rattle.game_session.specs.Agents.{agents, agents_in, has_agent}
+use Rattle.level_text.specs.declared.argument.Argument.{Argument}
+use Rattle.level_text.specs.declared.argument.Argument.TheVariants as given
 use Rattle.level_text.specs.declared.named.Named.{Named}
 use Rattle.level_text.specs.declared.named.Named.TheVariants.{Places, Agents}
+use Rattle.level_text.specs.Begun.{argument}
+
+abbrev pub argument_places : Option Argument → List ℕ
+argument_places (Some (given.Place p)) = p ∷ []
+argument_places _ = []
+
+abbrev pub argument_agents : Option Argument → List ℕ
+argument_agents (Some (given.Agent b)) = b ∷ []
+argument_agents _ = []
 
 abbrev pub own_places : Plain → List ℕ
-own_places (Move p) = p ∷ []
-own_places (Does leaf) = leaf_places leaf
-own_places _ = []
+own_places p = argument_places (argument p)
 
 abbrev pub own_agents : Plain → List ℕ
-own_agents (Does leaf) = leaf_agents leaf
-own_agents _ = []
+own_agents p = argument_agents (argument p)
 
 abbrev pub own : Named → Plain → List ℕ
 own Places p = own_places p

@@ -1,66 +1,18 @@
 -- The node that a JSON value spells: an array of a head and its arguments.
-use Rattle.std.specs.Prelude.{ℕ, ◌-◌, List, [], ◌∷◌, codes, if◌then◌else◌, Option, Some, None, option_map, option_and_then}
+use Rattle.std.specs.Prelude.{ℕ, List, codes, if◌then◌else◌, Option, Some, None, option_map, option_and_then}
 use Rattle.std.specs.Str.{bytes_eq}
 use Rattle.serde_json.specs.Data.{Data, null, boolean, number, string, array, object, Items, no_items, item}
-use Rattle.serde_json.specs.Find.{as_u64, as_number, as_str}
-use Rattle.grid_world.specs.Map.{is_between}
-use Rattle.bt_nodes.specs.declared.leaf.Leaf.TheVariants.{Take, Drop, At, Carrying, Item, Signal, Near, Give}
+use Rattle.serde_json.specs.Find.{as_str}
 use Rattle.bt_nodes.specs.Plain.{Plain, Composite, Star, Par, Not, Tries, Ticks, Wait, Move, Does, Seq, Fallback, Forest, none, tree}
-
--- ---- arguments
-
-abbrev pub first : Items → Option Data
-first no_items = None
-first (item d ds) = Some d
-
--- the one item, where there is one
-abbrev pub only : Items → Option Data
-only no_items = None
-only (item d no_items) = Some d
-only (item d (item e ds)) = None
-
--- a number that `as_u64` gives
-abbrev pub count_in : Data → Option ℕ
-count_in d = option_and_then as_u64 (as_number d)
-
--- a text of one character from `low` to `high`, as its number from 0
-abbrev pub mark_of : (low high : ℕ) → List ℕ → Option ℕ
-mark_of low high [] = None
-mark_of low high (c ∷ []) = if is_between low high c then Some (c - low) else None
-mark_of low high (c ∷ d ∷ cs) = None
-
--- a text of one digit
-abbrev pub place_in : Data → Option ℕ
-place_in d = option_and_then (mark_of 48 57) (as_str d)
-
--- a text of one letter `a` to `z`
-abbrev pub signal_in : Data → Option ℕ
-signal_in d = option_and_then (mark_of 97 122) (as_str d)
-
--- a text of one letter `A` to `Z`
-abbrev pub agent_in : Data → Option ℕ
-agent_in d = option_and_then (mark_of 65 90) (as_str d)
-
-abbrev pub if_empty : Items → Plain → Option Plain
-if_empty no_items p = Some p
-if_empty (item d ds) p = None
-
--- ---- nodes
+use Rattle.level_text.specs.Arguments.{first, only, count_in, place_in}
+use Rattle.level_text.specs.Leaves.{leaf_of}
 
 -- the node of a head that takes no node
-abbrev pub leaf_of : List ℕ → Items → Option Plain
-leaf_of head arguments =
+abbrev pub childless_of : List ℕ → Items → Option Plain
+childless_of head arguments =
     if bytes_eq head (codes "wait") then option_map Wait (option_and_then count_in (only arguments))
     else (if bytes_eq head (codes "move") then option_map Move (option_and_then place_in (only arguments))
-    else (if bytes_eq head (codes "take") then if_empty arguments (Does Take)
-    else (if bytes_eq head (codes "drop") then if_empty arguments (Does Drop)
-    else (if bytes_eq head (codes "at") then option_map (λ p. Does (At p)) (option_and_then place_in (only arguments))
-    else (if bytes_eq head (codes "carrying") then if_empty arguments (Does Carrying)
-    else (if bytes_eq head (codes "item") then if_empty arguments (Does Item)
-    else (if bytes_eq head (codes "signal") then option_map (λ a. Does (Signal a)) (option_and_then signal_in (only arguments))
-    else (if bytes_eq head (codes "near") then option_map (λ n. Does (Near n)) (option_and_then count_in (only arguments))
-    else (if bytes_eq head (codes "give") then option_map (λ b. Does (Give b)) (option_and_then agent_in (only arguments))
-    else None)))))))))
+    else option_map Does (leaf_of head arguments))
 
 -- a number, and what stands behind it
 abbrev pub numbered : {B : Type 0} → Items → Option B → Option (ℕ × B)
@@ -84,7 +36,7 @@ form_of head arguments =
     else (if bytes_eq head (codes "not") then option_map Not arguments.node
     else (if bytes_eq head (codes "tries") then option_map (λ p. Tries p.0 p.1) (numbered arguments.all arguments.node_behind)
     else (if bytes_eq head (codes "ticks") then option_map (λ p. Ticks p.0 p.1) (numbered arguments.all arguments.node_behind)
-    else leaf_of head arguments.all)))))))
+    else childless_of head arguments.all)))))))
 
 abbrev mutual
   pub node_of : Data → Option Plain

@@ -1,11 +1,12 @@
 -- The JSON value of a level, and its text.
-use Rattle.std.specs.Prelude.{ℕ, ◌+◌, List, [], ◌∷◌, codes, Option, Some, None}
+use Rattle.std.specs.Prelude.{ℕ, ◌+◌, List, [], ◌∷◌, codes, Option, Some, None, option_map}
 use Rattle.serde_json.specs.Data.{Data, number, unsigned, string, array, object, Items, no_items, item, Members, no_members, member}
 use Rattle.serde_json.specs.Written.{compact_text}
 use Rattle.bt_nodes.specs.declared.leaf.Leaf.{Leaf}
-use Rattle.bt_nodes.specs.declared.leaf.Leaf.TheVariants.{Take, Drop, At, Carrying, Item, Signal, Near, Give}
 use Rattle.bt_nodes.specs.Plain.{Plain, Composite, Star, Par, Not, Tries, Ticks, Wait, Move, Does, Kind, Seq, Fallback, Forest, none, tree}
 use Rattle.game_session.specs.Parts.{Parts, NamedPlain}
+use Rattle.level_text.specs.Arguments.{mark, argument_data}
+use Rattle.level_text.specs.Leaves.{leaf_head, leaf_argument}
 
 -- ---- nodes
 
@@ -15,43 +16,13 @@ form head arguments = array (item (string head) arguments)
 abbrev pub counted : ℕ → Items → Items
 counted n items = item (number (unsigned n)) items
 
--- a text of one character
-abbrev pub marked : ℕ → Items
-marked c = item (string (c ∷ [])) no_items
-
--- a node's own argument: a number, or a text of one character
-abbrev pub count : ℕ → Option Data
-count n = Some (number (unsigned n))
-
-abbrev pub mark : ℕ → Option Data
-mark c = Some (string (c ∷ []))
-
--- it stands before the others
+-- a node's own argument stands before the others
 abbrev pub own_before : Option Data → Items → Items
 own_before None rest = rest
 own_before (Some d) rest = item d rest
 
--- the word that names a leaf
-abbrev pub leaf_head : Leaf → List ℕ
-leaf_head Take = codes "take"
-leaf_head Drop = codes "drop"
-leaf_head (At p) = codes "at"
-leaf_head Carrying = codes "carrying"
-leaf_head Item = codes "item"
-leaf_head (Signal a) = codes "signal"
-leaf_head (Near n) = codes "near"
-leaf_head (Give b) = codes "give"
-
--- its argument, if it has one
-abbrev pub leaf_own : Leaf → Option Data
-leaf_own (At p) = mark (48 + p)
-leaf_own (Signal a) = mark (97 + a)
-leaf_own (Near n) = count n
-leaf_own (Give b) = mark (65 + b)
-leaf_own _ = None
-
 abbrev pub leaf_data : Leaf → Data
-leaf_data leaf = form (leaf_head leaf) (own_before (leaf_own leaf) no_items)
+leaf_data leaf = form (leaf_head leaf) (own_before (option_map argument_data (leaf_argument leaf)) no_items)
 
 abbrev pub list_head : Kind → List ℕ
 list_head Seq = codes "seq"
@@ -70,7 +41,7 @@ abbrev mutual
   node_data (Tries n child) = form (codes "tries") (counted n (item (node_data child) no_items))
   node_data (Ticks n child) = form (codes "ticks") (counted n (item (node_data child) no_items))
   node_data (Wait n) = form (codes "wait") (counted n no_items)
-  node_data (Move p) = form (codes "move") (marked (48 + p))
+  node_data (Move p) = form (codes "move") (item (mark (48 + p)) no_items)
   node_data (Does leaf) = leaf_data leaf
 
   pub forest_data : Forest → Items

@@ -4,7 +4,7 @@ ghost use Rattle.bt_nodes.specs.Plain.{plain, plains};
 ghost use Rattle.serde_json.specs.View.{items_view};
 ghost use Rattle.level_text.specs.Inner.{form_in, inner_in, values_of, deepest};
 
-use crate::leaves::numbered;
+use crate::argument::numbered;
 use bt_nodes::Node;
 use serde_json::Value;
 use std::alloc::Global;

@@ -1,96 +1,53 @@
-// Nodes that take no node, and the arguments of nodes, as JSON values.
-ghost use Rattle.std.specs.Prelude.{◌≡◌, ◌∷◌, Some, None, MatchOption, option_map, option_and_then};
-ghost use Rattle.serde_json.specs.View.{view, items_view};
-ghost use Rattle.serde_json.specs.declared.value.Value.{Value};
-ghost use Rattle.bt_nodes.specs.Plain.{plain};
-ghost use Rattle.level_text.specs.Nodes.{leaf_of as spelled_leaf, only, count_in, place_in, signal_in, agent_in, mark_of, first, if_empty as spelled_if_empty};
+// How actions and conditions are spelled.
+ghost use Rattle.std.specs.Prelude.{◌≡◌};
+ghost use Rattle.serde_json.specs.View.{items_view};
+ghost use Rattle.level_text.specs.Leaves.{leaf_of as spelled_leaf, leaf_head, leaf_argument};
 
-use bt_nodes::Node;
-use grid_world::{Letter, Place, Signal};
+use crate::argument::{Argument, count_of, if_empty, letter_of, place_of, signal_of};
+use bt_nodes::Leaf;
 use serde_json::Value;
-use std::alloc::Global;
 
-/// The node of a head that takes no node, or none where the arguments don't fit it.
-pub(crate) fn leaf_of(head: &str, arguments: &[Value]) -> Option<Node<Global>>
-    ensures { option_map plain result ≡ spelled_leaf head.now (items_view arguments.now) }
+/// The leaf of a head, or none where the arguments don't fit it.
+pub(crate) fn leaf_of(head: &str, arguments: &[Value]) -> Option<Leaf>
+    ensures { result ≡ spelled_leaf head.now (items_view arguments.now) }
 {
     match head {
-        "wait" => Some(Node::Wait(count_of(arguments)?)),
-        "move" => Some(Node::Move(place_of(arguments)?)),
-        "take" => if_empty(arguments, Node::Take),
-        "drop" => if_empty(arguments, Node::Drop),
-        "at" => Some(Node::At(place_of(arguments)?)),
-        "carrying" => if_empty(arguments, Node::Carrying),
-        "item" => if_empty(arguments, Node::Item),
-        "signal" => Some(Node::Signal(signal_of(arguments)?)),
-        "near" => Some(Node::Near(count_of(arguments)?)),
-        "give" => Some(Node::Give(letter_of(arguments)?)),
+        "take" => if_empty(arguments, Leaf::Take),
+        "drop" => if_empty(arguments, Leaf::Drop),
+        "at" => Some(Leaf::At(place_of(arguments)?)),
+        "carrying" => if_empty(arguments, Leaf::Carrying),
+        "item" => if_empty(arguments, Leaf::Item),
+        "signal" => Some(Leaf::Signal(signal_of(arguments)?)),
+        "near" => Some(Leaf::Near(count_of(arguments)?)),
+        "give" => Some(Leaf::Give(letter_of(arguments)?)),
         _ => None,
     }
 }
 
-fn if_empty(arguments: &[Value], node: Node<Global>) -> Option<Node<Global>>
-    ensures { option_map plain result ≡ spelled_if_empty (items_view arguments.now) (plain node) }
+/// The word that names a leaf.
+pub(crate) fn head_of_leaf(leaf: Leaf) -> &'static str
+    ensures { result.now ≡ leaf_head leaf }
 {
-    match arguments {
-        [] => Some(node),
-        [_, ..] => None,
+    match leaf {
+        Leaf::Take => "take",
+        Leaf::Drop => "drop",
+        Leaf::At(_) => "at",
+        Leaf::Carrying => "carrying",
+        Leaf::Item => "item",
+        Leaf::Signal(_) => "signal",
+        Leaf::Near(_) => "near",
+        Leaf::Give(_) => "give",
     }
 }
 
-fn only_of(arguments: &[Value]) -> Option<&Value>
-    ensures { option_map (λ v. view v.now) result ≡ only (items_view arguments.now) }
+pub(crate) fn argument_of_leaf(leaf: Leaf) -> Option<Argument>
+    ensures { result ≡ leaf_argument leaf }
 {
-    match arguments {
-        [] => None,
-        [value] => Some(value),
-        [_, _, ..] => None,
-    }
-}
-
-/// A number, and what stands behind it.
-pub(crate) fn numbered(arguments: &[Value]) -> Option<(u64, &[Value])>
-    ensures { MatchOption result (option_and_then count_in (first (items_view arguments.now)) ≡ None)
-        (λ p. (v : Value) × (arguments.now ≡ v ∷ p.1.now) × (count_in (view v) ≡ Some p.0)) }
-{
-    let (first, behind) = arguments.split_first()?;
-    Some((first.as_u64()?, behind))
-}
-
-fn count_of(arguments: &[Value]) -> Option<u64>
-    ensures { result ≡ option_and_then count_in (only (items_view arguments.now)) }
-{
-    only_of(arguments)?.as_u64()
-}
-
-fn place_of(arguments: &[Value]) -> Option<Place>
-    ensures { result ≡ option_and_then place_in (only (items_view arguments.now)) }
-{
-    Place::new(mark_in(only_of(arguments)?.as_str()?, b'0', b'9')?)
-}
-
-fn signal_of(arguments: &[Value]) -> Option<Signal>
-    ensures { result ≡ option_and_then signal_in (only (items_view arguments.now)) }
-{
-    Signal::new(mark_in(only_of(arguments)?.as_str()?, b'a', b'z')?)
-}
-
-fn letter_of(arguments: &[Value]) -> Option<Letter>
-    ensures { result ≡ option_and_then agent_in (only (items_view arguments.now)) }
-{
-    Letter::new(mark_in(only_of(arguments)?.as_str()?, b'A', b'Z')?)
-}
-
-/// The number, from 0, of a text's one character between two.
-pub fn mark_in(text: &str, low: u8, high: u8) -> Option<u32>
-    ensures { result ≡ mark_of low high text.now }
-{
-    match text.as_bytes() {
-        [c] => if low <= *c && *c <= high {
-            Some((*c - low) as u32)
-        } else {
-            None
-        },
-        _ => None,
+    match leaf {
+        Leaf::At(place) => Some(Argument::Place(place)),
+        Leaf::Signal(signal) => Some(Argument::Signal(signal)),
+        Leaf::Near(distance) => Some(Argument::Count(distance)),
+        Leaf::Give(letter) => Some(Argument::Agent(letter)),
+        Leaf::Take | Leaf::Drop | Leaf::Carrying | Leaf::Item => None,
     }
 }

@@ -6,6 +6,8 @@ ghost use Rattle.game_session.specs.Agents.{has_agent};
 ghost use Rattle.game_session.specs.Places.{has_place};
 ghost use Rattle.level_text.specs.Named.{own_places, own_agents, own, named, named_in, is_found};
 
+use crate::argument::Argument;
+use crate::write_nodes::argument_of;
 use bt_nodes::Node;
 use grid_world::World;
 use std::alloc::Global;
@@ -21,10 +23,12 @@ pub(crate) enum Named {
 fn has_own_place(node: &Node<Global>, world: &World) -> bool
     ensures { result ≡ list_all (has_place world.now) (own_places (plain node.now)) }
 {
-    match node {
-        Node::Move(place) => world.place(*place).is_some(),
-        Node::At(place) => world.place(*place).is_some(),
-        _ => true,
+    let Some(argument) = argument_of(node) else {
+        return true;
+    };
+    match argument {
+        Argument::Place(place) => world.place(place).is_some(),
+        Argument::Count(_) | Argument::Signal(_) | Argument::Agent(_) => true,
     }
 }
 
@@ -32,9 +36,12 @@ fn has_own_place(node: &Node<Global>, world: &World) -> bool
 fn has_own_agent(node: &Node<Global>, world: &World) -> bool
     ensures { result ≡ list_all (has_agent world.now) (own_agents (plain node.now)) }
 {
-    match node {
-        Node::Give(letter) => (letter.number() as usize) < world.agents().len(),
-        _ => true,
+    let Some(argument) = argument_of(node) else {
+        return true;
+    };
+    match argument {
+        Argument::Agent(letter) => (letter.number() as usize) < world.agents().len(),
+        Argument::Count(_) | Argument::Place(_) | Argument::Signal(_) => true,
     }
 }
 

@@ -3,9 +3,10 @@ ghost use Rattle.std.specs.Prelude.{◌≡◌, ◌<◌, None, IfOk, IfNone, IfSo
 ghost use Rattle.serde_json.specs.View.{view, items_view};
 ghost use Rattle.serde_json.specs.declared.value.Value.{size-Value};
 ghost use Rattle.bt_nodes.specs.Plain.{plain};
-ghost use Rattle.level_text.specs.Nodes.{node_of as spelled_node, forest_in, child_in};
+ghost use Rattle.level_text.specs.Nodes.{node_of as spelled_node, childless_of as spelled_childless, forest_in, child_in};
 ghost use Rattle.level_text.specs.Inner.{form_in, deepest, over_forest, over_child};
 
+use crate::argument::{count_of, place_of};
 use crate::inner::{Decorator, Inner, Lister, inner_of};
 use crate::leaves::leaf_of;
 use bt_nodes::Node;
@@ -36,7 +37,18 @@ pub(crate) fn node_of(alloc: Global, value: &Value) -> Result<Option<Node<Global
     match inner_of(head, arguments) {
         Some(Inner::Lists(lister, values)) => list_of(alloc, lister, values),
         Some(Inner::Decorates(decorator, values)) => decorator_of(alloc, decorator, values),
-        None => Ok(leaf_of(head, arguments)),
+        None => Ok(childless_of(head, arguments)),
+    }
+}
+
+/// The node of a head that takes no node, or none where the arguments don't fit it.
+fn childless_of(head: &str, arguments: &[Value]) -> Option<Node<Global>>
+    ensures { option_map plain result ≡ spelled_childless head.now (items_view arguments.now) }
+{
+    match head {
+        "wait" => Some(Node::Wait(count_of(arguments)?)),
+        "move" => Some(Node::Move(place_of(arguments)?)),
+        _ => Some(leaf_of(head, arguments)?.into_node()),
     }
 }
 

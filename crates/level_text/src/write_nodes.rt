@@ -1,12 +1,15 @@
 // JSON values of nodes.
-ghost use Rattle.std.specs.Prelude.{◌≡◌, ◌<◌, ◌+◌, Some, IfOk, OnOk, IsTrue, option_map};
+ghost use Rattle.std.specs.Prelude.{◌≡◌, IfOk, OnOk, IsTrue, false, option_map};
 ghost use Rattle.serde_json.specs.Data.{array};
 ghost use Rattle.serde_json.specs.View.{view, items_view};
 ghost use Rattle.bt_nodes.specs.Plain.{plain, plains};
+ghost use Rattle.bt_nodes.specs.Heads.{is_leaf};
 ghost use Rattle.level_text.specs.Marks.{has_marks, all_have_marks};
-ghost use Rattle.level_text.specs.Begun.{head, own, below, has_own_mark, items_before};
-ghost use Rattle.level_text.specs.Written.{mark as mark_data, node_data, forest_data};
+ghost use Rattle.level_text.specs.Begun.{head, argument, own, below, has_own_mark, items_before};
+ghost use Rattle.level_text.specs.Written.{node_data, forest_data};
 
+use crate::argument::Argument;
+use crate::leaves::{argument_of_leaf, head_of_leaf};
 use bt_nodes::Node;
 use serde_json::Value;
 use std::alloc::{AllocError, Global};
@@ -59,6 +62,17 @@ fn begun(alloc: Global, node: &Node<Global>) -> Result<Vec<Value>, AllocError>
 pub fn head_of(node: &Node<Global>) -> &'static str
     ensures { result.now ≡ head (plain node.now) }
 {
+    match node.leaf() {
+        Some(leaf) => head_of_leaf(leaf),
+        None => head_of_other(node),
+    }
+}
+
+// The word that names the kind of a node that is no leaf.
+fn head_of_other(node: &Node<Global>) -> &'static str
+    requires { is_leaf (plain node.now) ≡ false }
+    ensures { result.now ≡ head (plain node.now) }
+{
     match node {
         Node::Seq(_) => "seq",
         Node::Fallback(_) => "fallback",
@@ -70,47 +84,34 @@ pub fn head_of(node: &Node<Global>) -> &'static str
         Node::Ticks(_, _) => "ticks",
         Node::Wait(_) => "wait",
         Node::Move(_) => "move",
-        Node::Take => "take",
-        Node::Drop => "drop",
-        Node::At(_) => "at",
-        Node::Carrying => "carrying",
-        Node::Item => "item",
-        Node::Signal(_) => "signal",
-        Node::Near(_) => "near",
-        Node::Give(_) => "give",
+        _ => unreachable!(),
     }
 }
 
-/// The number, place, signal or agent that stands in the node itself.
-fn own_of(alloc: Global, node: &Node<Global>) -> Result<Option<Value>, AllocError>
-    ensures value { IfOk result (λ o. option_map view o ≡ own (plain node.now)) }
-    ensures marks { OnOk result (IsTrue (has_own_mark (plain node.now))) }
+/// The argument that stands in the node itself.
+pub fn argument_of(node: &Node<Global>) -> Option<Argument>
+    ensures { result ≡ argument (plain node.now) }
 {
     match node {
-        Node::Par(n, _) | Node::Tries(n, _) | Node::Ticks(n, _) | Node::Wait(n) | Node::Near(n) => {
-            Ok(Some(Value::from(*n)))
+        Node::Par(n, _) | Node::Tries(n, _) | Node::Ticks(n, _) | Node::Wait(n) => {
+            Some(Argument::Count(*n))
         }
-        Node::Move(place) | Node::At(place) => Ok(Some(mark(alloc, b'0', place.number())?)),
-        Node::Signal(signal) => Ok(Some(mark(alloc, b'a', signal.number())?)),
-        Node::Give(letter) => Ok(Some(mark(alloc, b'A', letter.number())?)),
+        Node::Move(place) => Some(Argument::Place(*place)),
         Node::Seq(_)
         | Node::Fallback(_)
         | Node::SeqStar(_)
         | Node::FallbackStar(_)
-        | Node::Not(_)
-        | Node::Take
-        | Node::Drop
-        | Node::Carrying
-        | Node::Item => Ok(None),
+        | Node::Not(_) => None,
+        _ => argument_of_leaf(node.leaf()?),
     }
 }
 
-/// A text of the character that stands `number` behind `low`.
-fn mark(alloc: Global, low: u8, number: u32) -> Result<Value, AllocError>
-    requires { low + number < 128 }
-    ensures { IfOk result (λ v. Some (view v) ≡ mark_data (low + number)) }
+fn own_of(alloc: Global, node: &Node<Global>) -> Result<Option<Value>, AllocError>
+    ensures value { IfOk result (λ o. option_map view o ≡ own (plain node.now)) }
+    ensures marks { OnOk result (IsTrue (has_own_mark (plain node.now))) }
 {
-    let mut text = String::new(alloc);
-    text.push(char::from(low + number as u8))?;
-    Ok(Value::String(text))
+    match argument_of(node) {
+        Some(argument) => Ok(Some(argument.to_value(alloc)?)),
+        None => Ok(None),
+    }
 }

@@ -2,7 +2,7 @@ use Rattle.std.proofs.Common.{◌≡◌, ◌∙◌, ap, sym, subst, get_or, None
 use Rattle.std.proofs.lemmas.Result.{err_from_is_err_and}
 use Rattle.level_text.specs.Drafts.{parts_view}
 use Rattle.game_session.specs.Parts.{Parts}
-use Rattle.game_session.specs.Faults.{agent_fault, place_fault, crew_fault, parts_fault, world_of, no_place, no_agent}
+use Rattle.game_session.specs.Faults.{place_fault, crew_fault, parts_fault, world_of, no_place, no_agent}
 use Rattle.game_session.specs.Kept.{texts_view, trees_view}
 use Rattle.level_text.specs.Levels.{IsFirstOf}
 use Rattle.level_text.specs.declared.level_fault.LevelFault.{LevelFault}
