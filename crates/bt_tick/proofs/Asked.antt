@@ -3,15 +3,14 @@ use Rattle.std.proofs.Common.{◌≡◌, ℕ, zero, suc, ◌+◌, List, [], ◌�
 use Rattle.std.specs.Prelude.{if◌then◌else◌}
 use Rattle.grid_world.specs.declared.cell.Answer.{Answer}
 use Rattle.grid_world.specs.declared.cell.Answer.TheVariants.{Here, NoWay, Step}
-use Rattle.grid_world.specs.declared.cell.Intent.TheVariants as intent
 use Rattle.bt_nodes.specs.declared.node.Status.{Status}
 use Rattle.bt_nodes.specs.declared.node.Status.TheVariants.{Success, Failure, Running}
-use Rattle.bt_nodes.specs.declared.leaf.Leaf.{Leaf}
-use Rattle.bt_nodes.specs.declared.leaf.Leaf.TheVariants.{Take, Drop, At, Carrying, Item, Signal, Near, Give}
 use Rattle.bt_nodes.specs.Plain.{Kind, Seq, Fallback, Plain, Composite, Star, Par, Not, Tries, Ticks, Wait, Move, Does, Forest, none, tree}
 use Rattle.bt_nodes.specs.Sizes.{size, count}
-use Rattle.game_rules.specs.View.{View, carries, is_on_item, stands_on, has_signal, is_near, can_give}
-use Rattle.game_rules.specs.Tick.{Reply, Gives, Stands, State, Result, gives, on, on_reply, number_of, put, want, follow, ask, test, does, stops, on_kind, tick, tick_line, tick_star, tick_all}
+use Rattle.game_rules.specs.declared.deed.Deed.{Deed}
+use Rattle.game_rules.specs.declared.deed.Deed.TheVariants.{Says, Wants}
+use Rattle.game_rules.specs.View.{View}
+use Rattle.game_rules.specs.Tick.{Reply, Gives, Stands, State, Result, gives, on, on_reply, number_of, put, follow, ask, meaning, act, stops, on_kind, tick, tick_line, tick_star, tick_all}
 use Rattle.bt_tick.specs.Children.{from_child, child_number}
 use Rattle.bt_tick.specs.Suspended.{Open, go_on, close_at, close, unwind, before, after}
 
@@ -49,22 +48,9 @@ module _ (ps : List ℕ) where
   kind_carries Seq r f g cf cg = on_carries r f g (gives Running) cf cg (gives_carries Running)
   kind_carries Fallback r f g cf cg = on_carries r g f (gives Running) cg cf (gives_carries Running)
 
-  test_carries : (b : Bool) → Prefixes (test b)
-  test_carries b s = if_carries b (gives Success) (gives Failure) s refl refl
-
-  does_carries : (leaf : Leaf) (v : View) → Prefixes (does leaf v)
-  does_carries Take v s =
-      if_carries (carries v) (gives Success) (λ t. if is_on_item v then gives Running (want intent.Take t) else gives Failure t) s refl
-      (if_carries (is_on_item v) (λ t. gives Running (want intent.Take t)) (gives Failure) s refl refl)
-  does_carries Drop v s =
-      if_carries (carries v) (λ t. if is_on_item v then gives Failure t else gives Running (want intent.Drop t)) (gives Failure) s
-      (if_carries (is_on_item v) (gives Failure) (λ t. gives Running (want intent.Drop t)) s refl refl) refl
-  does_carries (At p) v s = test_carries (stands_on v p) s
-  does_carries Carrying v s = test_carries (carries v) s
-  does_carries Item v s = test_carries (is_on_item v) s
-  does_carries (Signal a) v s = test_carries (has_signal v a) s
-  does_carries (Near n) v s = test_carries (is_near v n) s
-  does_carries (Give b) v s = if_carries (can_give v b) (λ t. gives Running (want (intent.Give b) t)) (gives Failure) s refl refl
+  act_carries : (d : Deed) → Prefixes (act d)
+  act_carries (Says b) s = if_carries b (gives Success) (gives Failure) s refl refl
+  act_carries (Wants i) s = refl
 
   module _ (v : View) where
     mutual
@@ -89,7 +75,7 @@ module _ (ps : List ℕ) where
           ∙ on_carries (tick v c (n + 1) s) won lost busy (λ t. refl) (λ t. refl) (λ t. refl)) refl
       tick_carries (Wait k) n s = if_carries (nat_lt (number_of n s) k) (λ t. gives Running (put n (number_of n t + 1) t)) (λ t. gives Success (put n 0 t)) s refl refl
       tick_carries (Move p) n s = ask_carries p s.left s
-      tick_carries (Does leaf) n s = does_carries leaf v s
+      tick_carries (Does leaf) n s = act_carries (meaning leaf v) s
 
       line_carries : (cs : Forest) (kind : Kind) (at : ℕ) → Prefixes (tick_line v cs kind at)
       line_carries none kind at s = refl

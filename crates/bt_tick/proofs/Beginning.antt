@@ -1,20 +1,19 @@
 -- What the machine does with a node that is ticked is what the node's tick does.
 use Rattle.std.proofs.Common.{◌≡◌, ℕ, ◌+◌, ◌*◌, ◌<◌, ◌≤◌, List, [], ◌∷◌, ◌++◌, Bool, true, false, nat_lt, refl, sym, ap, ◌∙◌, subst, rules, arith}
-use Rattle.std.specs.Prelude.{if◌then◌else◌}
+use Rattle.std.specs.Prelude.{if◌then◌else◌, Some}
 use Rattle.std.proofs.lemmas.Bool.Decides.{nat_tests}
 use Rattle.grid_world.specs.declared.cell.Intent.{Intent}
-use Rattle.grid_world.specs.declared.cell.Intent.TheVariants as intent
 use Rattle.bt_nodes.specs.declared.node.Node.{the_lemmas}
 use Rattle.bt_nodes.specs.declared.node.Node as node
 use Rattle.bt_nodes.specs.declared.node.Status.{Status}
 use Rattle.bt_nodes.specs.declared.node.Status.TheVariants.{Success, Failure, Running}
-use Rattle.bt_nodes.specs.declared.leaf.Leaf.{Leaf}
-use Rattle.bt_nodes.specs.declared.leaf.Leaf.TheVariants.{Take, Drop, At, Carrying, Item, Signal, Near, Give}
 use Rattle.bt_nodes.specs.Plain.{Plain, Kind, Composite, Not, Tries, Ticks, Wait, Does, Forest, plain}
 use Rattle.bt_nodes.specs.Sizes.{size}
-use Rattle.game_rules.specs.View.{View, carries, is_on_item, can_give}
-use Rattle.game_rules.specs.Tick.{State, gives, put, want, number_of, test, does, tick}
-use Rattle.bt_tick.specs.Conditions.{Tests}
+use Rattle.game_rules.specs.declared.deed.Deed.{Deed}
+use Rattle.game_rules.specs.declared.deed.Deed.TheVariants.{Says}
+use Rattle.game_rules.specs.View.{View}
+use Rattle.game_rules.specs.Tick.{State, gives, put, want, number_of, test, meaning, act, tick}
+use Rattle.bt_tick.specs.Deeds.{deed_of}
 use Rattle.bt_tick.specs.Suspended.{Open, go_on, close_at, unwind}
 use Rattle.bt_tick.specs.Places.{Sits, Nested}
 use Rattle.bt_tick.specs.Machine.{opens, with_parts}
@@ -26,33 +25,9 @@ use Rattle.bt_tick.proofs.Trees.{size-children, sits_below}
 pub plain-Wait : (A : Type 0) (n : ℕ) → plain {A = A} (node.Wait n) ≡ Wait n
 plain-Wait A n = search (rules, the_lemmas)
 
-pub plain-Take : (A : Type 0) → plain {A = A} node.Take ≡ Does Take
-plain-Take A = search (rules, the_lemmas)
-
-pub plain-Drop : (A : Type 0) → plain {A = A} node.Drop ≡ Does Drop
-plain-Drop A = search (rules, the_lemmas)
-
-pub plain-At : (A : Type 0) (p : ℕ) → plain {A = A} (node.At p) ≡ Does (At p)
-plain-At A p = search (rules, the_lemmas)
-
-pub plain-Carrying : (A : Type 0) → plain {A = A} node.Carrying ≡ Does Carrying
-plain-Carrying A = search (rules, the_lemmas)
-
-pub plain-Item : (A : Type 0) → plain {A = A} node.Item ≡ Does Item
-plain-Item A = search (rules, the_lemmas)
-
-pub plain-Signal : (A : Type 0) (a : ℕ) → plain {A = A} (node.Signal a) ≡ Does (Signal a)
-plain-Signal A a = search (rules, the_lemmas)
-
-pub plain-Near : (A : Type 0) (n : ℕ) → plain {A = A} (node.Near n) ≡ Does (Near n)
-plain-Near A n = search (rules, the_lemmas)
-
-pub plain-Give : (A : Type 0) (b : ℕ) → plain {A = A} (node.Give b) ≡ Does (Give b)
-plain-Give A b = search (rules, the_lemmas)
-
 -- ---- what a node with this number does
 
-tested : (s : State) (b : Bool) (st : Status) → st ≡ (if b then Success else Failure) → gives st s ≡ test b s
+pub tested : (s : State) (b : Bool) (st : Status) → st ≡ (if b then Success else Failure) → gives st s ≡ test b s
 tested s true st e = ap (λ x. gives x s) e
 tested s false st e = ap (λ x. gives x s) e
 
@@ -101,34 +76,20 @@ module _ (v : View) (p : Plain) (n : ℕ) (s : State) where
         sym (ap (λ b. if b then (close_at v (Ticks k c) n 1 0 (number_of n s) (tick v c (n + 1) s)) else gives Failure (put n 0 s)) (is_past h))
         ∙ ticks_as (Ticks k c) is
 
-  pub takes : (carried here : Bool) → p ≡ Does Take → carried ≡ carries v → here ≡ is_on_item v
-      → (if carried then gives Success s else (if here then gives Running (want intent.Take s) else gives Failure s)) ≡ tick v p n s
-  takes carried here is a b =
-      ap (λ x. if x then gives Success s else (if here then gives Running (want intent.Take s) else gives Failure s)) a
-      ∙ ap (λ x. if carries v then gives Success s else (if x then gives Running (want intent.Take s) else gives Failure s)) b ∙ ticks_as (Does Take) is
+-- a leaf that comes to this
+pub acts_alone : (v : View) (p : Plain) (d : Deed) → deed_of v p ≡ Some d → size p ≡ 1
+acts_alone v (Does leaf) d e = refl
+acts_alone v _ d e = absurd (cc)
 
-  pub takes_none : p ≡ Does Take → true ≡ carries v → gives Success s ≡ tick v p n s
-  takes_none is a = takes true (is_on_item v) is a refl
+pub acts : (v : View) (p : Plain) (n : ℕ) (s : State) (d : Deed) → deed_of v p ≡ Some d → act d s ≡ tick v p n s
+acts v (Does leaf) n s d e =
+    let is : d ≡ meaning leaf v = cc in
+    ap (λ x. act x s) is
+acts v _ n s d e = absurd (cc)
 
-  pub drops : (carried here : Bool) → p ≡ Does Drop → carried ≡ carries v → here ≡ is_on_item v
-      → (if carried then (if here then gives Failure s else gives Running (want intent.Drop s)) else gives Failure s) ≡ tick v p n s
-  drops carried here is a b =
-      ap (λ x. if x then (if here then gives Failure s else gives Running (want intent.Drop s)) else gives Failure s) a
-      ∙ ap (λ x. if carries v then (if x then gives Failure s else gives Running (want intent.Drop s)) else gives Failure s) b ∙ ticks_as (Does Drop) is
-
-  pub drops_none : p ≡ Does Drop → false ≡ carries v → gives Failure s ≡ tick v p n s
-  drops_none is a = drops false (is_on_item v) is a refl
-
-  pub hands_over : (b : ℕ) (may : Bool) → p ≡ Does (Give b) → may ≡ can_give v b
-      → (if may then gives Running (want (intent.Give b) s) else gives Failure s) ≡ tick v p n s
-  hands_over b may is a = ap (λ x. if x then gives Running (want (intent.Give b) s) else gives Failure s) a ∙ ticks_as (Does (Give b)) is
-
-  -- a condition
-  pub answers : (b : Bool) (st : Status) → Tests v p b → st ≡ (if b then Success else Failure) → gives st s ≡ tick v p n s
-  answers b st (one, t) e = tested s b st e ∙ sym (t n s)
-
-pub tests_as : (v : View) (p : Plain) (leaf : Leaf) (b : Bool) → p ≡ Does leaf → ((s : State) → does leaf v s ≡ test b s) → Tests v p b
-tests_as v p leaf b is t = (ap size is, λ n s. ap (λ x. tick v x n s) is ∙ t s)
+-- a condition
+pub says : (v : View) (p : Plain) (n : ℕ) (s : State) (b : Bool) (st : Status) → deed_of v p ≡ Some (Says b) → st ≡ (if b then Success else Failure) → gives st s ≡ tick v p n s
+says v p n s b st d e = tested s b st e ∙ acts v p n s (Says b) d
 
 -- ---- where it stands, and how many steps are left
 

@@ -1,8 +1,9 @@
 // What a condition tests.
 
-ghost use Rattle.std.specs.Prelude.{◌≡◌, None, IfSome, false, if◌then◌else◌};
+ghost use Rattle.std.specs.Prelude.{◌≡◌, None, Some, IfSome, false, if◌then◌else◌};
 ghost use Rattle.bt_nodes.specs.Plain.{plain};
-ghost use Rattle.bt_tick.specs.Conditions.{Tests};
+ghost use Rattle.game_rules.specs.declared.deed.Deed.TheVariants.{Says};
+ghost use Rattle.bt_tick.specs.Deeds.{deed_of};
 ghost use Rattle.bt_tick.specs.Kinds.{is_condition};
 ghost use Rattle.bt_tick.specs.Views.{view_of, IsInWorld, IsNearestIn};
 
@@ -20,7 +21,7 @@ pub(crate) fn condition<T: Allocator>(
 ) -> Option<bool>
     requires world { IsInWorld view.now }
     requires nearest { IsNearestIn (view_of view.now) nearest.old }
-    ensures tests { IfSome result (Tests (view_of view.now) (plain node.now)) }
+    ensures says { IfSome result (λ holds. deed_of (view_of view.now) (plain node.now) ≡ Some (Says holds)) }
     ensures none { result ≡ None → is_condition (plain node.now) ≡ false }
     ensures nearest { IsNearestIn (view_of view.now) nearest.new }
 {

@@ -1,6 +1,7 @@
 //! Ticks of behaviour trees that can be cut at any path question.
 #![tactic(auto)]
 
+mod action;
 mod ascend;
 mod at_once;
 mod condition;

@@ -9,15 +9,14 @@ use Rattle.grid_world.specs.declared.cell.Intent.{Intent}
 use Rattle.grid_world.specs.declared.cell.Intent.TheVariants as intent
 use Rattle.bt_nodes.specs.declared.node.Status.{Status}
 use Rattle.bt_nodes.specs.declared.node.Status.TheVariants.{Success, Failure, Running}
-use Rattle.bt_nodes.specs.declared.leaf.Leaf.{Leaf}
-use Rattle.bt_nodes.specs.Plain.{Kind, Seq, Fallback, Plain, Not, Tries, Ticks, Wait, Move, Does, Forest, none, tree}
+use Rattle.bt_nodes.specs.Plain.{Kind, Seq, Fallback, Plain, Not, Wait, Move, Does, Forest, none, tree}
 use Rattle.bt_nodes.specs.Sizes.{size}
 use Rattle.game_rules.specs.View.{View}
 use Rattle.game_rules.specs.Tick.{Reply, Gives, Stands, State, Result, gives, on, on_kind, goes, stops, number_of, put, follow, ask, verdict, tick, tick_line, tick_star, tick_all}
 use Rattle.stepping.specs.declared.counter.Counter.{Counter}
 use Rattle.stepping.specs.declared.counter.Counter.TheVariants as counts
 use Rattle.stepping.specs.Answered.{given, goes_on, has_answered, own, below, below_line, below_star, below_all, answered, written}
-use Rattle.stepping.specs.Observing.{Seen, reply_of, not_of, stops_at, counted, tried, ticked_on, wanting, counting, with_want, with_number, with_count, given_up, with_told, HasRoom, Observed}
+use Rattle.stepping.specs.Observing.{Seen, is_leaf, reply_of, not_of, stops_at, counted, tried, ticked_on, wanting, counting, with_want, with_number, with_count, given_up, with_told, HasRoom, Observed}
 use Rattle.stepping.proofs.Written.{written_more, length-written}
 
 abbrev result_of : Reply → State → Result
@@ -378,10 +377,7 @@ module _ (whole : Plain) (v : View) (place n : ℕ) (a : Seen) (h : HasRoom whol
   asked_step b more d k left is = asked_answer b more (Step d k) Running (with_want (intent.Move d) (answered_by more)).state left refl is refl
 
 -- a node that is a leaf has none below it
-pub as_leaf : (whole : Plain) (v : View) (p : Plain) (leaf : Leaf) (n : ℕ) (a b : Seen) (r : Option Status) → p ≡ Does leaf → Observed whole (tick v p n) (λ s. []) a r b
+pub as_leaf : (whole : Plain) (v : View) (p : Plain) (n : ℕ) (a b : Seen) (r : Option Status) → is_leaf p ≡ true → Observed whole (tick v p n) (λ s. []) a r b
     → Observed whole (tick v p n) (below v p n) a r b
-as_leaf whole v p leaf n a b r is o = record {
-  result = o.result;
-  told = o.told ∙ ap (λ (q : Plain). written (below v q n a.state) a.told) (sym is);
-  room = o.room;
-}
+as_leaf whole v (Does leaf) n a b r is o = record { result = o.result; told = o.told; room = o.room }
+as_leaf whole v _ n a b r is o = absurd (cc)

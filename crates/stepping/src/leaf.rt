@@ -1,9 +1,8 @@
 ghost use Rattle.std.specs.Prelude.{◌≡◌, ℕ, true, IfOk};
-ghost use Rattle.bt_nodes.specs.declared.leaf.Leaf.{Leaf};
-ghost use Rattle.bt_nodes.specs.Plain.{Does, plain};
+ghost use Rattle.bt_nodes.specs.Plain.{plain};
 ghost use Rattle.bt_tick.specs.Views.{view_of, IsInWorld};
 ghost use Rattle.game_rules.specs.Tick.{State, gives, tick};
-ghost use Rattle.stepping.specs.Observing.{wanting};
+ghost use Rattle.stepping.specs.Observing.{is_leaf, wanting};
 
 use bt_nodes::{Node, Status, Tree};
 use bt_tick::{Memory, Outcome, View, begin};
@@ -18,7 +17,7 @@ pub(crate) fn leaf(
     node: &Node<Global>,
 ) -> Result<(Status, Intent), AllocError>
     requires view { IsInWorld view.now }
-    requires leaf { (leaf : Leaf) × (plain node.now ≡ Does leaf) }
+    requires leaf { is_leaf (plain node.now) ≡ true }
     ensures { IfOk result (λ r. (n : ℕ) (s : State) → tick (view_of view.now) (plain node.now) n s ≡ gives r.0 (wanting r.0 r.1 s)) }
 {
     let tree = match Tree::new(node.copy_in(&alloc)?) {

@@ -1,13 +1,12 @@
 // A tick once more, node by node, that writes down what each node answers.
-ghost use Rattle.std.specs.Prelude.{◌≡◌, ◌+◌, ◌≤◌, ◌<◌, ◌^◌, ℕ, [], None, IfOk, IfSome};
-ghost use Rattle.bt_nodes.specs.declared.leaf.Leaf.{Leaf};
-ghost use Rattle.bt_nodes.specs.Plain.{Does, Move, Wait, none, plain, plains};
+ghost use Rattle.std.specs.Prelude.{◌≡◌, ◌+◌, ◌≤◌, ◌<◌, ◌^◌, ℕ, [], true, None, IfOk, IfSome};
+ghost use Rattle.bt_nodes.specs.Plain.{Move, Wait, none, plain, plains};
 ghost use Rattle.bt_nodes.specs.Sizes.{size};
 ghost use Rattle.bt_nodes.specs.Trees.{plain_of};
 ghost use Rattle.bt_tick.specs.Views.{view_of, IsInWorld};
 ghost use Rattle.game_rules.specs.Tick.{tick, tick_line, tick_star, tick_all, verdict};
 ghost use Rattle.stepping.specs.Answered.{below, below_line, below_star, below_all, answered};
-ghost use Rattle.stepping.specs.Observing.{seen, kind_of, not_of, counted, counting, HasRoom, Observes, StandsAt, StandAt, IsFirst};
+ghost use Rattle.stepping.specs.Observing.{is_leaf, seen, kind_of, not_of, counted, counting, HasRoom, Observes, StandsAt, StandAt, IsFirst};
 
 use crate::counter::Counter;
 use crate::leaf::leaf;
@@ -87,9 +86,9 @@ impl Observer<'_, '_, '_, '_> {
     // Ticks a node that has no child and asks nothing.
     fn act(&self, at: &mut Progress, node: &Node<Global>) -> Result<Option<Status>, AllocError>
         requires view { IsInWorld self.now.view.now }
-        requires leaf { (leaf : Leaf) × (plain node.now ≡ Does leaf) }
+        requires leaf { is_leaf (plain node.now) ≡ true }
         requires room { HasRoom (plain_of self.now.tree.now) (seen self.now.answers.now at.old) }
-        ensures { IfOk result (λ reply. (n : ℕ) → Observes self.now (tick (view_of self.now.view.now) (plain node.now) n) (λ s. []) at.old reply at.new) }
+        ensures { IfOk result (λ reply. (n : ℕ) → Observes self.now (tick (view_of self.now.view.now) (plain node.now) n) (below (view_of self.now.view.now) (plain node.now) n) at.old reply at.new) }
     {
         let (status, intent) = leaf(self.alloc, self.view, node)?;
         if let Status::Running = status {
@@ -186,14 +185,7 @@ impl Observer<'_, '_, '_, '_> {
             Node::Ticks(most, child) => Ok(self.count(at, Counter::Ticks, *most, child, number)?),
             Node::Wait(most) => Ok(self.wait(at, *most, number)),
             Node::Move(place) => Ok(self.follow(at, *place)?),
-            Node::Take
-            | Node::Drop
-            | Node::At(_)
-            | Node::Carrying
-            | Node::Item
-            | Node::Signal(_)
-            | Node::Near(_)
-            | Node::Give(_) => Ok(self.act(at, node)?),
+            _ => Ok(self.act(at, node)?),
         }
     }
 

@@ -1,14 +1,15 @@
 use Rattle.std.proofs.Common.{refl, ap, sym, subst, ◌∙◌, arith, []}
-use Rattle.std.specs.Prelude.{IfSome}
+use Rattle.std.specs.Prelude.{◌≡◌, Some, IfSome}
 use Rattle.bt_nodes.specs.Plain.{plain}
+use Rattle.game_rules.specs.declared.deed.Deed.TheVariants.{Says}
 use Rattle.game_rules.specs.Tick.{gives}
 use Rattle.bt_tick.specs.Suspended.{unwind}
 use Rattle.bt_tick.specs.Views.{view_of}
-use Rattle.bt_tick.specs.Conditions.{Tests}
+use Rattle.bt_tick.specs.Deeds.{deed_of}
 use Rattle.bt_tick.specs.Machine.{opens, with_parts, whole_of, Placed}
 use Rattle.bt_tick.specs.declared.machine.Mode.TheVariants.{Down}
 use Rattle.bt_tick.specs.Outcome.{fresh, machine_left}
-use Rattle.bt_tick.proofs.Beginning.{answers, answered_nested}
+use Rattle.bt_tick.proofs.Beginning.{acts_alone, says, answered_nested}
 use Rattle.bt_tick.proofs.Opening.{down_within, placed_by}
 use Rattle.bt_tick.proofs.run.run.Goals as goal
 
@@ -68,13 +69,13 @@ loop-mode-preserved-in-Some g c =
     let v = view_of c.args.view.now in
     let m = c.loop-mode.machine in
     let p = plain c.in-Down.node.now in
-    let tests : Tests v p c.in-Some.holds = subst (λ r. IfSome r (Tests v p)) c.in-Some.is c.condition.ensures.tests in
+    let is : deed_of v p ≡ Some (Says c.in-Some.holds) = subst (λ r. IfSome r (λ holds. deed_of v p ≡ Some (Says holds))) c.in-Some.is c.condition.ensures.says in
     let was : Placed m (Down c.in-Down.node c.in-Down.number) = subst (Placed m) c.in-Down.is c.loop-mode.invariant.placed in
     record {
-      placed = placed_by m _ _ m.stack refl refl (answered_nested (whole_of m) _ c.in-Down.number p (opens m.stack) (omega (arith, tests.0)) was.nested) tt;
+      placed = placed_by m _ _ m.stack refl refl (answered_nested (whole_of m) _ c.in-Down.number p (opens m.stack) (omega (arith, acts_alone v p (Says c.in-Some.holds) is)) was.nested) tt;
       nearest = c.condition.ensures.nearest;
       tree = c.loop-mode.invariant.tree;
       keeps = λ more.
-          ap (unwind v (opens m.stack)) (answers v p c.in-Down.number (with_parts m.memory m.wants.items (fresh [] [] more)) c.in-Some.holds c.status_of.result tests c.status_of.ensures)
+          ap (unwind v (opens m.stack)) (says v p c.in-Down.number (with_parts m.memory m.wants.items (fresh [] [] more)) c.in-Some.holds c.status_of.result is c.status_of.ensures)
           ∙ ap (λ md. machine_left v m md more) (sym c.in-Down.is) ∙ c.loop-mode.invariant.keeps more;
     }

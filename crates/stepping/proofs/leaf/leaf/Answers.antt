@@ -6,7 +6,7 @@ use Rattle.game_rules.specs.Thought.{ticked}
 use Rattle.bt_tick.specs.Views.{view_of}
 use Rattle.bt_tick.specs.Outcome.{IsOutcome}
 use Rattle.bt_tick.specs.declared.tick.Outcome.{Outcome}
-use Rattle.stepping.proofs.Leaves.{leaf_told}
+use Rattle.stepping.proofs.Leaves.{leaf_of, leaf_told}
 use Rattle.stepping.proofs.leaf.leaf.Goals as goal
 
 pub returns-in-Ok-Ended : goal.returns-in-Ok-Ended
@@ -16,4 +16,5 @@ returns-in-Ok-Ended c =
     let m = c.in_ok-memory.memory in
     let same : p ≡ plain c.args.node.now = c.in-Ok.ensures.ok ∙ c.in_ok-copy_in.ensures in
     let o = subst (λ (x : Outcome Global Global). IsOutcome x (ticked v p m [])) c.in-Ok-Ended.field-0-is c.in-Ok-Ended.ensures.outcome in
-    leaf_told v p c.requires.leaf.0 (same ∙ c.requires.leaf.1) m (plain c.args.node.now) c.in-Ok-Ended.status c.in-Ok-Ended.intent same o.0 o.2
+    let leaf = leaf_of (plain c.args.node.now) c.requires.leaf in
+    leaf_told v p leaf.0 (same ∙ leaf.1) m (plain c.args.node.now) c.in-Ok-Ended.status c.in-Ok-Ended.intent same o.0 o.2

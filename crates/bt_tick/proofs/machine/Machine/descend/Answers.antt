@@ -1,10 +1,7 @@
-use Rattle.std.proofs.Common.{◌+◌, ◌*◌, ◌<◌, ap, sym, ◌∙◌, subst, arith, refl, true, false}
+use Rattle.std.proofs.Common.{◌+◌, ◌<◌, ap, sym, ◌∙◌, subst, arith, refl}
 use Rattle.std.proofs.lemmas.List.{length-map}
-use Rattle.grid_world.specs.declared.cell.Intent.TheVariants as intent
 use Rattle.bt_nodes.specs.declared.node.Status.TheVariants.{Failure}
-use Rattle.bt_nodes.specs.declared.leaf.Leaf.TheVariants.{Give}
-use Rattle.bt_nodes.specs.Plain.{Seq, Fallback, Star, Wait, Does, none, tree, plain, plains}
-use Rattle.bt_nodes.specs.Sizes.{size}
+use Rattle.bt_nodes.specs.Plain.{Seq, Fallback, Star, Wait, none, tree, plain, plains}
 use Rattle.bt_nodes.proofs.Views.{plain-Seq, plain-Fallback, plain-SeqStar, plain-FallbackStar, plain-Not, plain-Tries, plain-Ticks}
 use Rattle.game_rules.specs.Tick.{gives}
 use Rattle.bt_tick.specs.Children.{children_of}
@@ -15,7 +12,7 @@ use Rattle.bt_tick.specs.Views.{view_of}
 use Rattle.bt_tick.specs.Machine.{opened, opens, whole_of, with_parts}
 use Rattle.bt_tick.proofs.Trees.{size-children}
 use Rattle.bt_tick.proofs.Opening.{if_ok, first_rests, only_stands, placed_by}
-use Rattle.bt_tick.proofs.Beginning.{plain-Wait, plain-Take, plain-Drop, plain-Give, line_begins, not_begins, tries_begins, tries_over, ticks_begins, ticks_over, takes, ticks_as, drops, hands_over, answered_nested, answered_falls, wanted_keeps}
+use Rattle.bt_tick.proofs.Beginning.{plain-Wait, line_begins, not_begins, tries_begins, tries_over, ticks_begins, ticks_over, ticks_as, acts, acts_alone, answered_nested, answered_falls}
 use Rattle.bt_tick.proofs.machine.Machine.descend.Goals as goal
 
 pub open_list-requires : goal.open_list-requires
@@ -170,59 +167,16 @@ returns-in-Wait-clause-keeps g c s =
     ∙ ap (λ w. unwind v (opens old.stack) (gives st (with_parts now.memory w.items s))) c.wait-status.ensures.wants
     ∙ ap (unwind v (opens old.stack)) (c.wait-status.ensures.ticks v s ∙ ticks_as v (plain c.args.node.now) c.args.number (with_parts old.memory old.wants.items s) (Wait c.in-Wait.most) (ap plain c.in-Wait.is ∙ plain-Wait _ c.in-Wait.most))
 
-pub returns-then-not-is_on_item : goal.returns-then-not-is_on_item
-returns-then-not-is_on_item g c =
-    record {
-      keeps = λ s. ap (unwind (view_of c.args.view.now) (opens c.args.self.now.stack)) (takes (view_of c.args.view.now) (plain c.args.node.now) c.args.number (with_parts c.args.self.now.memory c.args.self.now.wants.items s) false false (ap plain c.in-Take.is ∙ plain-Take _) c.if-carries.ensures c.if-not-is_on_item.ensures);
-      placed = placed_by c.args.self.now _ _ c.args.self.now.stack refl refl (answered_nested (whole_of c.args.self.now) _ c.args.number (plain c.args.node.now) (opens c.args.self.now.stack) (omega (arith, ap size (ap plain c.in-Take.is ∙ plain-Take _))) c.requires.nested) tt;
-      falls = answered_falls (plain c.args.node.now) (weight_all (opens c.args.self.now.stack));
-      tree = refl;
-    }
+pub act-requires : goal.act-requires
+act-requires g c = answered_nested (whole_of c.args.self.now) _ c.args.number (plain c.args.node.now) (opens c.args.self.now.stack) (omega (arith, acts_alone (view_of c.args.view.now) (plain c.args.node.now) c.action.result c.action.ensures)) c.requires.nested
 
-pub returns-then-is_on_item : goal.returns-then-is_on_item
-returns-then-is_on_item g c =
+pub returns-in_default : goal.returns-in_default
+returns-in_default g c =
+    let v = view_of c.args.view.now in
+    let now = c.args.self.now in
     record {
-      keeps = λ s. ap (unwind (view_of c.args.view.now) (opens c.args.self.now.stack)) (drops (view_of c.args.view.now) (plain c.args.node.now) c.args.number (with_parts c.args.self.now.memory c.args.self.now.wants.items s) true true (ap plain c.in-Drop.is ∙ plain-Drop _) c.if-not-carries.ensures c.if-is_on_item.ensures);
-      placed = placed_by c.args.self.now _ _ c.args.self.now.stack refl refl (answered_nested (whole_of c.args.self.now) _ c.args.number (plain c.args.node.now) (opens c.args.self.now.stack) (omega (arith, ap size (ap plain c.in-Drop.is ∙ plain-Drop _))) c.requires.nested) tt;
-      falls = answered_falls (plain c.args.node.now) (weight_all (opens c.args.self.now.stack));
-      tree = refl;
-    }
-
-pub returns-in_ok-want-in-Take : goal.returns-in_ok-want-in-Take
-returns-in_ok-want-in-Take g c =
-    let new = c.want.new.self in
-    record {
-      keeps = λ s. wanted_keeps c.args.self.now new intent.Take c.in_ok-want-in-Take.ensures.stack c.in_ok-want-in-Take.ensures.memory c.in_ok-want-in-Take.ensures.wants (view_of c.args.view.now) s ∙ ap (unwind (view_of c.args.view.now) (opens c.args.self.now.stack)) (takes (view_of c.args.view.now) (plain c.args.node.now) c.args.number (with_parts c.args.self.now.memory c.args.self.now.wants.items s) false true (ap plain c.in-Take.is ∙ plain-Take _) c.if-carries.ensures c.if-not-is_on_item.ensures);
-      placed = placed_by c.args.self.now new _ c.args.self.now.stack c.in_ok-want-in-Take.ensures.tree c.in_ok-want-in-Take.ensures.stack (answered_nested (whole_of c.args.self.now) _ c.args.number (plain c.args.node.now) (opens c.args.self.now.stack) (omega (arith, ap size (ap plain c.in-Take.is ∙ plain-Take _))) c.requires.nested) tt;
-      falls = subst (λ fs. 1 + weight_all (opens fs) < 2 * size (plain c.args.node.now) + weight_all (opens c.args.self.now.stack)) (sym c.in_ok-want-in-Take.ensures.stack) (answered_falls (plain c.args.node.now) (weight_all (opens c.args.self.now.stack)));
-      tree = c.in_ok-want-in-Take.ensures.tree;
-    }
-
-pub returns-in_ok-want-in-Drop : goal.returns-in_ok-want-in-Drop
-returns-in_ok-want-in-Drop g c =
-    let new = c.want-in-Drop.new.self in
-    record {
-      keeps = λ s. wanted_keeps c.args.self.now new intent.Drop c.in_ok-want-in-Drop.ensures.stack c.in_ok-want-in-Drop.ensures.memory c.in_ok-want-in-Drop.ensures.wants (view_of c.args.view.now) s ∙ ap (unwind (view_of c.args.view.now) (opens c.args.self.now.stack)) (drops (view_of c.args.view.now) (plain c.args.node.now) c.args.number (with_parts c.args.self.now.memory c.args.self.now.wants.items s) true false (ap plain c.in-Drop.is ∙ plain-Drop _) c.if-not-carries.ensures c.if-is_on_item.ensures);
-      placed = placed_by c.args.self.now new _ c.args.self.now.stack c.in_ok-want-in-Drop.ensures.tree c.in_ok-want-in-Drop.ensures.stack (answered_nested (whole_of c.args.self.now) _ c.args.number (plain c.args.node.now) (opens c.args.self.now.stack) (omega (arith, ap size (ap plain c.in-Drop.is ∙ plain-Drop _))) c.requires.nested) tt;
-      falls = subst (λ fs. 1 + weight_all (opens fs) < 2 * size (plain c.args.node.now) + weight_all (opens c.args.self.now.stack)) (sym c.in_ok-want-in-Drop.ensures.stack) (answered_falls (plain c.args.node.now) (weight_all (opens c.args.self.now.stack)));
-      tree = c.in_ok-want-in-Drop.ensures.tree;
-    }
-
-pub returns-then-not-can_give : goal.returns-then-not-can_give
-returns-then-not-can_give g c =
-    record {
-      keeps = λ s. ap (unwind (view_of c.args.view.now) (opens c.args.self.now.stack)) (hands_over (view_of c.args.view.now) (plain c.args.node.now) c.args.number (with_parts c.args.self.now.memory c.args.self.now.wants.items s) c.number-agent.result false (ap plain c.in-Give.is ∙ plain-Give _ c.in-Give.letter ∙ ap (λ b. Does (Give b)) (sym c.number-agent.ensures.value)) c.if-not-can_give.ensures);
-      placed = placed_by c.args.self.now _ _ c.args.self.now.stack refl refl (answered_nested (whole_of c.args.self.now) _ c.args.number (plain c.args.node.now) (opens c.args.self.now.stack) (omega (arith, ap size (ap plain c.in-Give.is ∙ plain-Give _ c.in-Give.letter ∙ ap (λ b. Does (Give b)) (sym c.number-agent.ensures.value)))) c.requires.nested) tt;
-      falls = answered_falls (plain c.args.node.now) (weight_all (opens c.args.self.now.stack));
-      tree = refl;
-    }
-
-pub returns-in_ok-want-in-Give : goal.returns-in_ok-want-in-Give
-returns-in_ok-want-in-Give g c =
-    let new = c.want-in-Give.new.self in
-    record {
-      keeps = λ s. wanted_keeps c.args.self.now new (intent.Give c.number-agent.result) c.in_ok-want-in-Give.ensures.stack c.in_ok-want-in-Give.ensures.memory c.in_ok-want-in-Give.ensures.wants (view_of c.args.view.now) s ∙ ap (unwind (view_of c.args.view.now) (opens c.args.self.now.stack)) (hands_over (view_of c.args.view.now) (plain c.args.node.now) c.args.number (with_parts c.args.self.now.memory c.args.self.now.wants.items s) c.number-agent.result true (ap plain c.in-Give.is ∙ plain-Give _ c.in-Give.letter ∙ ap (λ b. Does (Give b)) (sym c.number-agent.ensures.value)) c.if-not-can_give.ensures);
-      placed = placed_by c.args.self.now new _ c.args.self.now.stack c.in_ok-want-in-Give.ensures.tree c.in_ok-want-in-Give.ensures.stack (answered_nested (whole_of c.args.self.now) _ c.args.number (plain c.args.node.now) (opens c.args.self.now.stack) (omega (arith, ap size (ap plain c.in-Give.is ∙ plain-Give _ c.in-Give.letter ∙ ap (λ b. Does (Give b)) (sym c.number-agent.ensures.value)))) c.requires.nested) tt;
-      falls = subst (λ fs. 1 + weight_all (opens fs) < 2 * size (plain c.args.node.now) + weight_all (opens c.args.self.now.stack)) (sym c.in_ok-want-in-Give.ensures.stack) (answered_falls (plain c.args.node.now) (weight_all (opens c.args.self.now.stack)));
-      tree = c.in_ok-want-in-Give.ensures.tree;
+      keeps = if_ok c.act.result (λ m h s. h s ∙ ap (unwind v (opens now.stack)) (acts v (plain c.args.node.now) c.args.number (with_parts now.memory now.wants.items s) c.action.result c.action.ensures)) (c.act.ensures.keeps v);
+      placed = c.act.ensures.placed;
+      falls = if_ok c.act.result (λ m h. omega (arith, h, size-children (plain c.args.node.now))) c.act.ensures.falls;
+      tree = c.act.ensures.tree;
     }

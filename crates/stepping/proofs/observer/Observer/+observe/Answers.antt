@@ -8,10 +8,10 @@ use Rattle.bt_nodes.proofs.Forests.{count-plains}
 use Rattle.bt_nodes.proofs.WithinLimits.{tree_within}
 use Rattle.bt_tick.specs.Views.{view_of}
 use Rattle.stepping.specs.Observing.{seen, kind_of, StandsAt}
-use Rattle.stepping.proofs.Parts.{told_own, line_none, star_none, all_none, number_room, of_not, gives_up, counts_child, as_leaf}
+use Rattle.stepping.proofs.Parts.{told_own, line_none, star_none, all_none, number_room, of_not, gives_up, counts_child}
 use Rattle.stepping.proofs.Children.{IsLine, IsStar, IsAll, line_goes_on, line_ends, star_passes, star_goes_on, star_ends, star_waits, all_goes_on, all_waits, counted_few}
 use Rattle.stepping.proofs.Variants.{seq_is, fallback_is, seq_star_is, fallback_star_is, par_is, not_is, tries_is, ticks_is, as_plain, as_line, as_star, as_all}
-use Rattle.stepping.proofs.Leaves.{leaf_of, moves}
+use Rattle.stepping.proofs.Leaves.{moves}
 use Rattle.stepping.proofs.Standing.{within, below, counted_stands, counted_within}
 use Rattle.stepping.proofs.observer.Observer.+observe.Goals as goal
 
@@ -283,14 +283,8 @@ tick-returns-in_ok-count-in-Ticks t c =
     let is = ticks_is c.args.node.now c.in-Ticks.child c.deref-in-Ticks.result.now c.deref-in-Ticks.ensures c.in-Ticks.most c.in-Ticks.is in
     as_plain (plain_of c.args.self.now.tree.now) (view_of c.args.self.now.view.now) (plain c.args.node.now) c.args.number _ _ _ _ is c.in_ok-count-in-Ticks.ensures
 
-pub tick-act-requires-clause-leaf : goal.tick-act-requires-clause-leaf
-tick-act-requires-clause-leaf t c =
-    leaf_of c.args.node.now c.in-Take.is
-
-pub tick-returns-in_ok-act-in-Take : goal.tick-returns-in_ok-act-in-Take
-tick-returns-in_ok-act-in-Take t c =
-    let leaf = leaf_of c.args.node.now c.in-Take.is in
-    as_leaf (plain_of c.args.self.now.tree.now) (view_of c.args.self.now.view.now) (plain c.args.node.now) leaf.0 c.args.number _ _ c.in_ok-act-in-Take.field-0 leaf.1 (c.in_ok-act-in-Take.ensures c.args.number)
+pub tick-returns-in_ok-act-in_default : goal.tick-returns-in_ok-act-in_default
+tick-returns-in_ok-act-in_default t c = c.in_ok-act-in_default.ensures c.args.number
 
 pub tick-returns-in_ok-follow-in-Move : goal.tick-returns-in_ok-follow-in-Move
 tick-returns-in_ok-follow-in-Move t c =

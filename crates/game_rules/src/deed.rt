@@ -1,0 +1,9 @@
+use grid_world::Intent;
+
+/// What a leaf that asks nothing comes to.
+#[derive(Clone, Copy, Drop)]
+pub enum Deed {
+    /// It says whether something holds.
+    Says(bool),
+    Wants(Intent),
+}
