@@ -5,5 +5,6 @@ use grid_world::Intent;
 pub enum Deed {
     /// It says whether something holds.
     Says(bool),
+    /// It wants this, and is Running.
     Wants(Intent),
 }

@@ -4,6 +4,7 @@ use Rattle.grid_world.specs.declared.cell.Intent.{Intent}
 use Rattle.bt_nodes.specs.declared.node.Status.{Status}
 use Rattle.bt_nodes.specs.declared.node.Status.TheVariants.{Success, Failure, Running}
 use Rattle.bt_nodes.specs.declared.leaf.Leaf.{Leaf}
+use Rattle.bt_nodes.specs.Heads.{is_leaf}
 use Rattle.bt_nodes.specs.Plain.{Plain, Does, Move, plain}
 use Rattle.bt_nodes.specs.declared.node.Node.{Node, the_lemmas}
 use Rattle.bt_nodes.specs.declared.node.Node as node
@@ -12,7 +13,7 @@ use Rattle.game_rules.specs.declared.deed.Deed.TheVariants.{Says, Wants}
 use Rattle.game_rules.specs.View.{View}
 use Rattle.game_rules.specs.Tick.{Gives, State, Result, gives, want, meaning, act, tick}
 use Rattle.game_rules.specs.Thought.{first_want, ticked}
-use Rattle.stepping.specs.Observing.{is_leaf, wanting}
+use Rattle.stepping.specs.Observing.{wanting}
 
 -- it gives a status, and wants what it wants in a state with no wants
 abbrev Plainly : (State → Result) → Type 0

@@ -9,6 +9,7 @@ use Rattle.grid_world.specs.declared.cell.Intent.{Intent}
 use Rattle.grid_world.specs.declared.cell.Intent.TheVariants as intent
 use Rattle.bt_nodes.specs.declared.node.Status.{Status}
 use Rattle.bt_nodes.specs.declared.node.Status.TheVariants.{Success, Failure, Running}
+use Rattle.bt_nodes.specs.Heads.{is_leaf}
 use Rattle.bt_nodes.specs.Plain.{Kind, Seq, Fallback, Plain, Not, Wait, Move, Does, Forest, none, tree}
 use Rattle.bt_nodes.specs.Sizes.{size}
 use Rattle.game_rules.specs.View.{View}
@@ -16,7 +17,7 @@ use Rattle.game_rules.specs.Tick.{Reply, Gives, Stands, State, Result, gives, on
 use Rattle.stepping.specs.declared.counter.Counter.{Counter}
 use Rattle.stepping.specs.declared.counter.Counter.TheVariants as counts
 use Rattle.stepping.specs.Answered.{given, goes_on, has_answered, own, below, below_line, below_star, below_all, answered, written}
-use Rattle.stepping.specs.Observing.{Seen, is_leaf, reply_of, not_of, stops_at, counted, tried, ticked_on, wanting, counting, with_want, with_number, with_count, given_up, with_told, HasRoom, Observed}
+use Rattle.stepping.specs.Observing.{Seen, reply_of, not_of, stops_at, counted, tried, ticked_on, wanting, counting, with_want, with_number, with_count, given_up, with_told, HasRoom, Observed}
 use Rattle.stepping.proofs.Written.{written_more, length-written}
 
 abbrev result_of : Reply → State → Result

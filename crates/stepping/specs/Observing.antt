@@ -4,7 +4,7 @@ use Rattle.grid_world.specs.declared.cell.Answer.{Answer}
 use Rattle.grid_world.specs.declared.cell.Intent.{Intent}
 use Rattle.bt_nodes.specs.declared.node.Status.{Status}
 use Rattle.bt_nodes.specs.declared.node.Status.TheVariants.{Success, Failure, Running}
-use Rattle.bt_nodes.specs.Plain.{Kind, Seq, Fallback, Plain, Tries, Ticks, Does, Forest, tree}
+use Rattle.bt_nodes.specs.Plain.{Kind, Seq, Fallback, Plain, Tries, Ticks, Forest, tree}
 use Rattle.bt_nodes.specs.Sizes.{size, sizes, subtree_sizes, subtree_sizes_all}
 use Rattle.bt_nodes.specs.Trees.{plain_of}
 use Rattle.game_rules.specs.Tick.{Reply, Gives, Stands, State, Result, put, want}
@@ -35,11 +35,6 @@ reply_of None = Stands
 abbrev pub kind_of : Order → Kind
 kind_of order.Seq = Seq
 kind_of order.Fallback = Fallback
-
--- an action or a condition that asks nothing
-abbrev pub is_leaf : Plain → Bool
-is_leaf (Does leaf) = true
-is_leaf _ = false
 
 -- the decorator that counts this
 abbrev pub counting : Counter → ℕ → Plain → Plain

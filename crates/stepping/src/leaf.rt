@@ -1,8 +1,9 @@
 ghost use Rattle.std.specs.Prelude.{◌≡◌, ℕ, true, IfOk};
+ghost use Rattle.bt_nodes.specs.Heads.{is_leaf};
 ghost use Rattle.bt_nodes.specs.Plain.{plain};
 ghost use Rattle.bt_tick.specs.Views.{view_of, IsInWorld};
 ghost use Rattle.game_rules.specs.Tick.{State, gives, tick};
-ghost use Rattle.stepping.specs.Observing.{is_leaf, wanting};
+ghost use Rattle.stepping.specs.Observing.{wanting};
 
 use bt_nodes::{Node, Status, Tree};
 use bt_tick::{Memory, Outcome, View, begin};

@@ -1,12 +1,13 @@
 // A tick once more, node by node, that writes down what each node answers.
 ghost use Rattle.std.specs.Prelude.{◌≡◌, ◌+◌, ◌≤◌, ◌<◌, ◌^◌, ℕ, [], true, None, IfOk, IfSome};
+ghost use Rattle.bt_nodes.specs.Heads.{is_leaf};
 ghost use Rattle.bt_nodes.specs.Plain.{Move, Wait, none, plain, plains};
 ghost use Rattle.bt_nodes.specs.Sizes.{size};
 ghost use Rattle.bt_nodes.specs.Trees.{plain_of};
 ghost use Rattle.bt_tick.specs.Views.{view_of, IsInWorld};
 ghost use Rattle.game_rules.specs.Tick.{tick, tick_line, tick_star, tick_all, verdict};
 ghost use Rattle.stepping.specs.Answered.{below, below_line, below_star, below_all, answered};
-ghost use Rattle.stepping.specs.Observing.{is_leaf, seen, kind_of, not_of, counted, counting, HasRoom, Observes, StandsAt, StandAt, IsFirst};
+ghost use Rattle.stepping.specs.Observing.{seen, kind_of, not_of, counted, counting, HasRoom, Observes, StandsAt, StandAt, IsFirst};
 
 use crate::counter::Counter;
 use crate::leaf::leaf;
