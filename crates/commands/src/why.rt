@@ -17,7 +17,7 @@ use crate::opening::{open, step, step_all};
 use bt_nodes::{Node, Status};
 use byte_streams::push_number;
 use grid_world::{Answer, Dir, Signals};
-use level_text::{head_of, mark_in};
+use level_text::{Argument, argument_of, head_of, mark_in};
 use std::alloc::{AllocError, Global};
 use std::io::Write;
 use std::rt::Files;
@@ -59,26 +59,14 @@ fn push_indent(text: &mut Vec<u8>, depth: u64) -> Result<(), AllocError>
 fn push_argument(text: &mut Vec<u8>, node: &Node<Global>) -> Result<(), AllocError>
     ensures { OnOk result (text.new.items ≡ text.old.items ++ argument_text (own (plain node.now))) }
 {
-    match node {
-        Node::Par(number, _)
-        | Node::Tries(number, _)
-        | Node::Ticks(number, _)
-        | Node::Wait(number)
-        | Node::Near(number) => push_number(text, b" ", *number),
-        Node::Move(place) | Node::At(place) => {
-            text.extend_from_slice(&[b' ', b'0' + place.number() as u8])
-        }
-        Node::Signal(signal) => text.extend_from_slice(&[b' ', b'a' + signal.number() as u8]),
-        Node::Give(letter) => text.extend_from_slice(&[b' ', b'A' + letter.number() as u8]),
-        Node::Seq(_)
-        | Node::Fallback(_)
-        | Node::SeqStar(_)
-        | Node::FallbackStar(_)
-        | Node::Not(_)
-        | Node::Take
-        | Node::Drop
-        | Node::Carrying
-        | Node::Item => Ok(()),
+    let Some(argument) = argument_of(node) else {
+        return Ok(());
+    };
+    match argument {
+        Argument::Count(number) => push_number(text, b" ", number),
+        Argument::Place(place) => text.extend_from_slice(&[b' ', b'0' + place.number() as u8]),
+        Argument::Signal(signal) => text.extend_from_slice(&[b' ', b'a' + signal.number() as u8]),
+        Argument::Agent(letter) => text.extend_from_slice(&[b' ', b'A' + letter.number() as u8]),
     }
 }
 
