@@ -87,9 +87,8 @@ fn with_agent_trees(hash: u64, level: &Level) -> u64
 /// each; of each cell, row after row, 2 bytes: 0 0 a wall, 1 0 floor, 2 and the signal's number a door, 3 and the digit a
 /// place; the number of agents in 2 bytes, and agents and items as in the digest of a state; the tree of each agent in
 /// preorder, 4 bytes for each node: its kind, the number or the number of the letter or digit in it (2 bytes, or 0), and how
-/// many children it has. Kinds are counted from 0: seq, fallback, seq*, fallback*, par, not, tries, ticks, wait, move, take,
-/// drop, at, carrying, item, signal, near, give. Names, how the file is laid out, and trees that no agent has don't count. It
-/// takes time linear in the number of cells and nodes, and no memory.
+/// many children it has. The number of a kind is its `Node::code`. Names, how the file is laid out, and trees that no agent has
+/// don't count. It takes time linear in the number of cells and nodes, and no memory.
 pub fn level_digest(level: &Level) -> u64
     ensures { result ≡ level_digest_of (game_of (value_of level.now) []) }
 {
