@@ -27,7 +27,7 @@ plain-Wait A n = search (rules, the_lemmas)
 
 -- ---- what a node with this number does
 
-pub tested : (s : State) (b : Bool) (st : Status) → st ≡ (if b then Success else Failure) → gives st s ≡ test b s
+tested : (s : State) (b : Bool) (st : Status) → st ≡ (if b then Success else Failure) → gives st s ≡ test b s
 tested s true st e = ap (λ x. gives x s) e
 tested s false st e = ap (λ x. gives x s) e
 
@@ -87,7 +87,7 @@ acts v (Does leaf) n s d e =
     ap (λ x. act x s) is
 acts v _ n s d e = absurd (cc)
 
--- a condition
+-- one that says this, by its status
 pub says : (v : View) (p : Plain) (n : ℕ) (s : State) (b : Bool) (st : Status) → deed_of v p ≡ Some (Says b) → st ≡ (if b then Success else Failure) → gives st s ≡ tick v p n s
 says v p n s b st d e = tested s b st e ∙ acts v p n s (Says b) d
 

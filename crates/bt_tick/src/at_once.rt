@@ -1,4 +1,5 @@
-// Conditions, waits, and a `Not` or a `Ticks` over one of these give their status at once: none of them is opened, and none asks.
+// Leaves that want nothing now, waits, and a `Not` or a `Ticks` over one of these give their status at once: none of them is
+// opened, and none asks.
 
 ghost use Rattle.std.specs.Prelude.{◌≡◌, ◌+◌, IfSome, None};
 ghost use Rattle.bt_nodes.specs.Plain.{plain, Ticks};
@@ -9,15 +10,16 @@ ghost use Rattle.bt_tick.specs.Machine.{whole_of, KeepsLeft};
 ghost use Rattle.bt_tick.specs.Views.{view_of, IsInWorld, IsNearestIn};
 
 use crate::ascend::opposite;
-use crate::condition::{condition, status_of};
+use crate::deed::{deed, status_of};
 use crate::machine::Machine;
 use crate::nearest::Nearest;
 use crate::view::View;
 use bt_nodes::{Node, Status};
+use game_rules::Deed;
 use std::alloc::Allocator;
 
 impl<'t, T: Allocator, A: Allocator> Machine<'t, T, A> {
-    // Ticks a condition or a `Wait`. None for any other node, which is not ticked.
+    // Ticks a leaf that wants nothing now, or a `Wait`. None for any other node, which is not ticked.
     #[inline(always)]
     fn leaf_at_once(
         &mut self,
@@ -40,9 +42,9 @@ impl<'t, T: Allocator, A: Allocator> Machine<'t, T, A> {
         if let Node::Wait(most) = node {
             return Some(self.wait(number, *most));
         }
-        match condition(view, nearest, node) {
-            Some(holds) => Some(status_of(holds)),
-            None => None,
+        match deed(view, nearest, node) {
+            Some(Deed::Says(holds)) => Some(status_of(holds)),
+            _ => None,
         }
     }
 
@@ -83,8 +85,8 @@ impl<'t, T: Allocator, A: Allocator> Machine<'t, T, A> {
         Some((status, number + 2))
     }
 
-    // Ticks a condition, a `Wait`, a `Not` or a `Ticks` over one of these, or a `Ticks` that is over: its status, and the number
-    // after its last node. None for any other node, which is not ticked.
+    // Ticks a leaf that wants nothing now, a `Wait`, a `Not` or a `Ticks` over one of these, or a `Ticks` that is over: its
+    // status, and the number after its last node. None for any other node, which is not ticked.
     #[inline(always)]
     pub(crate) fn at_once(
         &mut self,

@@ -1,22 +1,19 @@
 // What a node does when it is ticked.
 
-ghost use Rattle.std.specs.Prelude.{◌≡◌, ◌<◌, ◌≤◌, ◌+◌, ◌*◌, ◌++◌, ◌∷◌, [], false, length, IfOk};
+ghost use Rattle.std.specs.Prelude.{◌≡◌, ◌<◌, ◌≤◌, ◌+◌, ◌*◌, ◌++◌, ◌∷◌, [], false, length, None, IfOk};
 ghost use Rattle.bt_nodes.specs.Plain.{plain};
 ghost use Rattle.bt_nodes.specs.Sizes.{size};
-ghost use Rattle.game_rules.specs.View.{View as PlainView};
-ghost use Rattle.game_rules.specs.Tick.{act, tick};
-ghost use Rattle.bt_tick.specs.Kinds.{IsPar, is_move, is_condition};
+ghost use Rattle.game_rules.specs.Tick.{tick};
+ghost use Rattle.bt_tick.specs.Kinds.{IsPar, is_move};
+ghost use Rattle.bt_tick.specs.Deeds.{deed_of};
 ghost use Rattle.bt_tick.specs.Places.{Sits, Nested, weight_all};
 ghost use Rattle.bt_tick.specs.Machine.{opens, Keeps, whole_of, Placed, weight};
 ghost use Rattle.bt_tick.specs.Views.{view_of, IsInWorld};
 
-use crate::action::action;
-use crate::condition::status_of;
 use crate::machine::{Machine, Mode};
 use crate::view::View;
 use bt_nodes::{Node, Status};
 use fiber_stack::Frame;
-use game_rules::Deed;
 use grid_world::Intent;
 use std::alloc::{AllocError, Allocator};
 
@@ -33,26 +30,7 @@ impl<'t, T: Allocator, A: Allocator + Clone> Machine<'t, T, A> {
         Ok(())
     }
 
-    // Gives the status of an action that comes to this, and adds what it wants to the wants of the tick. The number is the one after
-    // it.
-    #[inline(always)]
-    fn act(&mut self, deed: Deed, after: u64) -> Result<Mode<'t, T>, AllocError>
-        requires { Nested (whole_of self.old) after (opens self.old.stack) }
-        ensures keeps { (v : PlainView) → IfOk result (λ m. Keeps v self.new m self.old self.old.stack (act deed)) }
-        ensures placed { IfOk result (λ m. Placed self.new m) }
-        ensures falls { IfOk result (λ m. weight self.new m ≡ 1 + weight_all (opens self.old.stack)) }
-        ensures tree { self.new.tree ≡ self.old.tree }
-    {
-        match deed {
-            Deed::Says(holds) => Ok(Mode::Up(status_of(holds), after)),
-            Deed::Wants(intent) => {
-                self.want(intent)?;
-                Ok(Mode::Up(Status::Running, after))
-            }
-        }
-    }
-
-    // Ticks a node other than a `Par`, a `Move` or a condition: opens it and begins a child, or takes its status at once.
+    // Ticks a node with children other than a `Par`, or a `Wait`: opens it and begins a child, or takes its status at once.
     #[inline(always)]
     pub(crate) fn descend(
         &mut self,
@@ -63,7 +41,7 @@ impl<'t, T: Allocator, A: Allocator + Clone> Machine<'t, T, A> {
         requires view { IsInWorld view.now }
         requires no_par { IsPar (plain node.now) → ⊥ }
         requires no_move { is_move (plain node.now) ≡ false }
-        requires no_condition { is_condition (plain node.now) ≡ false }
+        requires no_leaf { deed_of (view_of view.now) (plain node.now) ≡ None }
         requires sits { Sits (whole_of self.old) number (plain node.now) }
         requires deep { length self.old.stack ≤ number }
         requires nested { Nested (whole_of self.old) (number + size (plain node.now)) (opens self.old.stack) }
@@ -121,7 +99,7 @@ impl<'t, T: Allocator, A: Allocator + Clone> Machine<'t, T, A> {
                 let status = self.wait(number, *most);
                 Ok(Mode::Up(status, after))
             }
-            _ => self.act(action(view, node), after),
+            _ => unreachable!(),
         }
     }
 }

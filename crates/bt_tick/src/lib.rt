@@ -1,10 +1,9 @@
 //! Ticks of behaviour trees that can be cut at any path question.
 #![tactic(auto)]
 
-mod action;
 mod ascend;
 mod at_once;
-mod condition;
+mod deed;
 mod descend;
 mod fault;
 mod fits;

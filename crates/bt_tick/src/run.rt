@@ -9,7 +9,7 @@ ghost use Rattle.bt_tick.specs.Views.{view_of, IsInWorld};
 ghost use Rattle.bt_tick.specs.Machine.{Placed, with_parts};
 ghost use Rattle.bt_tick.specs.Outcome.{means, place_of, tree_of, machine_left, ComesTo, IsOutcome, IsOfTree};
 
-use crate::condition::{condition, status_of};
+use crate::deed::{deed, status_of};
 use crate::fault::TickFault;
 use crate::machine::{Machine, Mode};
 use crate::memory::Memory;
@@ -18,6 +18,7 @@ use crate::tick::{Outcome, Pending};
 use crate::view::View;
 use bt_nodes::{Node, Status, Tree};
 use fiber_stack::{Frame, Stack};
+use game_rules::Deed;
 use grid_world::{Answer, Intent};
 use std::alloc::{AllocError, Allocator};
 
@@ -93,9 +94,15 @@ fn run<'t, T: Allocator, A: Allocator + Clone>(
                         },
                     });
                 }
-                if let Some(holds) = condition(view, &mut nearest, node) {
+                if let Some(deed) = deed(view, &mut nearest, node) {
                     let after = number + 1;
-                    mode = Mode::Up(status_of(holds), after);
+                    match deed {
+                        Deed::Says(holds) => mode = Mode::Up(status_of(holds), after),
+                        Deed::Wants(intent) => {
+                            machine.want(intent)?;
+                            mode = Mode::Up(Status::Running, after);
+                        }
+                    }
                 } else if let Node::Par(_, _) = node {
                     mode = machine.open_par(view, &mut nearest, node, number)?;
                 } else {

@@ -1,7 +1,7 @@
 use Rattle.std.proofs.Common.{refl, ap, sym, subst, ◌∙◌, arith, []}
-use Rattle.std.specs.Prelude.{◌≡◌, Some, IfSome}
+use Rattle.std.specs.Prelude.{◌≡◌, Some}
 use Rattle.bt_nodes.specs.Plain.{plain}
-use Rattle.game_rules.specs.declared.deed.Deed.TheVariants.{Says}
+use Rattle.game_rules.specs.declared.deed.Deed.TheVariants.{Says, Wants}
 use Rattle.game_rules.specs.Tick.{gives}
 use Rattle.bt_tick.specs.Suspended.{unwind}
 use Rattle.bt_tick.specs.Views.{view_of}
@@ -9,7 +9,7 @@ use Rattle.bt_tick.specs.Deeds.{deed_of}
 use Rattle.bt_tick.specs.Machine.{opens, with_parts, whole_of, Placed}
 use Rattle.bt_tick.specs.declared.machine.Mode.TheVariants.{Down}
 use Rattle.bt_tick.specs.Outcome.{fresh, machine_left}
-use Rattle.bt_tick.proofs.Beginning.{acts_alone, says, answered_nested}
+use Rattle.bt_tick.proofs.Beginning.{acts, acts_alone, says, answered_nested, wanted_keeps}
 use Rattle.bt_tick.proofs.Opening.{down_within, placed_by}
 use Rattle.bt_tick.proofs.run.run.Goals as goal
 
@@ -19,7 +19,7 @@ overflow_add-after g c = omega (arith, down_within c.loop-mode.machine c.loop-mo
 pub loop-mode-preserved-in_default-node : goal.loop-mode-preserved-in_default-node
 loop-mode-preserved-in_default-node g c = record {
   placed = c.in_ok-mode-in-Down-2.ensures.placed;
-  nearest = c.condition.ensures.nearest;
+  nearest = c.deed.ensures.nearest;
   tree = c.in_ok-mode-in-Down-2.ensures.tree ∙ c.loop-mode.invariant.tree;
   keeps = λ more.
       c.in_ok-mode-in-Down-2.ensures.keeps (fresh [] [] more)
@@ -64,18 +64,37 @@ loop-mode-preserved-in-Par-node g c =
           ∙ ap (λ md. machine_left v m md more) (sym c.in-Up.is) ∙ c.loop-mode.invariant.keeps more;
     }
 
-pub loop-mode-preserved-in-Some : goal.loop-mode-preserved-in-Some
-loop-mode-preserved-in-Some g c =
+pub loop-mode-preserved-in-Says : goal.loop-mode-preserved-in-Says
+loop-mode-preserved-in-Says g c =
     let v = view_of c.args.view.now in
     let m = c.loop-mode.machine in
     let p = plain c.in-Down.node.now in
-    let is : deed_of v p ≡ Some (Says c.in-Some.holds) = subst (λ r. IfSome r (λ holds. deed_of v p ≡ Some (Says holds))) c.in-Some.is c.condition.ensures.says in
+    let is : deed_of v p ≡ Some (Says c.in-Says.holds) = sym c.deed.ensures.deed ∙ c.in-Some.is ∙ ap Some c.in-Says.is in
     let was : Placed m (Down c.in-Down.node c.in-Down.number) = subst (Placed m) c.in-Down.is c.loop-mode.invariant.placed in
     record {
-      placed = placed_by m _ _ m.stack refl refl (answered_nested (whole_of m) _ c.in-Down.number p (opens m.stack) (omega (arith, acts_alone v p (Says c.in-Some.holds) is)) was.nested) tt;
-      nearest = c.condition.ensures.nearest;
+      placed = placed_by m _ _ m.stack refl refl (answered_nested (whole_of m) _ c.in-Down.number p (opens m.stack) (omega (arith, acts_alone v p (Says c.in-Says.holds) is)) was.nested) tt;
+      nearest = c.deed.ensures.nearest;
       tree = c.loop-mode.invariant.tree;
       keeps = λ more.
-          ap (unwind v (opens m.stack)) (says v p c.in-Down.number (with_parts m.memory m.wants.items (fresh [] [] more)) c.in-Some.holds c.status_of.result is c.status_of.ensures)
+          ap (unwind v (opens m.stack)) (says v p c.in-Down.number (with_parts m.memory m.wants.items (fresh [] [] more)) c.in-Says.holds c.status_of.result is c.status_of.ensures)
+          ∙ ap (λ md. machine_left v m md more) (sym c.in-Down.is) ∙ c.loop-mode.invariant.keeps more;
+    }
+
+pub loop-mode-preserved-in-Wants : goal.loop-mode-preserved-in-Wants
+loop-mode-preserved-in-Wants g c =
+    let v = view_of c.args.view.now in
+    let m = c.loop-mode.machine in
+    let new = c.want.new.self in
+    let p = plain c.in-Down.node.now in
+    let i = c.in-Wants.intent in
+    let is : deed_of v p ≡ Some (Wants i) = sym c.deed.ensures.deed ∙ c.in-Some.is ∙ ap Some c.in-Wants.is in
+    let was : Placed m (Down c.in-Down.node c.in-Down.number) = subst (Placed m) c.in-Down.is c.loop-mode.invariant.placed in
+    record {
+      placed = placed_by m new _ m.stack c.in_ok-want-in-Wants.ensures.tree c.in_ok-want-in-Wants.ensures.stack (answered_nested (whole_of m) _ c.in-Down.number p (opens m.stack) (omega (arith, acts_alone v p (Wants i) is)) was.nested) tt;
+      nearest = c.deed.ensures.nearest;
+      tree = c.in_ok-want-in-Wants.ensures.tree ∙ c.loop-mode.invariant.tree;
+      keeps = λ more.
+          wanted_keeps m new i c.in_ok-want-in-Wants.ensures.stack c.in_ok-want-in-Wants.ensures.memory c.in_ok-want-in-Wants.ensures.wants v (fresh [] [] more)
+          ∙ ap (unwind v (opens m.stack)) (acts v p c.in-Down.number (with_parts m.memory m.wants.items (fresh [] [] more)) (Wants i) is)
           ∙ ap (λ md. machine_left v m md more) (sym c.in-Down.is) ∙ c.loop-mode.invariant.keeps more;
     }

@@ -12,7 +12,7 @@ use Rattle.bt_tick.specs.Views.{view_of}
 use Rattle.bt_tick.specs.Machine.{opened, opens, whole_of, with_parts}
 use Rattle.bt_tick.proofs.Trees.{size-children}
 use Rattle.bt_tick.proofs.Opening.{if_ok, first_rests, only_stands, placed_by}
-use Rattle.bt_tick.proofs.Beginning.{plain-Wait, line_begins, not_begins, tries_begins, tries_over, ticks_begins, ticks_over, ticks_as, acts, acts_alone, answered_nested, answered_falls}
+use Rattle.bt_tick.proofs.Beginning.{plain-Wait, line_begins, not_begins, tries_begins, tries_over, ticks_begins, ticks_over, ticks_as, answered_nested, answered_falls}
 use Rattle.bt_tick.proofs.machine.Machine.descend.Goals as goal
 
 pub open_list-requires : goal.open_list-requires
@@ -166,17 +166,3 @@ returns-in-Wait-clause-keeps g c s =
     ap (λ fs. unwind v (opens fs) (gives st (with_parts now.memory now.wants.items s))) c.wait-status.ensures.stack
     ∙ ap (λ w. unwind v (opens old.stack) (gives st (with_parts now.memory w.items s))) c.wait-status.ensures.wants
     ∙ ap (unwind v (opens old.stack)) (c.wait-status.ensures.ticks v s ∙ ticks_as v (plain c.args.node.now) c.args.number (with_parts old.memory old.wants.items s) (Wait c.in-Wait.most) (ap plain c.in-Wait.is ∙ plain-Wait _ c.in-Wait.most))
-
-pub act-requires : goal.act-requires
-act-requires g c = answered_nested (whole_of c.args.self.now) _ c.args.number (plain c.args.node.now) (opens c.args.self.now.stack) (omega (arith, acts_alone (view_of c.args.view.now) (plain c.args.node.now) c.action.result c.action.ensures)) c.requires.nested
-
-pub returns-in_default : goal.returns-in_default
-returns-in_default g c =
-    let v = view_of c.args.view.now in
-    let now = c.args.self.now in
-    record {
-      keeps = if_ok c.act.result (λ m h s. h s ∙ ap (unwind v (opens now.stack)) (acts v (plain c.args.node.now) c.args.number (with_parts now.memory now.wants.items s) c.action.result c.action.ensures)) (c.act.ensures.keeps v);
-      placed = c.act.ensures.placed;
-      falls = if_ok c.act.result (λ m h. omega (arith, h, size-children (plain c.args.node.now))) c.act.ensures.falls;
-      tree = c.act.ensures.tree;
-    }
