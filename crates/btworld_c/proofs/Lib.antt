@@ -1,5 +1,13 @@
 pub mod Told
+pub mod Cells
+pub mod Frames
+pub mod Many
+pub mod Looks
+pub mod NameLines
+pub mod Intents
+pub mod Actors
 pub mod Values
 pub mod HandleValues
 pub mod ScriptText
 pub mod NotReplayed
+pub mod Explained

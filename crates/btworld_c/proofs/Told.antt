@@ -16,7 +16,7 @@ use Rattle.stepping.specs.StateText.{IsNoText}
 use Rattle.stepping.specs.declared.load_fault.LoadFault.{LoadFault}
 use Rattle.stepping.specs.declared.load_fault.LoadFault.TheVariants as loads
 use Rattle.btworld_c.specs.Statuses.{no_memory, taken, fault_status, spelled_status, script_status, session_status, load_status, IsLevelStatus, IsSessionStatus, IsStateFault}
-use Rattle.btworld_c.specs.Games.{IsOpenStatus, IsOpenBesideStatus, IsUnloadable, IsLoadStatus}
+use Rattle.btworld_c.specs.Games.{IsOpenStatus, IsOpenBesideStatus, IsUnloadable, IsUnloadableBeside, IsLoadStatus, IsLoadBesideStatus}
 
 named_told : (right : Result Parts Fault) (f : Option Fault) (status : ℕ) → Names f right → status ≡ fault_status f → (status ≡ no_memory) ⊎ (status ≡ spelled_status right)
 named_told right None status n e = inl e
@@ -92,3 +92,32 @@ load_refused bytes text level status spells (inr is) = inr (record { level = lev
 
 pub load_done : (bytes text : List ℕ) (level : Parts) (status : ℕ) → spelled bytes ≡ Ok level → status ≡ 0 → IsLevelStatus bytes status ⊎ IsUnloadable bytes text status
 load_done bytes text level status spells e = inl (inr (e ∙ sym (ap spelled_status spells)))
+
+-- ---- a level, a script and a state
+
+pub load_beside_told : (bytes script text : List ℕ) (held : Option Played) (is_open : Bool) (status : ℕ) → is_open ≡ is_some held → is_open ≡ false
+    → IsSessionStatus bytes script status ⊎ IsUnloadableBeside bytes script text status → IsLoadBesideStatus bytes script text held status
+load_beside_told bytes script text None is_open status says closed told = told
+load_beside_told bytes script text (Some game) is_open status says closed told = absurd (both_ways is_open closed says)
+
+pub load_beside_taken_told : (bytes script text : List ℕ) (held : Option Played) (is_open : Bool) (status : ℕ) → is_open ≡ is_some held → is_open ≡ true
+    → status ≡ taken → IsLoadBesideStatus bytes script text held status
+load_beside_taken_told bytes script text None is_open status says open_now e = absurd (both_ways is_open says open_now)
+load_beside_taken_told bytes script text (Some game) is_open status says open_now e = e
+
+-- a fault of the level or the script
+pub session_refused : (bytes script text : List ℕ) (status : ℕ) → IsSessionStatus bytes script status
+    → IsSessionStatus bytes script status ⊎ IsUnloadableBeside bytes script text status
+session_refused bytes script text status is = inl is
+
+-- why a level's game was not loaded beside a script
+pub load_beside_refused : (bytes script text : List ℕ) (level : Parts) (changes : List Change) (status : ℕ) → spelled bytes ≡ Ok level → script_of script ≡ Ok changes
+    → (status ≡ no_memory) ⊎ (IsStateFault status × IsNoText (game_of level []) text)
+    → IsSessionStatus bytes script status ⊎ IsUnloadableBeside bytes script text status
+load_beside_refused bytes script text level changes status spells spells_script (inl e) = inl (inl e)
+load_beside_refused bytes script text level changes status spells spells_script (inr is) =
+    inr (record { changes = changes; spells_script = spells_script; of_level = record { level = level; spells = spells; no_state = is.1; fault = is.0 } })
+
+pub load_beside_done : (bytes script text : List ℕ) (level : Parts) (changes : List Change) (status : ℕ) → spelled bytes ≡ Ok level → script_of script ≡ Ok changes
+    → status ≡ 0 → IsSessionStatus bytes script status ⊎ IsUnloadableBeside bytes script text status
+load_beside_done bytes script text level changes status spells spells_script e = inl (both_told bytes script level changes status spells spells_script e)

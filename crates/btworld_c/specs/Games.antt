@@ -6,7 +6,7 @@ use Rattle.game_session.specs.Sessions.{game_of}
 use Rattle.level_text.specs.Levels.{spelled}
 use Rattle.level_text.specs.Scripts.{script_of}
 use Rattle.stepping.specs.Played.{Played, opened, bits, scripted_signals, IsRefused, IsStepped}
-use Rattle.stepping.specs.StateText.{state_text, IsNoText}
+use Rattle.stepping.specs.StateText.{state_text, IsNoText, IsState}
 use Rattle.btworld_c.specs.Statuses.{taken, IsLevelStatus, IsSessionStatus, IsStateFault}
 
 -- it is the game of the level that bytes spell, before the first frame, with an empty script beside it
@@ -40,6 +40,7 @@ pub record IsLoaded (bytes text : List ℕ) (held : Option Played) : Type 0 wher
   pub plays : game.game ≡ game_of level game.game.changes
   pub tells : state_text game ≡ text
   pub no_script : game.script ≡ []
+  pub stands : IsState game
   pub is : held ≡ Some game
 
 -- the bytes spell a level, and the text is that of no state of it
@@ -49,10 +50,35 @@ pub record IsUnloadable (bytes text : List ℕ) (status : ℕ) : Type 0 where
   pub no_state : IsNoText (game_of level []) text
   pub fault : IsStateFault status
 
+-- the bytes spell a level and a script, and the text is that of no state of the level
+pub record IsUnloadableBeside (bytes script text : List ℕ) (status : ℕ) : Type 0 where
+  pub changes : List Change
+  pub spells_script : script_of script ≡ Ok changes
+  pub of_level : IsUnloadable bytes text status
+
 -- what loading answers: that a game is there already, or how the bytes are as a level, or why the text is not loaded
 abbrev pub IsLoadStatus : (bytes text : List ℕ) → Option Played → ℕ → Type 0
 IsLoadStatus bytes text None status = IsLevelStatus bytes status ⊎ IsUnloadable bytes text status
 IsLoadStatus bytes text (Some game) status = status ≡ taken
+
+-- it is the game of the level that bytes spell, in the state whose text this is, with the script beside it that bytes spell
+pub record IsLoadedBeside (bytes script text : List ℕ) (held : Option Played) : Type 0 where
+  pub level : Parts
+  pub changes : List Change
+  pub game : Played
+  pub spells : spelled bytes ≡ Ok level
+  pub spells_script : script_of script ≡ Ok changes
+  pub plays : game.game ≡ game_of level game.game.changes
+  pub tells : state_text game ≡ text
+  pub beside : game.script ≡ changes
+  pub stands : IsState game
+  pub is : held ≡ Some game
+
+-- what loading with a script answers: that a game is there already, or how the bytes are as a level and a script, or why the text is
+-- not loaded, where they spell both
+abbrev pub IsLoadBesideStatus : (bytes script text : List ℕ) → Option Played → ℕ → Type 0
+IsLoadBesideStatus bytes script text None status = IsSessionStatus bytes script status ⊎ IsUnloadableBeside bytes script text status
+IsLoadBesideStatus bytes script text (Some game) status = status ≡ taken
 
 -- a game was held, and is a frame on, in which the signals were on whose bits are
 abbrev pub IsSteppedIn : ℕ → Option Played → Option Played → Type 0

@@ -1,10 +1,12 @@
 -- What is read of the map of a handle's game.
-use Rattle.std.specs.Prelude.{ℕ, ◌≡◌, ◌+◌, true, false, length, Option, Some, None}
-use Rattle.grid_world.specs.Grid.{Grid, Point, is_on_map, cell_at, has_item, agent_on}
+use Rattle.std.specs.Prelude.{ℕ, ◌≡◌, ◌+◌, ◌*◌, true, false, List, length, map, Option, Some, None, IsSomeAnd}
+use Rattle.std.specs.List.{range_with_len}
+use Rattle.grid_world.specs.Grid.{Grid, Point, point_at, is_on_map, cell_at, has_item, agent_on}
 use Rattle.grid_world.specs.World.{point}
 use Rattle.grid_world.specs.declared.cell.Cell.{Cell}
 use Rattle.grid_world.specs.declared.cell.Cell.TheVariants.{Wall, Floor, Door, Spot}
 use Rattle.stepping.specs.Played.{Played}
+use Rattle.btworld_c.specs.Buffers.{IsFilled, IsShort}
 use Rattle.btworld_c.specs.declared.game.CellState.{CellState}
 
 -- the world after the frame
@@ -45,3 +47,17 @@ IsCell (Some p) x y told = (is_on_map (world_of p) (point x y) ≡ true) × (tol
 abbrev pub IsOffMap : Option Played → (x y : ℕ) → Type 0
 IsOffMap None x y = ⊥
 IsOffMap (Some p) x y = is_on_map (world_of p) (point x y) ≡ false
+
+-- ---- all cells
+
+-- row after row
+abbrev pub cells_told : Grid → List CellState
+cells_told w = map (λ number. cell_told w (point_at w number)) (range_with_len 0 (w.width * w.height))
+
+-- all cells of the held game after its frame stand at the start of a buffer, which is kept behind them
+abbrev pub AreCells : Option Played → ℕ → (old new : List CellState) → Type 0
+AreCells held size old new = IsSomeAnd held (λ p. IsFilled (cells_told (world_of p)) size old new)
+
+-- they are so many, and more than fit in a buffer
+abbrev pub AreTooManyCells : Option Played → ℕ → List CellState → Type 0
+AreTooManyCells held size buffer = IsSomeAnd held (λ p. IsShort (cells_told (world_of p)) size buffer)

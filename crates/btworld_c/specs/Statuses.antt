@@ -51,6 +51,10 @@ off_map = 8
 abbrev pub long : ℕ
 long = 9
 
+-- the map has no such place
+abbrev pub beyond_places : ℕ
+beyond_places = 10
+
 -- ---- what a call on a handle may answer
 
 abbrev pub IsStepStatus : ℕ → Type 0
@@ -61,6 +65,9 @@ IsTextStatus status = (status ≡ done) ⊎ ((status ≡ closed) ⊎ ((status �
 
 abbrev pub IsAgentStatus : ℕ → Type 0
 IsAgentStatus status = (status ≡ done) ⊎ ((status ≡ closed) ⊎ ((status ≡ no_frame) ⊎ (status ≡ beyond_agents)))
+
+abbrev pub IsLookStatus : ℕ → Type 0
+IsLookStatus status = (status ≡ done) ⊎ ((status ≡ closed) ⊎ (status ≡ short))
 
 abbrev pub IsStateStatus : ℕ → Type 0
 IsStateStatus status = (status ≡ done) ⊎ ((status ≡ closed) ⊎ ((status ≡ no_memory) ⊎ (status ≡ short)))
@@ -73,6 +80,15 @@ IsSignalsStatus status = (status ≡ done) ⊎ ((status ≡ closed) ⊎ (status 
 
 abbrev pub IsMemoryStatus : ℕ → Type 0
 IsMemoryStatus status = (status ≡ done) ⊎ ((status ≡ closed) ⊎ ((status ≡ beyond_agents) ⊎ ((status ≡ no_memory) ⊎ (status ≡ short))))
+
+abbrev pub IsTickStatus : ℕ → Type 0
+IsTickStatus status = (status ≡ last_frame) ⊎ IsMemoryStatus status
+
+abbrev pub IsWayStatus : ℕ → Type 0
+IsWayStatus status = (status ≡ done) ⊎ ((status ≡ closed) ⊎ ((status ≡ beyond_agents) ⊎ ((status ≡ beyond_places) ⊎ (status ≡ no_memory))))
+
+abbrev pub IsIntentStatus : ℕ → Type 0
+IsIntentStatus status = (status ≡ done) ⊎ ((status ≡ closed) ⊎ ((status ≡ beyond_agents) ⊎ ((status ≡ last_frame) ⊎ (status ≡ no_memory))))
 
 abbrev pub IsScriptStatus : ℕ → Type 0
 IsScriptStatus status = (status ≡ done) ⊎ ((status ≡ closed) ⊎ ((status ≡ long) ⊎ ((status ≡ no_memory) ⊎ (status ≡ short))))

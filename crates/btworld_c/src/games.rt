@@ -78,7 +78,7 @@ pub extern "C" fn btworld_open_script(
     }
 }
 
-fn step_held(alloc: Global, held: &mut Stepping, mask: u32) -> u32
+pub(crate) fn step_held(alloc: Global, held: &mut Stepping, mask: u32) -> u32
     ensures ok { result ≡ done → IsStepped (bits 26 mask) held.old held.new }
     ensures refused { result ≢ done → IsRefused (bits 26 mask) held.old held.new }
     ensures held { result ≢ closed }

@@ -1,9 +1,9 @@
 // What a caller reads of a game's map. No reading changes the game.
-ghost use Rattle.std.specs.Prelude.{◌≡◌, ◌≢◌, ◌⊎◌, ◌<◌, Some, None, IfSome, IfNone, length, position};
-ghost use Rattle.grid_world.specs.Grid.{point_of, same_point};
+ghost use Rattle.std.specs.Prelude.{◌≡◌, ◌≢◌, ◌⊎◌, ◌<◌, Some, None, IfSome, IfNone, length, position, true, false};
+ghost use Rattle.grid_world.specs.Grid.{point_of, same_point, is_on_map};
 ghost use Rattle.grid_world.specs.World.{point};
 ghost use Rattle.btworld_c.specs.Statuses.{done, closed, off_map, IsCellStatus};
-ghost use Rattle.btworld_c.specs.Maps.{IsMap, IsCell, IsOffMap, mark_told, agent_number};
+ghost use Rattle.btworld_c.specs.Maps.{IsMap, IsCell, IsOffMap, mark_told, agent_number, cell_told};
 
 use crate::game::{CellState, Game, read};
 use crate::status::{CLOSED, NO_CELL, OK};
@@ -74,18 +74,26 @@ fn agent_number(world: &World, x: u32, y: u32) -> u8
     }
 }
 
-// A cell after the frame, if the map has it.
-fn cell_at(held: &Stepping, x: u32, y: u32) -> Option<CellState>
-    ensures cell { IfSome result (IsCell (Some held.now) x y) }
-    ensures off { IfNone result (IsOffMap (Some held.now) x y) }
+// A cell of a world, if the map has it.
+pub(crate) fn cell_in(world: &World, x: u32, y: u32) -> Option<CellState>
+    ensures on { IfSome result (λ cell. is_on_map world.now (point x y) ≡ true) }
+    ensures cell { IfSome result (λ cell. cell ≡ cell_told world.now (point x y)) }
+    ensures off { IfNone result (is_on_map world.now (point x y) ≡ false) }
 {
-    let world = held.world();
     let cell = world.cell(x, y)?;
     Some(CellState {
         mark: mark_of(cell),
         item: world.has_item(x, y),
         agent: agent_number(world, x, y),
     })
+}
+
+// A cell after the frame, if the map has it.
+fn cell_at(held: &Stepping, x: u32, y: u32) -> Option<CellState>
+    ensures cell { IfSome result (IsCell (Some held.now) x y) }
+    ensures off { IfNone result (IsOffMap (Some held.now) x y) }
+{
+    cell_in(held.world(), x, y)
 }
 
 /// What lies and stands on a cell after the frame, at a column from the left and a row from the top, both from 0. The status is

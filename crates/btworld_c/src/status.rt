@@ -27,6 +27,8 @@ pub(crate) const NO_CELL: u32 = 8;
 
 pub(crate) const LONG: u32 = 9;
 
+pub(crate) const NO_PLACE: u32 = 10;
+
 pub(crate) const ILLEGAL_EVENT: u32 = 50;
 
 pub(crate) const INCOMPLETE: u32 = 51;

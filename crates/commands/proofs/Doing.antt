@@ -1,35 +1,39 @@
 -- What the program has written for words that name files.
-use Rattle.std.proofs.Common.{◌≡◌, ℕ, List, [], Option, Some, None, inl, inr, refl, sym, subst, append-nil}
-use Rattle.std.specs.Prelude.{⊤, MatchOption, IsSomeAnd, Result, Ok, Err, OnOk, OnErr, string_bytes}
-use Rattle.std.specs.Io.KnownBytes.{Keeps}
+use Rattle.std.proofs.Common.{◌≡◌, ◌∙◌, ℕ, List, [], Option, Some, None, inl, inr, refl, sym, ap, subst, append-nil, codes}
+use Rattle.std.specs.Prelude.{⊤, String, MatchOption, IsSomeAnd, IsOkAnd, IsErr, IfOk, Result, Ok, Err, OnOk, OnErr, string_bytes}
+use Rattle.std.specs.Io.KnownBytes.{Appends, Keeps}
 use Rattle.byte_streams.specs.Streams.{AppendsPart}
 use Rattle.game_rules.specs.Game.{Game}
 use Rattle.game_rules.specs.Text.{texts}
+use Rattle.game_session.specs.Parts.{Parts}
+use Rattle.game_session.specs.Faults.{Fault as LevelFault}
 use Rattle.level_text.specs.Games.{spelled_game}
+use Rattle.level_text.specs.Levels.{spelled}
 use Rattle.words.specs.declared.request.Words.{Words}
 use Rattle.words.specs.declared.request.Words.TheVariants.{Piped, Play, Replay, Check, Explain, Digest, State, Why, Complete, Record}
-use Rattle.words.specs.Program.{IsReading, AsksToPlay, AsksToReplay, AsksToExplain, AsksToDigest, AsksForState, AsksWhy, AsksToComplete, AsksToRecord}
-use Rattle.words.proofs.Asked.{read_as_play, read_as_replay, read_as_explain, read_as_digest, read_as_state, read_as_why, read_as_complete, read_as_record}
+use Rattle.clap.specs.Words.{Row, Text}
+use Rattle.words.specs.Program.{IsReading, Enters, IsOptional, AsksToPlay, AsksToReplay, AsksToCheck, AsksToExplain, AsksToDigest, AsksForState, AsksWhy, AsksToComplete, AsksToRecord}
+use Rattle.words.proofs.Asked.{read_as_play, read_as_replay, read_as_check, read_as_explain, read_as_digest, read_as_state, read_as_why, read_as_complete, read_as_record}
 use Rattle.words.specs.declared.program_fault.Fault.{Fault}
 use Rattle.words.specs.Faults.{status_in}
 use Rattle.words.proofs.Statuses.{ok_at_zero}
-use Rattle.commands.specs.Texts.{digests_text}
+use Rattle.commands.specs.Texts.{check_line, digests_text}
 use Rattle.commands.specs.Why.{why_text, agent_of_letter}
-use Rattle.commands.specs.Written.{WritesSome, WritesPart, CompletesSome, CompletesSomePart}
+use Rattle.commands.specs.Written.{WritesSome, WritesPart, CompletesSome, CompletesSomePart, IsScriptOf, path_of}
 use Rattle.commands.proofs.Written.{some_part, writes_part, completes_part}
 use Rattle.stepping.specs.StateText.{scripted_state_text}
-use Rattle.commands.specs.Doing.{PlaysSome, PlaysPart, ReplaysSome, ReplaysPart, ExplainsSome, AsksNoReason, IsDone, IsPartDone}
+use Rattle.commands.specs.Doing.{PlaysSome, PlaysPart, ReplaysSome, ReplaysPart, ChecksSome, ChecksPart, ExplainsSome, AsksNoReason, IsDone, IsPartDone, script_in, script_named}
 use Rattle.commands.specs.Replaying.{Shows, ShowsPart}
 
 -- ---- playing
 
-pub played_part : (old new : Option (List ℕ)) (level script : List ℕ) (n : ℕ)
-    → MatchOption (spelled_game level script) (Keeps old new) (λ g. AppendsPart old new (texts g n)) → PlaysPart old new n
-played_part old new level script n h = some_part (λ g. texts g n) old new level script h
+pub played_part : (old new path : Option (List ℕ)) (level script : List ℕ) (n : ℕ) → IsScriptOf path script
+    → MatchOption (spelled_game level script) (Keeps old new) (λ g. AppendsPart old new (texts g n)) → PlaysPart old new path n
+played_part old new path level script n read h = some_part (λ g. texts g n) old new path level script read h
 
 -- all that is done is a part
-pub plays_part : (old new : Option (List ℕ)) (n : ℕ) → PlaysSome old new n → PlaysPart old new n
-plays_part old new n h = writes_part (λ g. texts g n) old new h
+pub plays_part : (old new path : Option (List ℕ)) (n : ℕ) → PlaysSome old new path n → PlaysPart old new path n
+plays_part old new path n h = writes_part (λ g. texts g n) old new path h
 
 -- ---- replaying
 
@@ -52,17 +56,36 @@ shows_part old new log (Some g) h =
 pub replays_part : (old new : Option (List ℕ)) → ReplaysSome old new → ReplaysPart old new
 replays_part old new h = inr (h.0, h.1, h.2, shows_part old new h.2 (spelled_game h.0 h.1) h.3)
 
+-- ---- checking
+
+some_checked : (old new : Option (List ℕ)) (level : List ℕ) (read : Result Parts LevelFault) → spelled level ≡ read
+    → IfOk read (λ l. AppendsPart old new (check_line l)) → (IsErr read → Keeps old new) → ChecksPart old new
+some_checked old new level (Ok l) e part kept = inr (level, subst (λ r. IsOkAnd r (λ l. AppendsPart old new (check_line l))) (sym e) part)
+some_checked old new level (Err f) e part kept = inl (kept refl)
+
+pub checked_part : (old new : Option (List ℕ)) (level : List ℕ) → IfOk (spelled level) (λ l. AppendsPart old new (check_line l)) → (IsErr (spelled level) → Keeps old new)
+    → ChecksPart old new
+checked_part old new level part kept = some_checked old new level (spelled level) refl part kept
+
+all_checked : (old new : Option (List ℕ)) (read : Result Parts LevelFault) → IsOkAnd read (λ l. Appends old new (check_line l))
+    → IsOkAnd read (λ l. AppendsPart old new (check_line l))
+all_checked old new (Ok l) h = (check_line l, [], sym (append-nil (check_line l)), h)
+all_checked old new (Err f) h = absurd h
+
+checks_part : (old new : Option (List ℕ)) → ChecksSome old new → ChecksPart old new
+checks_part old new h = inr (h.0, all_checked old new (spelled h.0) h.1)
+
 done_in_part : (old new : Option (List ℕ)) (w : Words) → IsDone old new w → IsPartDone old new w
 done_in_part old new Piped h = tt
-done_in_part old new (Play level settings script log) h = plays_part old new settings.frames h
+done_in_part old new (Play level settings script log) h = plays_part old new (path_of script) settings.frames h
 done_in_part old new (Replay level log script) h = replays_part old new h
-done_in_part old new (Check level) h = tt
+done_in_part old new (Check level) h = checks_part old new h
 done_in_part old new (Explain level script log) h = tt
-done_in_part old new (Digest level frames script) h = writes_part (λ g. digests_text g frames) old new h
-done_in_part old new (State level frame script) h = writes_part (λ g. scripted_state_text g frame) old new h
-done_in_part old new (Why level frame agent script) h = writes_part (λ g. why_text g frame (agent_of_letter (string_bytes agent))) old new h
+done_in_part old new (Digest level frames script) h = writes_part (λ g. digests_text g frames) old new (path_of script) h
+done_in_part old new (State level frame script) h = writes_part (λ g. scripted_state_text g frame) old new (path_of script) h
+done_in_part old new (Why level frame agent script) h = writes_part (λ g. why_text g frame (agent_of_letter (string_bytes agent))) old new (path_of script) h
 done_in_part old new (Complete level log whole script) h = completes_part old new h
-done_in_part old new (Record level journal settings script) h = plays_part old new settings.frames h
+done_in_part old new (Record level journal settings script) h = plays_part old new (path_of script) settings.frames h
 
 -- done or not, it is a part
 pub part_of : (r : Result (⊤) Fault) (old new : Option (List ℕ)) (w : Words) → OnOk r (IsDone old new w) → OnErr r (IsPartDone old new w)
@@ -89,12 +112,41 @@ asks_no_reason (Record level journal settings script) other = tt
 
 -- ---- by the words
 
-module _ (old new : Option (List ℕ)) (words : List (List ℕ)) (w : Words) (reading : IsReading words w) where
-  pub played : (n : ℕ) → AsksToPlay words n → IsDone old new w → PlaysSome old new n
-  played n asks done = read_as_play words w n (IsDone old new) (PlaysSome old new) reading asks (λ level settings script log h. h) done
+-- the words name the script that is read
+abbrev HasScript : List Text → Words → Type 0
+HasScript words (Play level settings script log) = path_of script ≡ script_named words
+HasScript words (Digest level frames script) = path_of script ≡ script_named words
+HasScript words (State level frame script) = path_of script ≡ script_named words
+HasScript words (Why level frame agent script) = path_of script ≡ script_named words
+HasScript words (Record level journal settings script) = path_of script ≡ script_named words
+HasScript words other = Unit {0}
 
-  pub played_in_part : (n : ℕ) → AsksToPlay words n → IsPartDone old new w → PlaysPart old new n
-  played_in_part n asks done = read_as_play words w n (IsPartDone old new) (PlaysPart old new) reading asks (λ level settings script log h. h) done
+named : {A : Type 0} (words : List Text) (name : Text) (rows : List Row) (script : Option (String A)) → Enters words name rows → IsOptional rows (codes "script") script
+    → path_of script ≡ script_named words
+named words name rows script enters is = sym is ∙ ap script_in (sym enters.2)
+
+has_script : (words : List Text) (w : Words) → IsReading words w → HasScript words w
+has_script words Piped reading = tt
+has_script words (Play level settings script log) reading = named words (codes "play") reading.0 script reading.1 reading.4
+has_script words (Replay level log script) reading = tt
+has_script words (Check level) reading = tt
+has_script words (Explain level script log) reading = tt
+has_script words (Digest level frames script) reading = named words (codes "digest") reading.0 script reading.1 reading.4
+has_script words (State level frame script) reading = named words (codes "state") reading.0 script reading.1 reading.4
+has_script words (Why level frame agent script) reading = named words (codes "why") reading.0 script reading.1 reading.5
+has_script words (Complete level log whole script) reading = tt
+has_script words (Record level journal settings script) reading = named words (codes "record") reading.0 script reading.1 reading.5
+
+module _ (old new : Option (List ℕ)) (words : List (List ℕ)) (w : Words) (reading : IsReading words w) where
+  pub played : (n : ℕ) → AsksToPlay words n → IsDone old new w → PlaysSome old new (script_named words) n
+  played n asks done =
+      read_as_play words w n (λ v. IsDone old new v × HasScript words v) (PlaysSome old new (script_named words)) reading asks
+      (λ level settings script log h. subst (λ path. PlaysSome old new path settings.frames) h.1 h.0) (done, has_script words w reading)
+
+  pub played_in_part : (n : ℕ) → AsksToPlay words n → IsPartDone old new w → PlaysPart old new (script_named words) n
+  played_in_part n asks done =
+      read_as_play words w n (λ v. IsPartDone old new v × HasScript words v) (PlaysPart old new (script_named words)) reading asks
+      (λ level settings script log h. subst (λ path. PlaysPart old new path settings.frames) h.1 h.0) (done, has_script words w reading)
 
   pub replayed : AsksToReplay words → IsDone old new w → ReplaysSome old new
   replayed asks done = read_as_replay words w (IsDone old new) (ReplaysSome old new) reading asks (λ level log script h. h) done
@@ -102,26 +154,46 @@ module _ (old new : Option (List ℕ)) (words : List (List ℕ)) (w : Words) (re
   pub replayed_in_part : AsksToReplay words → IsPartDone old new w → ReplaysPart old new
   replayed_in_part asks done = read_as_replay words w (IsPartDone old new) (ReplaysPart old new) reading asks (λ level log script h. h) done
 
+  pub checked : AsksToCheck words → IsDone old new w → ChecksSome old new
+  checked asks done = read_as_check words w (IsDone old new) (ChecksSome old new) reading asks (λ level h. h) done
+
+  pub checked_in_part : AsksToCheck words → IsPartDone old new w → ChecksPart old new
+  checked_in_part asks done = read_as_check words w (IsPartDone old new) (ChecksPart old new) reading asks (λ level h. h) done
+
   pub explained : AsksToExplain words → IsDone old new w → ExplainsSome old new
   explained asks done = read_as_explain words w (IsDone old new) (ExplainsSome old new) reading asks (λ level script log h. h) done
 
-  pub digested : (n : ℕ) → AsksToDigest words n → IsDone old new w → WritesSome old new (λ g. digests_text g n)
-  digested n asks done = read_as_digest words w n (IsDone old new) (λ k. WritesSome old new (λ g. digests_text g k)) reading asks (λ level frames script h. h) done
+  pub digested : (n : ℕ) → AsksToDigest words n → IsDone old new w → WritesSome old new (script_named words) (λ g. digests_text g n)
+  digested n asks done =
+      read_as_digest words w n (λ v. IsDone old new v × HasScript words v) (λ k. WritesSome old new (script_named words) (λ g. digests_text g k)) reading asks
+      (λ level frames script h. subst (λ path. WritesSome old new path (λ g. digests_text g frames)) h.1 h.0) (done, has_script words w reading)
 
-  pub digested_in_part : (n : ℕ) → AsksToDigest words n → IsPartDone old new w → WritesPart old new (λ g. digests_text g n)
-  digested_in_part n asks done = read_as_digest words w n (IsPartDone old new) (λ k. WritesPart old new (λ g. digests_text g k)) reading asks (λ level frames script h. h) done
+  pub digested_in_part : (n : ℕ) → AsksToDigest words n → IsPartDone old new w → WritesPart old new (script_named words) (λ g. digests_text g n)
+  digested_in_part n asks done =
+      read_as_digest words w n (λ v. IsPartDone old new v × HasScript words v) (λ k. WritesPart old new (script_named words) (λ g. digests_text g k)) reading asks
+      (λ level frames script h. subst (λ path. WritesPart old new path (λ g. digests_text g frames)) h.1 h.0) (done, has_script words w reading)
 
-  pub told : (n : ℕ) → AsksForState words n → IsDone old new w → WritesSome old new (λ g. scripted_state_text g n)
-  told n asks done = read_as_state words w n (IsDone old new) (λ k. WritesSome old new (λ g. scripted_state_text g k)) reading asks (λ level frame script h. h) done
+  pub told : (n : ℕ) → AsksForState words n → IsDone old new w → WritesSome old new (script_named words) (λ g. scripted_state_text g n)
+  told n asks done =
+      read_as_state words w n (λ v. IsDone old new v × HasScript words v) (λ k. WritesSome old new (script_named words) (λ g. scripted_state_text g k)) reading asks
+      (λ level frame script h. subst (λ path. WritesSome old new path (λ g. scripted_state_text g frame)) h.1 h.0) (done, has_script words w reading)
 
-  pub told_in_part : (n : ℕ) → AsksForState words n → IsPartDone old new w → WritesPart old new (λ g. scripted_state_text g n)
-  told_in_part n asks done = read_as_state words w n (IsPartDone old new) (λ k. WritesPart old new (λ g. scripted_state_text g k)) reading asks (λ level frame script h. h) done
+  pub told_in_part : (n : ℕ) → AsksForState words n → IsPartDone old new w → WritesPart old new (script_named words) (λ g. scripted_state_text g n)
+  told_in_part n asks done =
+      read_as_state words w n (λ v. IsPartDone old new v × HasScript words v) (λ k. WritesPart old new (script_named words) (λ g. scripted_state_text g k)) reading asks
+      (λ level frame script h. subst (λ path. WritesPart old new path (λ g. scripted_state_text g frame)) h.1 h.0) (done, has_script words w reading)
 
-  pub why_told : (n : ℕ) (letter : List ℕ) → AsksWhy words n letter → IsDone old new w → WritesSome old new (λ g. why_text g n (agent_of_letter letter))
-  why_told n letter asks done = read_as_why words w n letter (IsDone old new) (λ k l. WritesSome old new (λ g. why_text g k (agent_of_letter l))) reading asks (λ level frame agent script h. h) done
+  pub why_told : (n : ℕ) (letter : List ℕ) → AsksWhy words n letter → IsDone old new w → WritesSome old new (script_named words) (λ g. why_text g n (agent_of_letter letter))
+  why_told n letter asks done =
+      read_as_why words w n letter (λ v. IsDone old new v × HasScript words v) (λ k l. WritesSome old new (script_named words) (λ g. why_text g k (agent_of_letter l))) reading asks
+      (λ level frame agent script h. subst (λ path. WritesSome old new path (λ g. why_text g frame (agent_of_letter (string_bytes agent)))) h.1 h.0)
+      (done, has_script words w reading)
 
-  pub why_told_in_part : (n : ℕ) (letter : List ℕ) → AsksWhy words n letter → IsPartDone old new w → WritesPart old new (λ g. why_text g n (agent_of_letter letter))
-  why_told_in_part n letter asks done = read_as_why words w n letter (IsPartDone old new) (λ k l. WritesPart old new (λ g. why_text g k (agent_of_letter l))) reading asks (λ level frame agent script h. h) done
+  pub why_told_in_part : (n : ℕ) (letter : List ℕ) → AsksWhy words n letter → IsPartDone old new w → WritesPart old new (script_named words) (λ g. why_text g n (agent_of_letter letter))
+  why_told_in_part n letter asks done =
+      read_as_why words w n letter (λ v. IsPartDone old new v × HasScript words v) (λ k l. WritesPart old new (script_named words) (λ g. why_text g k (agent_of_letter l))) reading asks
+      (λ level frame agent script h. subst (λ path. WritesPart old new path (λ g. why_text g frame (agent_of_letter (string_bytes agent)))) h.1 h.0)
+      (done, has_script words w reading)
 
   pub completed : AsksToComplete words → IsDone old new w → CompletesSome old new
   completed asks done = read_as_complete words w (IsDone old new) (CompletesSome old new) reading asks (λ level log whole script h. h) done
@@ -129,8 +201,12 @@ module _ (old new : Option (List ℕ)) (words : List (List ℕ)) (w : Words) (re
   pub completed_in_part : AsksToComplete words → IsPartDone old new w → CompletesSomePart old new
   completed_in_part asks done = read_as_complete words w (IsPartDone old new) (CompletesSomePart old new) reading asks (λ level log whole script h. h) done
 
-  pub recorded : (n : ℕ) → AsksToRecord words n → IsDone old new w → PlaysSome old new n
-  recorded n asks done = read_as_record words w n (IsDone old new) (PlaysSome old new) reading asks (λ level journal settings script h. h) done
+  pub recorded : (n : ℕ) → AsksToRecord words n → IsDone old new w → PlaysSome old new (script_named words) n
+  recorded n asks done =
+      read_as_record words w n (λ v. IsDone old new v × HasScript words v) (PlaysSome old new (script_named words)) reading asks
+      (λ level journal settings script h. subst (λ path. PlaysSome old new path settings.frames) h.1 h.0) (done, has_script words w reading)
 
-  pub recorded_in_part : (n : ℕ) → AsksToRecord words n → IsPartDone old new w → PlaysPart old new n
-  recorded_in_part n asks done = read_as_record words w n (IsPartDone old new) (PlaysPart old new) reading asks (λ level journal settings script h. h) done
+  pub recorded_in_part : (n : ℕ) → AsksToRecord words n → IsPartDone old new w → PlaysPart old new (script_named words) n
+  recorded_in_part n asks done =
+      read_as_record words w n (λ v. IsPartDone old new v × HasScript words v) (PlaysPart old new (script_named words)) reading asks
+      (λ level journal settings script h. subst (λ path. PlaysPart old new path settings.frames) h.1 h.0) (done, has_script words w reading)

@@ -1,5 +1,6 @@
 pub mod Doing
 pub mod Explained
+pub mod ReasonsTold
 pub mod Untouched
 pub mod Shown
 pub mod Played
@@ -8,7 +9,6 @@ pub mod Stepped
 pub mod Compared
 pub mod Completed
 pub mod Lines
-pub mod NodeLines
 pub mod WhyTold
 pub mod Heads
 pub mod Recorded

@@ -11,7 +11,7 @@ pub kept : (a : Option (List ℕ)) → Keeps a a
 kept None = tt
 kept (Some xs) = refl
 
-none_written : (a : Option (List ℕ)) (all : List ℕ) → AppendsPart a a all
+pub none_written : (a : Option (List ℕ)) (all : List ℕ) → AppendsPart a a all
 none_written None all = ([], all, refl, tt)
 none_written (Some xs) all = ([], all, refl, sym (append-nil xs))
 

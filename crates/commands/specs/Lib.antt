@@ -4,7 +4,6 @@ pub mod Faults
 pub mod Replaying
 pub mod Texts
 pub mod Why
-pub mod Telling
 pub mod Opening
 pub mod Completing
 pub mod Written

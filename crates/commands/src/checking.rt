@@ -3,6 +3,7 @@ ghost use Rattle.std.specs.Io.KnownBytes.{Appends, Keeps};
 ghost use Rattle.byte_streams.specs.Streams.{AppendsPart};
 ghost use Rattle.game_session.specs.Levels.{value_of};
 ghost use Rattle.level_text.specs.Levels.{spelled};
+ghost use Rattle.commands.specs.Doing.{ChecksSome, ChecksPart};
 ghost use Rattle.commands.specs.Faults.{IsCheckFault};
 ghost use Rattle.commands.specs.Texts.{check_line};
 
@@ -46,7 +47,10 @@ pub fn check_file<H: Files, W: Write>(
     alloc: Global,
     level: String,
     out: &mut W,
-) -> Result<(), Fault> {
+) -> Result<(), Fault>
+    ensures ok { OnOk result (ChecksSome (W.contents out.old) (W.contents out.new)) }
+    ensures part { OnErr result (ChecksPart (W.contents out.old) (W.contents out.new)) }
+{
     let level = read_file(rt, alloc, level)?;
     check_bytes(alloc, &level, out)
 }

@@ -4,7 +4,7 @@ ghost use Rattle.std.specs.Io.KnownBytes.{Appends, Keeps};
 ghost use Rattle.byte_streams.specs.Streams.{AppendsPart};
 ghost use Rattle.commands.specs.Opening.{IsSteppedTo};
 ghost use Rattle.commands.specs.Texts.{digest_line, digest_lines, digests_head, digests_text};
-ghost use Rattle.commands.specs.Written.{WritesSome, WritesPart};
+ghost use Rattle.commands.specs.Written.{WritesSome, WritesPart, path_of};
 ghost use Rattle.game_rules.specs.Game.{Game};
 ghost use Rattle.level_text.specs.Games.{spelled_game};
 ghost use Rattle.words.specs.Sessions.{IsSessionFault};
@@ -94,8 +94,8 @@ pub(crate) fn digest_files<H: Files, W: Write>(
     script: Option<String>,
     out: &mut W,
 ) -> Result<(), Fault>
-    ensures ok { OnOk result (WritesSome (W.contents out.old) (W.contents out.new) (λ g. digests_text g frames)) }
-    ensures part { OnErr result (WritesPart (W.contents out.old) (W.contents out.new) (λ g. digests_text g frames)) }
+    ensures ok { OnOk result (WritesSome (W.contents out.old) (W.contents out.new) (path_of script) (λ g. digests_text g frames)) }
+    ensures part { OnErr result (WritesPart (W.contents out.old) (W.contents out.new) (path_of script) (λ g. digests_text g frames)) }
 {
     let level = read_file(rt, alloc, level)?;
     let script = read_optional_file(rt, alloc, script)?;

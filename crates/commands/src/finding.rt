@@ -1,8 +1,9 @@
 // What is told of a fault of a level, a script or a log: the line that the program reports it by, its place and its reason.
-ghost use Rattle.std.specs.Prelude.{◌≡◌, ◌⊎◌};
+ghost use Rattle.std.specs.Prelude.{◌≡◌, ◌⊎◌, ◌++◌, List, ℕ, Ok, IfOk, OnOk, codes};
+ghost use Rattle.commands.specs.Explaining.{IsTold};
 
 use byte_streams::push_number;
-use fault_reasons::{EventReason, Reason};
+use fault_reasons::{EventReason, Reason, push_reason};
 use std::alloc::{AllocError, Global};
 use words::Fault;
 
@@ -20,10 +21,22 @@ pub(crate) struct Finding {
     pub(crate) text: Vec<u8>,
 }
 
+fn push_place(text: &mut Vec<u8>, name: &str) -> Result<(), AllocError>
+    ensures { OnOk result (text.new.items ≡ text.old.items ++ codes "\n" ++ name.now ++ codes ":") }
+{
+    text.extend_from_slice(b"\n")?;
+    text.extend_from_slice(name.as_bytes())?;
+    text.extend_from_slice(b":")
+}
+
 /// The line of a fault, and what its place begins with.
-fn begun(alloc: Global, fault: &Fault, name: &str, line: usize) -> Result<Vec<u8>, AllocError> {
-    let begun = format!(in alloc; "{fault}\n{name}:{line}")?;
-    Vec::from_slice(alloc, begun.as_bytes())
+fn begun(alloc: Global, fault: &Fault, name: &str) -> Result<Vec<u8>, AllocError>
+    ensures { IfOk result (λ text. (line : List ℕ) × (text.items ≡ line ++ codes "\n" ++ name.now ++ codes ":")) }
+{
+    let line = format!(in alloc; "{fault}")?;
+    let mut text = Vec::from_slice(alloc, line.as_bytes())?;
+    push_place(&mut text, name)?;
+    Ok(text)
 }
 
 fn push_words(text: &mut Vec<u8>, words: &[u8]) -> Result<(), AllocError> {
@@ -42,20 +55,13 @@ pub(crate) fn reason_text(
     alloc: Global,
     fault: &Fault,
     name: &str,
-    reason: Result<Option<Reason>, AllocError>,
-) -> Result<Vec<u8>, AllocError> {
-    let Some(reason) = reason? else {
-        return only_fault(alloc, fault);
-    };
-    let mut text = begun(alloc, fault, name, reason.line)?;
-    if let Some(column) = reason.column {
-        push_number(&mut text, b":", column)?;
-    }
-    if !reason.pointer.is_empty() {
-        text.extend_from_slice(b" ")?;
-        text.extend_from_slice(reason.pointer.as_bytes())?;
-    }
-    push_words(&mut text, reason.words.as_bytes())?;
+    reason: &Reason,
+) -> Result<Vec<u8>, AllocError>
+    ensures { IfOk result (λ text. IsTold name.now reason.now text.items) }
+{
+    let mut text = begun(alloc, fault, name)?;
+    push_reason(&mut text, reason)?;
+    text.extend_from_slice(b"\n")?;
     Ok(text)
 }
 
@@ -69,7 +75,8 @@ pub(crate) fn event_text(
     let Some(reason) = reason? else {
         return only_fault(alloc, fault);
     };
-    let mut text = begun(alloc, fault, name, reason.line)?;
+    let mut text = begun(alloc, fault, name)?;
+    push_number(&mut text, b"", reason.line)?;
     push_words(&mut text, &reason.words)?;
     Ok(text)
 }
@@ -83,8 +90,8 @@ pub(crate) fn head_text(
 ) -> Result<Vec<u8>, AllocError> {
     let pairs = file.bytes.iter().zip(wanted);
     let fitting = pairs.take_while(|(byte, other)| byte == other).count();
-    let mut text = begun(alloc, fault, file.name, 1)?;
-    push_number(&mut text, b":", fitting.saturating_add(1))?;
+    let mut text = begun(alloc, fault, file.name)?;
+    push_number(&mut text, b"1:", fitting.saturating_add(1))?;
     text.extend_from_slice(b"\nwanted: ")?;
     text.extend_from_slice(wanted)?;
     Ok(text)
@@ -93,7 +100,8 @@ pub(crate) fn head_text(
 impl Finding {
     /// The finding of a fault of which this text is told, where memory was not refused for it.
     pub(crate) fn told(alloc: Global, fault: Fault, text: Result<Vec<u8>, AllocError>) -> Finding
-        ensures { (result.fault ≡ fault) ⊎ (result.fault ≡ Fault.OutOfMemory) }
+        ensures fault { (result.fault ≡ fault) ⊎ (result.fault ≡ Fault.OutOfMemory) }
+        ensures text { (text ≡ Ok result.text) ⊎ (result.fault ≡ Fault.OutOfMemory) }
     {
         match text {
             Ok(text) => Finding { fault, text },

@@ -4,6 +4,7 @@ ghost use Rattle.std.specs.Io.KnownBytes.{Appends, Keeps};
 ghost use Rattle.byte_streams.specs.Streams.{AppendsPart};
 ghost use Rattle.game_rules.specs.Text.{texts};
 ghost use Rattle.commands.specs.Doing.{PlaysSome, PlaysPart};
+ghost use Rattle.commands.specs.Written.{path_of};
 ghost use Rattle.commands.specs.Faults.{IsPlayFault};
 ghost use Rattle.job_core.specs.Core.{IsComplete};
 ghost use Rattle.level_text.specs.Games.{spelled_game};
@@ -23,7 +24,7 @@ use std::rt::Files;
 use std::sync::Wait;
 use std::thread::Threads;
 use std::time::Clock;
-use words::{Fault, read_file, read_optional_file, write_file};
+use words::{Fault, read_file, read_optional_file, refuse_optional_overwriting, write_file};
 
 /// Writes the frames of the game that the level's and the script's bytes spell, and gives the events of the run.
 ///
@@ -79,7 +80,7 @@ pub fn play_input<H: Threads + Wait + Clock + Sync, R: Read, W: Write>(
 }
 
 /// Plays the level and the script that the words name; both files are read before either is parsed. The log is written once
-/// all frames are.
+/// all frames are, and may be neither of the two.
 pub fn play_files<H: Files + Threads + Wait + Clock + Sync, W: Write>(
     rt: &H,
     alloc: Global,
@@ -89,9 +90,10 @@ pub fn play_files<H: Files + Threads + Wait + Clock + Sync, W: Write>(
     log: Option<String>,
     out: &mut W,
 ) -> Result<(), Fault>
-    ensures ok { OnOk result (PlaysSome (W.contents out.old) (W.contents out.new) settings.frames) }
-    ensures part { OnErr result (PlaysPart (W.contents out.old) (W.contents out.new) settings.frames) }
+    ensures ok { OnOk result (PlaysSome (W.contents out.old) (W.contents out.new) (path_of script) settings.frames) }
+    ensures part { OnErr result (PlaysPart (W.contents out.old) (W.contents out.new) (path_of script) settings.frames) }
 {
+    refuse_optional_overwriting(rt, alloc, &log, &level, &script)?;
     let level = read_file(rt, alloc, level)?;
     let script = read_optional_file(rt, alloc, script)?;
     let events = match play_bytes(rt, alloc, &level, &script, settings, out) {
@@ -100,7 +102,7 @@ pub fn play_files<H: Files + Threads + Wait + Clock + Sync, W: Write>(
     };
     if let Some(path) = log {
         let text = write_log(alloc, settings, &events)?;
-        write_file(rt, path, &text)?;
+        write_file(rt, alloc, path, &text)?;
     }
     Ok(())
 }

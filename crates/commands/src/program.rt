@@ -2,14 +2,14 @@
 ghost use Rattle.std.specs.Prelude.{◌≡◌, ◌≢◌, ℕ, List, [], None, map, string_bytes, IfSome, IsSomeAnd, MatchOption, OnOk, OnErr};
 ghost use Rattle.std.specs.Io.KnownBytes.{Appends, Keeps};
 ghost use Rattle.game_rules.specs.Text.{texts};
-ghost use Rattle.commands.specs.Doing.{PlaysSome, PlaysPart, ReplaysSome, ReplaysPart, ExplainsSome, AreRefused, AsksNoReason, IsDone, IsPartDone};
+ghost use Rattle.commands.specs.Doing.{PlaysSome, PlaysPart, ReplaysSome, ReplaysPart, ChecksSome, ChecksPart, ExplainsSome, AreRefused, AsksNoReason, IsDone, IsPartDone, script_named};
 ghost use Rattle.level_text.specs.Games.{spelled_game};
 ghost use Rattle.byte_streams.specs.Streams.{AppendsPart};
 ghost use Rattle.commands.specs.Texts.{digests_text};
 ghost use Rattle.commands.specs.Why.{why_text, agent_of_letter};
 ghost use Rattle.commands.specs.Written.{WritesSome, WritesPart, CompletesSome, CompletesSomePart};
 ghost use Rattle.stepping.specs.StateText.{scripted_state_text};
-ghost use Rattle.words.specs.Program.{AsksToPlay, AsksToReplay, AsksToExplain, AsksToDigest, AsksForState, AsksWhy, AsksToComplete, AsksToRecord};
+ghost use Rattle.words.specs.Program.{AsksToPlay, AsksToReplay, AsksToCheck, AsksToExplain, AsksToDigest, AsksForState, AsksWhy, AsksToComplete, AsksToRecord};
 
 use crate::checking::check_file;
 use crate::completing::complete_files;
@@ -115,7 +115,8 @@ fn act<H: Files + Threads + Wait + Clock + Sync, W: Write, E: Write>(
 /// fault is one line on `err`.
 ///
 /// No words: the level comes from `input`, and three of its frames are written to `out`. Of words that name files the
-/// clauses say that there are a level, a script and a log of which this is so; that they are what the files hold is tested.
+/// clauses say that there are a level, a script and a log of which this is so, the script empty where the words name none; that they
+/// are what the files hold is tested.
 pub fn command<H: Files + Threads + Wait + Clock + Sync, R: Read, W: Write, E: Write>(
     rt: &H,
     alloc: Global,
@@ -132,35 +133,39 @@ pub fn command<H: Files + Threads + Wait + Clock + Sync, R: Read, W: Write, E: W
     ensures refused { words.now ≡ [] → result ≡ 2 → IfSome (R.remaining input.old)
         (λ bytes. spelled_game bytes [] ≡ None) }
     ensures played { (frames : ℕ) → AsksToPlay (map string_bytes words.now) frames → result ≡ 0
-        → PlaysSome (W.contents out.old) (W.contents out.new) frames }
+        → PlaysSome (W.contents out.old) (W.contents out.new) (script_named (map string_bytes words.now)) frames }
     ensures played_part { (frames : ℕ) → AsksToPlay (map string_bytes words.now) frames
-        → PlaysPart (W.contents out.old) (W.contents out.new) frames }
+        → PlaysPart (W.contents out.old) (W.contents out.new) (script_named (map string_bytes words.now)) frames }
     ensures replayed { AsksToReplay (map string_bytes words.now) → result ≡ 0
         → ReplaysSome (W.contents out.old) (W.contents out.new) }
     ensures replayed_part { AsksToReplay (map string_bytes words.now)
         → ReplaysPart (W.contents out.old) (W.contents out.new) }
+    ensures checked { AsksToCheck (map string_bytes words.now) → result ≡ 0
+        → ChecksSome (W.contents out.old) (W.contents out.new) }
+    ensures checked_part { AsksToCheck (map string_bytes words.now)
+        → ChecksPart (W.contents out.old) (W.contents out.new) }
     ensures explained { AsksToExplain (map string_bytes words.now) → result ≡ 0
         → ExplainsSome (W.contents out.old) (W.contents out.new) }
     ensures digests { (frames : ℕ) → AsksToDigest (map string_bytes words.now) frames → result ≡ 0
-        → WritesSome (W.contents out.old) (W.contents out.new) (λ g. digests_text g frames) }
+        → WritesSome (W.contents out.old) (W.contents out.new) (script_named (map string_bytes words.now)) (λ g. digests_text g frames) }
     ensures digests_part { (frames : ℕ) → AsksToDigest (map string_bytes words.now) frames
-        → WritesPart (W.contents out.old) (W.contents out.new) (λ g. digests_text g frames) }
+        → WritesPart (W.contents out.old) (W.contents out.new) (script_named (map string_bytes words.now)) (λ g. digests_text g frames) }
     ensures state { (frame : ℕ) → AsksForState (map string_bytes words.now) frame → result ≡ 0
-        → WritesSome (W.contents out.old) (W.contents out.new) (λ g. scripted_state_text g frame) }
+        → WritesSome (W.contents out.old) (W.contents out.new) (script_named (map string_bytes words.now)) (λ g. scripted_state_text g frame) }
     ensures state_part { (frame : ℕ) → AsksForState (map string_bytes words.now) frame
-        → WritesPart (W.contents out.old) (W.contents out.new) (λ g. scripted_state_text g frame) }
+        → WritesPart (W.contents out.old) (W.contents out.new) (script_named (map string_bytes words.now)) (λ g. scripted_state_text g frame) }
     ensures why { (frame : ℕ) (agent : List ℕ) → AsksWhy (map string_bytes words.now) frame agent → result ≡ 0
-        → WritesSome (W.contents out.old) (W.contents out.new) (λ g. why_text g frame (agent_of_letter agent)) }
+        → WritesSome (W.contents out.old) (W.contents out.new) (script_named (map string_bytes words.now)) (λ g. why_text g frame (agent_of_letter agent)) }
     ensures why_part { (frame : ℕ) (agent : List ℕ) → AsksWhy (map string_bytes words.now) frame agent
-        → WritesPart (W.contents out.old) (W.contents out.new) (λ g. why_text g frame (agent_of_letter agent)) }
+        → WritesPart (W.contents out.old) (W.contents out.new) (script_named (map string_bytes words.now)) (λ g. why_text g frame (agent_of_letter agent)) }
     ensures completed { AsksToComplete (map string_bytes words.now) → result ≡ 0
         → CompletesSome (W.contents out.old) (W.contents out.new) }
     ensures completed_part { AsksToComplete (map string_bytes words.now)
         → CompletesSomePart (W.contents out.old) (W.contents out.new) }
     ensures recorded { (frames : ℕ) → AsksToRecord (map string_bytes words.now) frames → result ≡ 0
-        → PlaysSome (W.contents out.old) (W.contents out.new) frames }
+        → PlaysSome (W.contents out.old) (W.contents out.new) (script_named (map string_bytes words.now)) frames }
     ensures recorded_part { (frames : ℕ) → AsksToRecord (map string_bytes words.now) frames
-        → PlaysPart (W.contents out.old) (W.contents out.new) frames }
+        → PlaysPart (W.contents out.old) (W.contents out.new) (script_named (map string_bytes words.now)) frames }
     ensures refused_words { AreRefused (map string_bytes words.now) → result ≢ 0 }
     ensures unwritten { AreRefused (map string_bytes words.now) → W.contents out.new ≡ W.contents out.old }
 {

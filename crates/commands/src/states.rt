@@ -2,7 +2,7 @@
 ghost use Rattle.std.specs.Prelude.{◌≡◌, ◌⊎◌, IfOk, IfErr, IsSomeAnd, MatchOption, OnOk, OnErr};
 ghost use Rattle.std.specs.Io.KnownBytes.{Appends, Keeps};
 ghost use Rattle.byte_streams.specs.Streams.{AppendsPart};
-ghost use Rattle.commands.specs.Written.{WritesSome, WritesPart};
+ghost use Rattle.commands.specs.Written.{WritesSome, WritesPart, path_of};
 ghost use Rattle.level_text.specs.Games.{spelled_game};
 ghost use Rattle.stepping.specs.StateText.{scripted_state_text};
 ghost use Rattle.words.specs.Sessions.{IsSessionFault};
@@ -56,8 +56,8 @@ pub(crate) fn state_files<H: Files, W: Write>(
     script: Option<String>,
     out: &mut W,
 ) -> Result<(), Fault>
-    ensures ok { OnOk result (WritesSome (W.contents out.old) (W.contents out.new) (λ g. scripted_state_text g frame)) }
-    ensures part { OnErr result (WritesPart (W.contents out.old) (W.contents out.new) (λ g. scripted_state_text g frame)) }
+    ensures ok { OnOk result (WritesSome (W.contents out.old) (W.contents out.new) (path_of script) (λ g. scripted_state_text g frame)) }
+    ensures part { OnErr result (WritesPart (W.contents out.old) (W.contents out.new) (path_of script) (λ g. scripted_state_text g frame)) }
 {
     let level = read_file(rt, alloc, level)?;
     let script = read_optional_file(rt, alloc, script)?;

@@ -99,6 +99,22 @@ static FORMS: [Form; 18] = [
     },
 ];
 
+/// What is called a node here that other behaviour trees know by this name.
+fn known_as(name: &str) -> Option<&'static str> {
+    match name {
+        "sequence" => Some("seq"),
+        "sequence*" | "memory_sequence" => Some("seq*"),
+        "selector" | "priority" => Some("fallback"),
+        "selector*" | "memory_selector" => Some("fallback*"),
+        "parallel" => Some("par"),
+        "inverter" | "invert" => Some("not"),
+        "retry" | "repeat" => Some("tries"),
+        "timeout" => Some("ticks"),
+        "sleep" | "delay" => Some("wait"),
+        _ => None,
+    }
+}
+
 /// Whether a value is a text of one character between two.
 fn is_mark(value: &Value, low: u8, high: u8) -> bool {
     match value.as_str().unwrap_or("").as_bytes() {
@@ -160,8 +176,11 @@ impl Form {
         format!(in alloc; "[\"{head}\"{arguments}]")
     }
 
-    /// The kind of node that was probably meant by a head: the first that two edits or fewer lead to.
+    /// The kind of node that was probably meant by a head: the one that others call so, or the first that two edits or fewer lead to.
     pub(crate) fn near(alloc: Global, head: &str) -> Result<Option<Form>, AllocError> {
+        if let Some(known) = known_as(head) {
+            return Ok(Form::of(known));
+        }
         // No head is that long, and to compare takes time by the length.
         if head.len() > 40 {
             return Ok(None);

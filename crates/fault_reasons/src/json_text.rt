@@ -1,4 +1,7 @@
 // Bytes that are no JSON value.
+ghost use Rattle.std.specs.Prelude.{IfOk, IfSome, IsSome};
+
+use crate::nesting::too_deep;
 use crate::place::place_of;
 use crate::reason::Reason;
 use serde_json::{Error, Value};
@@ -6,9 +9,12 @@ use std::alloc::{AllocError, Global};
 
 fn reason_at(
     alloc: Global,
-    (line, column): (usize, usize),
+    place: (usize, usize),
     words: &str,
-) -> Result<Option<Reason>, AllocError> {
+) -> Result<Option<Reason>, AllocError>
+    ensures { IfOk result (λ found. IfSome found (λ reason. IsSome reason.column)) }
+{
+    let (line, column) = place;
     Ok(Some(Reason {
         line,
         column: Some(column),
@@ -25,18 +31,32 @@ fn words_of(text: &str) -> &str {
     }
 }
 
-fn error_reason(alloc: Global, bytes: &[u8], error: &Error) -> Result<Option<Reason>, AllocError> {
+fn error_reason(alloc: Global, bytes: &[u8], error: &Error) -> Result<Option<Reason>, AllocError>
+    ensures { IfOk result (λ found. IfSome found (λ reason. IsSome reason.column)) }
+{
     let text = error.to_string(alloc)?;
-    let place = if error.is_eof() {
-        place_of(bytes, bytes.len())
-    } else {
-        (error.line(), error.column())
-    };
+    if error.is_eof() {
+        return reason_at(alloc, place_of(bytes, bytes.len()), words_of(&text));
+    }
+    let place = (error.line(), error.column());
+    // The reader stops at the first fault: a bracket too deep is it, unless another one stands before.
+    if let Some(offset) = too_deep(bytes) {
+        let deep = place_of(bytes, offset);
+        if place >= deep {
+            return reason_at(
+                alloc,
+                deep,
+                "nested too deep, in more than 127 lists and objects",
+            );
+        }
+    }
     reason_at(alloc, place, words_of(&text))
 }
 
 /// Why bytes are no JSON value that `serde_json` reads; none where they are one.
-pub(crate) fn json_reason(alloc: Global, bytes: &[u8]) -> Result<Option<Reason>, AllocError> {
+pub(crate) fn json_reason(alloc: Global, bytes: &[u8]) -> Result<Option<Reason>, AllocError>
+    ensures { IfOk result (λ found. IfSome found (λ reason. IsSome reason.column)) }
+{
     if bytes.starts_with(b"\xef\xbb\xbf") {
         return reason_at(alloc, (1, 1), "byte order mark");
     }

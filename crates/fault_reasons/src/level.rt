@@ -1,3 +1,6 @@
+ghost use Rattle.std.specs.Prelude.{IfOk, IsSome};
+ghost use Rattle.fault_reasons.specs.Reasons.{IsOfLevel};
+
 use crate::json_text::json_reason;
 use crate::limits::limit_flaw;
 use crate::map_flaws::{character_flaw, letters_flaw, marks_on, rows_of, size_flaw};
@@ -45,41 +48,52 @@ fn flaw_in(
     }
 }
 
+/// What is told where nothing wrong is found, as of no fault for which the level is refused.
+fn nothing_found(alloc: Global) -> Result<Reason, AllocError>
+    ensures { IfOk result (λ reason. IsSome reason.column) }
+{
+    Ok(Reason {
+        line: 1,
+        column: Some(1),
+        pointer: String::new(alloc),
+        words: String::from_str(alloc, "nothing wrong is found")?,
+    })
+}
+
 /// Why a value is no level.
-fn value_reason(
-    alloc: Global,
-    text: &str,
-    fault: &LevelFault,
-) -> Result<Option<Reason>, AllocError> {
+fn value_reason(alloc: Global, text: &str, fault: &LevelFault) -> Result<Reason, AllocError>
+    ensures { IfOk result (λ reason. IsSome reason.column) }
+{
     let Ok(level) = Value::from_str(alloc, text) else {
         return Err(AllocError);
     };
     let mut at = Pointer::new(alloc);
     let Some(words) = flaw_in(alloc, &level, fault, &mut at)? else {
-        return Ok(None);
+        return nothing_found(alloc);
     };
     let (line, column) = place_of(text.as_bytes(), offset_of(alloc, text, &at)?);
-    Ok(Some(Reason {
+    Ok(Reason {
         line,
         column: Some(column),
         pointer: at.text()?,
         words,
-    }))
+    })
 }
 
-/// Where in a level's bytes the fault lies for which `read_level` refuses them, and why it is one; none where it isn't their fault,
-/// or want of memory. Reads the bytes twice, and keeps their value and as many bytes more.
-pub fn level_reason(
-    alloc: Global,
-    bytes: &[u8],
-    fault: &LevelFault,
-) -> Result<Option<Reason>, AllocError> {
+/// Where in a level's bytes the fault lies for which `read_level` refuses them, and why it is one; refused where that is want of
+/// memory. Reads the bytes twice, and keeps their value and as many bytes more.
+pub fn level_reason(alloc: Global, bytes: &[u8], fault: &LevelFault) -> Result<Reason, AllocError>
+    ensures { IfOk result (IsOfLevel fault.now) }
+{
     match fault {
-        LevelFault::OutOfMemory => Ok(None),
-        LevelFault::Json => json_reason(alloc, bytes),
+        LevelFault::OutOfMemory => Err(AllocError),
+        LevelFault::Json => match json_reason(alloc, bytes)? {
+            Some(reason) => Ok(reason),
+            None => nothing_found(alloc),
+        },
         _ => match std::str::from_utf8(bytes) {
             Ok(text) => value_reason(alloc, text, fault),
-            Err(_) => Ok(None),
+            Err(_) => nothing_found(alloc),
         },
     }
 }

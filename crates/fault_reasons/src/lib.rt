@@ -5,17 +5,21 @@
 
 mod breaking;
 mod event_reason;
+mod first;
 mod forms;
 mod history;
 mod json_text;
+mod keys;
 mod level;
 mod limits;
 mod map_flaws;
 mod names;
+mod nesting;
 mod place;
 mod pointer;
 mod reading;
 mod reason;
+mod reason_text;
 mod rule;
 mod run;
 mod script;
@@ -24,9 +28,11 @@ mod shape;
 mod tokens;
 
 pub use event_reason::{EventReason, illegal_reason, incomplete_reason};
+pub use first::first_reason;
 pub use level::level_reason;
 pub use log_text::{Event, JobName, Settings};
 pub use reading::reading_reason;
 pub use reason::Reason;
+pub use reason_text::push_reason;
 pub use run::Run;
 pub use script::script_reason;

@@ -6,6 +6,15 @@ use bt_nodes::TreeFault;
 use serde_json::Value;
 use std::alloc::{AllocError, Global};
 
+// The limits that `bt_nodes` has.
+const MOST_NODES: u64 = 255;
+
+const MOST_DEPTH: usize = 32;
+
+const MOST_TICKS: u64 = 1000;
+
+const MOST_DISTANCE: u64 = 16;
+
 /// How many nodes there are from a node on.
 fn nodes_of(node: &Value) -> u64 {
     let mut nodes = 1u64;
@@ -22,10 +31,10 @@ fn nodes_of(node: &Value) -> u64 {
 }
 
 pub(crate) fn depth_flaw(alloc: Global, depth: usize) -> Result<Option<String>, AllocError> {
-    if depth <= 32 {
+    if depth <= MOST_DEPTH {
         return Ok(None);
     }
-    Ok(Some(format!(in alloc; "depth {depth}, at most 32")?))
+    Ok(Some(format!(in alloc; "depth {depth}, at most {}", MOST_DEPTH)?))
 }
 
 pub(crate) fn children_flaw(alloc: Global, node: &Value) -> Result<Option<String>, AllocError> {
@@ -55,8 +64,8 @@ pub(crate) fn threshold_flaw(alloc: Global, node: &Value) -> Result<Option<Strin
 /// The most that the number of a node may be, where it counts ticks or is a distance.
 fn most_of(head: &str) -> Option<u64> {
     match head {
-        "tries" | "ticks" | "wait" => Some(1000),
-        "near" => Some(16),
+        "tries" | "ticks" | "wait" => Some(MOST_TICKS),
+        "near" => Some(MOST_DISTANCE),
         _ => None,
     }
 }
@@ -88,7 +97,7 @@ pub(crate) fn limit_flaw(
     let flaw = match fault {
         TreeFault::TooManyNodes => {
             let nodes = nodes_of(root);
-            return Ok(Some(format!(in alloc; "{nodes} nodes, at most 255")?));
+            return Ok(Some(format!(in alloc; "{nodes} nodes, at most {}", MOST_NODES)?));
         }
         TreeFault::TooDeep => Flaw::Depth,
         TreeFault::NoChild => Flaw::Children,

@@ -3,6 +3,9 @@ use crate::pointer::Pointer;
 use serde_json::Value;
 use std::alloc::{AllocError, Global};
 
+// How many rows and columns a map of `grid_world` has at most.
+const MOST: usize = 128;
+
 /// The rows of a level's map.
 pub(crate) fn rows_of(level: &Value) -> &[Value] {
     match level.get("map") {
@@ -52,8 +55,8 @@ fn width_flaw(alloc: Global, width: usize, first: usize) -> Result<Option<String
     if width == 0 {
         return Ok(Some(String::from_str(alloc, "0 characters, at least 1")?));
     }
-    if width > 128 {
-        return Ok(Some(format!(in alloc; "{width} character{s}, at most 128")?));
+    if width > MOST {
+        return Ok(Some(format!(in alloc; "{width} character{s}, at most {}", MOST)?));
     }
     Ok(None)
 }
@@ -67,9 +70,9 @@ pub(crate) fn size_flaw(
     let [first, ..] = rows else {
         return Ok(Some(String::from_str(alloc, "0 rows, at least 1")?));
     };
-    if rows.len() > 128 {
+    if rows.len() > MOST {
         let count = rows.len();
-        return Ok(Some(format!(in alloc; "{count} rows, at most 128")?));
+        return Ok(Some(format!(in alloc; "{count} rows, at most {}", MOST)?));
     }
     let first = text_of(first).chars().count();
     for (y, row) in rows.iter().enumerate() {

@@ -1,3 +1,6 @@
+ghost use Rattle.std.specs.Prelude.{◌≡◌, IfOk, IsNone};
+ghost use Rattle.fault_reasons.specs.Reasons.{IsOfScript};
+
 use crate::reason::Reason;
 use level_text::ScriptFault;
 use std::alloc::{AllocError, Global};
@@ -15,7 +18,19 @@ fn frame_of(bytes: &[u8], n: u64) -> &str {
     std::str::from_utf8(word).unwrap_or("")
 }
 
-fn reason_at(alloc: Global, n: u64, words: String) -> Reason {
+/// What is wrong of a line that is none of a script.
+fn line_words(bytes: &[u8], n: u64) -> &'static str {
+    if line_of(bytes, n).unwrap_or(b"").ends_with(b"\r") {
+        "the line ends in a carriage return"
+    } else {
+        "wanted: FRAME on LETTER or FRAME off LETTER"
+    }
+}
+
+fn reason_at(alloc: Global, n: u64, words: String) -> Reason
+    ensures line { result.line ≡ n }
+    ensures column { IsNone result.column }
+{
     Reason {
         line: n as usize,
         column: None,
@@ -24,23 +39,21 @@ fn reason_at(alloc: Global, n: u64, words: String) -> Reason {
     }
 }
 
-/// In which line of a script's bytes the fault lies for which `read_script` refuses them, and why it is one; none for want of
-/// memory.
-pub fn script_reason(
-    alloc: Global,
-    bytes: &[u8],
-    fault: ScriptFault,
-) -> Result<Option<Reason>, AllocError> {
+/// In which line of a script's bytes the fault lies for which `read_script` refuses them, and why it is one; refused where that is
+/// want of memory.
+pub fn script_reason(alloc: Global, bytes: &[u8], fault: ScriptFault) -> Result<Reason, AllocError>
+    ensures { IfOk result (IsOfScript fault) }
+{
     match fault {
-        ScriptFault::OutOfMemory => Ok(None),
+        ScriptFault::OutOfMemory => Err(AllocError),
         ScriptFault::Line { n } => {
-            let words = String::from_str(alloc, "wanted: FRAME on LETTER or FRAME off LETTER")?;
-            Ok(Some(reason_at(alloc, n, words)))
+            let words = String::from_str(alloc, line_words(bytes, n))?;
+            Ok(reason_at(alloc, n, words))
         }
         ScriptFault::Order { n } => {
             let (before, frame) = (frame_of(bytes, n.saturating_sub(1)), frame_of(bytes, n));
             let words = format!(in alloc; "frame {frame} after frame {before}")?;
-            Ok(Some(reason_at(alloc, n, words)))
+            Ok(reason_at(alloc, n, words))
         }
     }
 }

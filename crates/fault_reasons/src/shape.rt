@@ -1,5 +1,6 @@
 // Values of the wrong kind.
 use crate::forms::Form;
+use crate::keys::keys_flaw;
 use crate::pointer::Pointer;
 use crate::search::{Flaw, first_flaw};
 use serde_json::Value;
@@ -84,25 +85,14 @@ fn trees_flaw(
     Ok(None)
 }
 
-/// Whether a value is an object with the keys of a level and no other.
-fn has_keys(level: &Value) -> bool {
-    let Value::Object(members) = level else {
-        return false;
-    };
-    members.len() == 3
-        && level.get("map").is_some()
-        && level.get("agents").is_some()
-        && level.get("trees").is_some()
-}
-
-/// What is wrong of the first value of the wrong kind, in the order map, agents, trees.
+/// What is wrong of the keys, or of the first value of the wrong kind, in the order map, agents, trees.
 pub(crate) fn shape_flaw(
     alloc: Global,
     level: &Value,
     at: &mut Pointer,
 ) -> Result<Option<String>, AllocError> {
-    if !has_keys(level) {
-        return wanted(alloc, "an object with the keys map, agents, trees");
+    if let Some(words) = keys_flaw(alloc, level, at)? {
+        return Ok(Some(words));
     }
     if let Some(words) = texts_flaw(alloc, level, "map", at)? {
         return Ok(Some(words));

@@ -4,6 +4,7 @@ ghost use Rattle.frame_state.specs.Contents.{band_in};
 use crate::band_mark::BandMark;
 use draw_list::Band;
 use game_session::Session;
+use job_core::names::JobName;
 use std::marker::Model;
 
 /// A band of a frame, drawn.
@@ -29,6 +30,23 @@ impl<'t> Model for BandOut<'t> {
 }
 
 impl<'t> BandOut<'t> {
+    /// The session itself, as it was lent.
+    pub fn session(&self) -> &'t Session
+        ensures { result.now ≡ self.now.game }
+    {
+        self.session
+    }
+
+    /// The job that drew it.
+    pub fn name(&self) -> JobName
+        ensures { result ≡ JobName.Draw self.now.frame self.now.number }
+    {
+        JobName::Draw {
+            frame: self.frame,
+            band: self.band.number,
+        }
+    }
+
     /// The frame whose band it is.
     pub fn frame(&self) -> u32
         ensures { result ≡ self.now.frame }

@@ -3,7 +3,7 @@ ghost use Rattle.job_core.specs.Core.{same};
 ghost use Rattle.board_model.specs.Lists.{all, has};
 ghost use Rattle.board_model.specs.Board.{put_all, first};
 ghost use Rattle.board_model.specs.Pick.{pick};
-ghost use Rattle.job_queues.specs.Names.{level, picked};
+ghost use Rattle.job_queues.specs.Names.{level, picked, of_level};
 ghost use Rattle.job_queues.specs.Lanes.{may_start, free_fibers};
 ghost use Rattle.job_queues.specs.Waiting.{empty, with_fresh, put_new, put_ready, logic_after, without_job, without_fiber};
 ghost use Rattle.job_queues.specs.Picks.{after_pick, IsAt, IsFirstOf};
@@ -174,6 +174,30 @@ impl Queues {
             priority: Priority::Low,
             index,
         })
+    }
+
+    /// The new jobs of a priority, in the order in which they came.
+    #[inline(always)]
+    pub fn queued(&self, priority: Priority) -> &[JobName]
+        ensures { result.now ≡ of_level priority self.now.queues.fresh }
+    {
+        match priority {
+            Priority::High => self.high.fresh.waiting(),
+            Priority::Normal => self.normal.fresh.waiting(),
+            Priority::Low => self.low.fresh.waiting(),
+        }
+    }
+
+    /// The ready fibers of a priority, in the order in which they came.
+    #[inline(always)]
+    pub fn ready(&self, priority: Priority) -> &[Fiber]
+        ensures { result.now ≡ of_level priority self.now.queues.ready }
+    {
+        match priority {
+            Priority::High => self.high.ready.waiting(),
+            Priority::Normal => self.normal.ready.waiting(),
+            Priority::Low => self.low.ready.waiting(),
+        }
     }
 
     /// Whether a job is among the new ones.

@@ -50,7 +50,7 @@ jobs_from : (s : Setup) (c : Core) (es : List Event) → length (core_from s c e
 jobs_from s c [] = refl
 jobs_from s c (e ∷ es) = jobs_from s (core_after s c e) es ∙ jobs_length s c e
 
-pub few_jobs : (v : Logged) (c : Core) (now capacity : ℕ) → IsKept v c now capacity → length c.seats.jobs ≤ 79
+pub few_jobs : (v : Logged) (c : Core) (now capacity : ℕ) → IsKept v c now capacity → length c.seats.jobs ≤ 128
 few_jobs v c now capacity k =
     let a : length c.seats.jobs ≡ length (kept v (λ _ _. 0)).seats.jobs = ap (λ (x : Core). length x.seats.jobs) (k.core (λ _ _. 0)) in
     let b = jobs_from (setup_of v (λ _ _. 0)) (core_opening (setup_of v (λ _ _. 0))) v.events in

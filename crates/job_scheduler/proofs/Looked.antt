@@ -8,7 +8,7 @@ use Rattle.job_core.proofs.ByCases.{by_same}
 use Rattle.job_core.proofs.Shape.{Shape, opens, logic_done}
 use Rattle.job_core.proofs.Moves.{shape_of}
 use Rattle.board_model.specs.Lists.{tally, at, first_place, all, has}
-use Rattle.board_model.specs.Board.{Core, Held, has_fiber, holds, first_row}
+use Rattle.board_model.specs.Board.{Core, Held, Seats, has_fiber, holds, first_row, runner}
 use Rattle.board_model.specs.Law.{standing, StandsAs, Fits}
 use Rattle.board_model.specs.Passes.{on_fiber, RunsAt}
 use Rattle.board_model.specs.Pick.{Ready, New, given}
@@ -28,6 +28,11 @@ use Rattle.job_scheduler.proofs.Turns.{turned_is}
 
 same_is : (i j : JobName) → same i j ≡ true → i ≡ j
 same_is i j e = by_same i j (λ b. b ≡ true → i ≡ j) (λ y _. y) (λ n f. absurd cc) e
+
+-- what lies on the fiber that a worker runs is run by that worker
+held_runs : (t : Seats) (w : ℕ) (held : Held) (o : Option ℕ) → ((f : ℕ) → o ≡ Some f → runner (at t.jobs f) ≡ Some w) → Some held ≡ on_fiber t o → held.worker ≡ Some w
+held_runs t w held None runs e = absurd cc
+held_runs t w held (Some f) runs e = subst (λ x. runner x ≡ Some w) (sym e) (runs f refl)
 
 module _ (v : Logged) (c : Core) (now capacity : ℕ) (k : IsKept v c now capacity) (q : ℕ → ℕ → ℕ) (l : IsLegalList (setup_of v q) v.events) where
   abbrev s : Setup
@@ -56,6 +61,9 @@ module _ (v : Logged) (c : Core) (now capacity : ℕ) (k : IsKept v c now capaci
 
   pub phase_where : (w : ℕ) (held : Held) → Some held ≡ on_fiber c.seats (at c.seats.workers w) → (reached v q).phase held.job ≡ Runs w held.step
   phase_where w held e = (runs_at s st inv c fit a_slot w held.job held.step).0 (held, sym e, refl, refl)
+
+  pub worker_where : (w : ℕ) (held : Held) → Some held ≡ on_fiber c.seats (at c.seats.workers w) → held.worker ≡ Some w
+  worker_where w held e = held_runs c.seats w held (at c.seats.workers w) (λ f is. fit.seats.runs w f is) e
 
   pub idle_where : (w : ℕ) → None ≡ on_fiber c.seats (at c.seats.workers w) → IsIdle (reached v q) w
   idle_where w e = λ j i p. let r = runs_where w j i p in let z : None ≡ Some r.0 = e ∙ r.1 in cc
@@ -92,12 +100,12 @@ module _ (v : Logged) (c : Core) (now capacity : ℕ) (k : IsKept v c now capaci
             let one : r.0 ≡ held = cc in
             (on.0, (on.1, idle, subst (λ (x : Held). IsReady s st x.job) one r.2))
 
-        pub resume_step : (reached v q).phase held.job ≡ Waits held.step
+        pub resume_step : (held.worker ≡ None) × ((reached v q).phase held.job ≡ Waits held.step)
         resume_step =
             let ready = resume_given.1.2 in
             let stands : (reached v q).phase held.job ≡ standing held.worker held.step = subst (StandsAs (reached v q).phase) there (fit.seats.stands f) in
             let waits = standing_waits held.worker held.step ready.0 (sym stands ∙ ready.1) in
-            ready.1 ∙ ap Waits (sym waits.1)
+            (waits.0, ready.1 ∙ ap Waits (sym waits.1))
 
         pub resume_place : first_place (holds held.job) c.seats.jobs ≡ f
         resume_place = picked_is s st inv c fit f held there
@@ -160,10 +168,10 @@ module _ (v : Logged) (c : Core) (now capacity : ℕ) (k : IsKept v c now capaci
       pub holder_there : None ≡ at c.seats.jobs f → ⊥
       holder_there e = let z = ap (holds j) e ∙ at_holder in cc
 
-      pub resume_stands : (held : Held) → Some held ≡ at c.seats.jobs f → IsLegal (setup_of v q) (reached v q) (Resume w j) → (reached v q).phase j ≡ Waits held.step
+      pub resume_stands : (held : Held) → Some held ≡ at c.seats.jobs f → IsLegal (setup_of v q) (reached v q) (Resume w j) → (held.worker ≡ None) × ((reached v q).phase j ≡ Waits held.step)
       resume_stands held e m =
           let is_job : held.job ≡ j = sym (same_is j held.job (ap (holds j) e ∙ at_holder)) in
           let stands : (reached v q).phase held.job ≡ standing held.worker held.step = subst (StandsAs (reached v q).phase) (sym e) (fit.seats.stands f) in
           let ready = m.1.2 in
           let waits = standing_waits held.worker held.step ready.0 (sym stands ∙ (ap (reached v q).phase is_job ∙ ready.1)) in
-          ready.1 ∙ ap Waits (sym waits.1)
+          (waits.0, ready.1 ∙ ap Waits (sym waits.1))

@@ -13,3 +13,10 @@ settings_fault n =
     else Some Slots)
     else Some Fibers)
     else Some Workers
+
+abbrev pub wide_settings_fault : Numbers → Option SettingsFault
+wide_settings_fault n =
+    if is_from 1 64 n.workers then (if is_from 1 64 n.small && is_from 2 64 n.large then (if is_from 1 16 n.slots then (if nat_le n.frames 9999 then None else Some Frames)
+    else Some Slots)
+    else Some Fibers)
+    else Some Workers

@@ -34,16 +34,16 @@ IsNotRunning s st w NoWorker = (st.stopped ≡ false) × (s.workers ≤ w)
 IsNotRunning s st w NotRunning = IsOn s st w × IsIdle st w
 IsNotRunning s st w _ = ⊥
 
--- the job that a worker runs, and how far it has come
+-- the job that a worker runs, how far it has come, and that this worker runs it
 abbrev pub IsRunning : ℕ → Result Held BoardFault → Setup → State → Type 0
-IsRunning w (Ok held) s st = IsOn s st w × (st.phase held.job ≡ Runs w held.step)
+IsRunning w (Ok held) s st = IsOn s st w × (st.phase held.job ≡ Runs w held.step) × (held.worker ≡ Some w)
 IsRunning w (Err fault) s st = IsNotRunning s st w fault
 
--- what an idle worker does next: nothing only where it can neither start nor resume a job
+-- what an idle worker does next: nothing only where it can neither start nor resume a job; nobody runs a job that it resumes
 abbrev pub IsGivenTo : ℕ → Result (Option Next) BoardFault → Setup → State → Type 0
 IsGivenTo w (Ok None) s st = IsOn s st w × IsIdle st w × ((j : JobName) → (IsLegal s st (Start w j) → ⊥) × (IsLegal s st (Resume w j) → ⊥))
 IsGivenTo w (Ok (Some (next.Start job place))) s st = IsLegal s st (Start w job)
-IsGivenTo w (Ok (Some (next.Resume fiber held place))) s st = IsLegal s st (Resume w held.job) × (st.phase held.job ≡ Waits held.step)
+IsGivenTo w (Ok (Some (next.Resume fiber held place))) s st = IsLegal s st (Resume w held.job) × (st.phase held.job ≡ Waits held.step) × (held.worker ≡ None)
 IsGivenTo w (Err fault) s st = IsIdleOr s st w fault
 
 -- as the queues give it

@@ -7,11 +7,11 @@ use job_core::names::JobName;
 use job_queues::is_same;
 use std::marker::Model;
 
-/// What each fiber holds, in a fixed table with room for the 16 small and 63 large ones that settings allow at most. Its front is
-/// used and the rest is empty, so that `get` need not know how many fibers there are.
+/// What each fiber holds, in a fixed table with room for the 64 small and 64 large ones that wide settings allow at most. Its front
+/// is used and the rest is empty, so that `get` need not know how many fibers there are.
 #[derive(Drop)]
 pub(crate) struct JobTable {
-    all: [Option<Held>; 79],
+    all: [Option<Held>; 128],
     fibers: usize,
 }
 
@@ -24,7 +24,7 @@ impl Model for JobTable {
 
     ghost view = { λ t. take t.fibers t.all };
 
-    ghost invariant = { λ t. (t.fibers ≤ 79) × IsEmptyBehind t.fibers t.all };
+    ghost invariant = { λ t. (t.fibers ≤ 128) × IsEmptyBehind t.fibers t.all };
 }
 
 fn is_held(job: JobName, held: Option<Held>) -> bool
@@ -46,11 +46,11 @@ fn position_of(jobs: &[Option<Held>], job: JobName) -> Option<usize>
 impl JobTable {
     /// So many fibers, none of which holds a job.
     pub(crate) fn new(fibers: u32) -> JobTable
-        requires { fibers ≤ 79 }
+        requires { fibers ≤ 128 }
         ensures { result ≡ replicate fibers None }
     {
         JobTable {
-            all: [None; 79],
+            all: [None; 128],
             fibers: fibers as usize,
         }
     }

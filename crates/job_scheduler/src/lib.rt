@@ -16,6 +16,7 @@ mod settings;
 mod slot_table;
 mod steps;
 mod waking;
+mod wide_settings;
 mod worker_table;
 
 pub use board_fault::BoardFault;
@@ -28,3 +29,4 @@ pub use jobs::JobLog;
 pub use next::Next;
 pub use scheduler::Scheduler;
 pub use settings::{Settings, SettingsFault};
+pub use wide_settings::WideSettings;

@@ -16,7 +16,7 @@ use job_queues::{Fiber, Found, Pick, Place};
 
 // What may happen next. None of these takes memory.
 impl JobLog {
-    /// The job that a worker runs.
+    /// The job that a worker runs, with the worker as the one that runs it.
     #[inline(always)]
     pub fn running(&self, worker: u32) -> Result<Held, BoardFault>
         ensures { Always self.now (IsRunning worker result) }
@@ -103,7 +103,7 @@ impl JobLog {
     /// The fiber on which a worker may go on with this job, how far the job has come, and where the fiber is ready; None where
     /// the worker may not.
     pub fn may_resume(&self, worker: u32, job: JobName) -> Option<(Fiber, Held, Place)>
-        ensures some { IfSome result (λ next. Always self.now (λ s st. IsLegal s st (Event.Resume worker job) × (st.phase job ≡ Waits next.1.step))) }
+        ensures some { IfSome result (λ next. Always self.now (λ s st. IsLegal s st (Event.Resume worker job) × (st.phase job ≡ Waits next.1.step) × (next.1.worker ≡ None))) }
         ensures holder { IfSome result (λ next. (questions : ℕ → ℕ → ℕ) → first_place (holds job) (kept self.now questions).seats.jobs ≡ next.0) }
         ensures place { IfSome result (λ next. (questions : ℕ → ℕ → ℕ) → IsFirstAt (λ other. next.0 == other) (kept self.now questions).queues.ready next.2) }
         ensures none { result ≡ None → Always self.now (λ s st. IsLegal s st (Event.Resume worker job) → ⊥) }

@@ -4,7 +4,7 @@ ghost use Rattle.board_model.specs.Lists.{tally, at};
 ghost use Rattle.board_model.specs.Board.{has_fiber, holds, first_row};
 ghost use Rattle.board_model.specs.Pick.{given};
 ghost use Rattle.board_model.specs.Passes.{on_fiber};
-ghost use Rattle.job_queues.specs.Names.{picked};
+ghost use Rattle.job_queues.specs.Names.{picked, of_level};
 ghost use Rattle.job_queues.specs.Picks.{IsAt, IsFirstOf};
 ghost use Rattle.job_scheduler.specs.Seats.{IsHolder};
 
@@ -12,7 +12,7 @@ use super::held::Held;
 use super::scheduler::Scheduler;
 use counters::CounterKey;
 use job_core::names::JobName;
-use job_queues::{Fiber, Found, Pick, Place, Size, size_of};
+use job_queues::{Fiber, Found, Pick, Place, Priority, Size, size_of};
 
 // What a board asks its scheduler before it does an event. None of these takes memory.
 impl Scheduler {
@@ -33,6 +33,22 @@ impl Scheduler {
     {
         self.queues
             .peek(self.pool.free(Size::Small), self.pool.free(Size::Large))
+    }
+
+    /// The new jobs of a priority, in the order in which they came.
+    #[inline(always)]
+    pub fn queued(&self, priority: Priority) -> &[JobName]
+        ensures { result.now ≡ of_level priority self.now.queues.fresh }
+    {
+        self.queues.queued(priority)
+    }
+
+    /// The ready fibers of a priority, in the order in which they came.
+    #[inline(always)]
+    pub fn ready(&self, priority: Priority) -> &[Fiber]
+        ensures { result.now ≡ of_level priority self.now.queues.ready }
+    {
+        self.queues.ready(priority)
     }
 
     /// The job that a worker runs, if it runs one.

@@ -12,9 +12,9 @@ use super::counting::{raise, raise_awaited, raise_frame, without_frame};
 use super::fault::OutOfMemory;
 use super::held::Held;
 use super::job_table::JobTable;
-use super::settings::Settings;
 use super::slot_table::SlotTable;
 use super::waking::{ready_at_once, wake};
+use super::wide_settings::WideSettings;
 use super::worker_table::WorkerTable;
 use counters::{BoardCounters, CounterKey};
 use job_core::names::{Event, JobName};
@@ -88,7 +88,7 @@ fn opening_queues(alloc: Global, frames: u32, fibers: u32) -> Result<Queues, Out
 
 impl Scheduler {
     /// Nothing runs and nothing waits; the first frame's Logic is queued, if there is a frame.
-    pub fn new(alloc: Global, settings: Settings) -> Result<Scheduler, OutOfMemory>
+    pub fn new(alloc: Global, settings: WideSettings) -> Result<Scheduler, OutOfMemory>
         ensures { IfOk result (λ m. (s : Setup) → s.frames ≡ settings.frames → s.workers ≡ settings.workers
             → s.small ≡ settings.small → s.large ≡ settings.large → s.slots ≡ settings.slots → m ≡ core_opening s) }
     {

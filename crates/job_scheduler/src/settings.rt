@@ -2,14 +2,15 @@ ghost use Rattle.std.specs.Prelude.{◌≡◌, ◌≤◌, Some, None, IfOk, IfEr
 ghost use Rattle.job_scheduler.specs.Numbers.{settings_of, IsWithinLimits};
 ghost use Rattle.job_scheduler.specs.Limits.{settings_fault};
 
+use super::wide_settings::WideSettings;
 use std::marker::Model;
 
 /// The first number that is out of its limits, in this order.
 #[derive(Clone, Copy, Debug, PartialEq, Eq)]
 pub enum SettingsFault {
-    /// Not from 1 to 16 workers.
+    /// Not from 1 to 16 workers, or to 64 of wide settings.
     Workers,
-    /// Not from 1 to 16 small fibers, or not from 2 to 63 large ones.
+    /// Not from 1 to 16 small fibers, or not from 2 to 63 large ones; of wide settings, either to 64.
     Fibers,
     /// Not from 1 to 16 slots.
     Slots,
@@ -71,6 +72,20 @@ impl Settings {
             large,
             slots,
         })
+    }
+
+    // Those of wide settings that are within the limits of these.
+    pub(crate) fn of_wide(settings: WideSettings) -> Settings
+        requires { IsWithinLimits settings.frames settings.workers settings.small settings.large settings.slots }
+        ensures { result ≡ settings }
+    {
+        Settings {
+            frames: settings.frames(),
+            workers: settings.workers(),
+            small: settings.small(),
+            large: settings.large(),
+            slots: settings.slots(),
+        }
     }
 
     /// How many frames are run, at most 9999; there may be none.

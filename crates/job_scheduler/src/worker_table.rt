@@ -4,11 +4,11 @@ ghost use Rattle.board_model.specs.Lists.{at, write};
 use job_queues::Fiber;
 use std::marker::Model;
 
-/// The fiber that each worker runs, in a fixed table with room for the 16 that settings allow at most. Its front is used and the
-/// rest is empty.
+/// The fiber that each worker runs, in a fixed table with room for the 64 that wide settings allow at most. Its front is used and
+/// the rest is empty.
 #[derive(Drop)]
 pub(crate) struct WorkerTable {
-    all: [Option<Fiber>; 16],
+    all: [Option<Fiber>; 64],
     workers: usize,
 }
 
@@ -20,17 +20,17 @@ impl Model for WorkerTable {
 
     ghost view = { λ t. take t.workers t.all };
 
-    ghost invariant = { λ t. (t.workers ≤ 16) × IsEmptyBehind t.workers t.all };
+    ghost invariant = { λ t. (t.workers ≤ 64) × IsEmptyBehind t.workers t.all };
 }
 
 impl WorkerTable {
     /// So many workers, all of which are idle.
     pub(crate) fn new(workers: u32) -> WorkerTable
-        requires { workers ≤ 16 }
+        requires { workers ≤ 64 }
         ensures { result ≡ replicate workers None }
     {
         WorkerTable {
-            all: [None; 16],
+            all: [None; 64],
             workers: workers as usize,
         }
     }

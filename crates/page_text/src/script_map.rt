@@ -1,4 +1,4 @@
-// Draws the map and the agents on it, for `btview page` and for play.html (scripts/play_page takes it from here).
+// Draws the map and the agents on it, for `btview page` and for play.html (scripts/pages/play_page.py takes it from here).
 
 pub const MAP: &str = r#"// ---- what is drawn: a page keeps it so
 
@@ -58,6 +58,18 @@ class Frames {
     return this.x[at] + ',' + this.y[at];
   }
 
+  // To whom an item went that an agent has no longer: to who has one since this frame, and stood or stands one step away; or -1. Of
+  // several it is the one beside whom the fewest others lost one. It is a guess: a page that knows what the trees answered says more.
+  giftOf(frame, agent) {
+    const at = frame * this.agents, was = at - this.agents, all = Array.from({ length: this.agents }, (_, b) => b);
+    const far = (a, b, from) => Math.abs(this.x[at + a] - this.x[from + b]) + Math.abs(this.y[at + a] - this.y[from + b]);
+    const isBeside = (a, b) => far(a, b, at) === 1 || far(a, b, was) === 1;
+    const lost = all.filter(a => this.loaded[was + a] === 1 && this.loaded[at + a] === 0);
+    const got = all.filter(b => this.loaded[was + b] === 0 && this.loaded[at + b] === 1 && isBeside(agent, b));
+    const others = b => lost.filter(a => isBeside(a, b)).length;
+    return got.length > 0 ? got.reduce((best, b) => (others(b) < others(best) ? b : best)) : -1;
+  }
+
   // Which signals a frame switches.
   switched(frame) {
     const is = this.signals.of(frame), differ = is ^ (frame > 1 ? this.signals.of(frame - 1) : 0), found = [];
@@ -89,7 +101,7 @@ const wayOf = agent => `hsl(${hueOf(agent).toFixed(0)} 72% ${lightOf(agent) + th
 let theme = {};
 function readTheme() {
   const style = getComputedStyle(document.documentElement);
-  for (const name of ['ink', 'outer', 'floor', 'wall', 'grid', 'place', 'place-ink', 'door', 'door-open', 'strip', 'success-fill', 'failure-fill', 'moved-fill', 'stayed-fill'])
+  for (const name of ['ink', 'soft', 'panel', 'mark', 'failure', 'signal', 'outer', 'floor', 'wall', 'grid', 'place', 'place-ink', 'door', 'door-open', 'strip', 'success-fill', 'failure-fill', 'moved-fill', 'stayed-fill', 'logic', 'think', 'path', 'draw', 'lane', 'lane-other', 'axis'])
     theme[name] = style.getPropertyValue('--' + name).trim();
   theme.lighter = +style.getPropertyValue('--lighter');
   theme.glances = ['stayed', 'moved', 'success', 'failure'].map(name => theme[name + '-fill']);
@@ -161,7 +173,8 @@ function agentNear(scene, film, frame, px, py) {
 // A scene is { map, ground, place }: rows of texts, and where they lie.
 function drawScene(pen, scene, film, frame, chosen) {
   drawGround(pen, scene);
-  if (frame > 0 && chosen >= 0) drawWay(pen, film, frame, chosen, scene.place);
+  if (frame > 0) drawSteps(pen, film, frame, scene.place);
+  if (frame > 0 && chosen >= 0) drawTrail(pen, film, frame, chosen, scene.place);
   drawThings(pen, scene);
   if (frame > 0) drawAgents(pen, film, frame, chosen, scene.place);
   else drawStarts(pen, scene.map, chosen, scene.place);
@@ -240,7 +253,7 @@ function drawDoor(pen, px, py, cell, letter, isShut) {
     pen.setLineDash([]);
   }
   if (side < 11) return;
-  pen.fillStyle = isShut ? '#fff' : theme.door;
+  pen.fillStyle = isShut ? '#fff' : theme.signal;
   pen.font = `600 ${Math.min(22, side * .55)}px system-ui, sans-serif`;
   pen.fillText(letter, px + cell / 2, py + cell / 2 + .5);
 }
@@ -252,8 +265,10 @@ function drawPlace(pen, px, py, cell, digit, isCovered) {
   } else if (isCovered && cell < 22) return;
   const isSmall = isCovered && cell >= 22, size = isSmall ? Math.max(8.5, cell * .23) : Math.max(10, Math.min(22, cell * .55));
   const away = isSmall ? cell / 2 - size * .48 : 0;
-  pen.fillStyle = theme['place-ink'];
   pen.font = `600 ${size}px system-ui, sans-serif`;
+  // A trail may lie below: a rim of the place's colour keeps the digit clear of it.
+  Object.assign(pen, { fillStyle: theme['place-ink'], strokeStyle: theme.place, lineWidth: size / 3, lineJoin: 'round' });
+  pen.strokeText(digit, px + cell / 2 - away, py + cell / 2 + away + .5);
   pen.fillText(digit, px + cell / 2 - away, py + cell / 2 + away + .5);
 }
 function drawStar(pen, x, y, radius) {
@@ -300,17 +315,31 @@ function drawStroke(pen, agent, alpha, width, points) {
   pen.stroke();
   pen.globalAlpha = 1;
 }
-// Where an agent has been, below what stands on the ground.
-function drawWay(pen, film, frame, agent, place) {
-  const way = [];
-  for (let at = Math.max(0, frame - 40); at <= frame; at += 1) way.push(middleOf(film, at, agent, place));
-  drawStroke(pen, agent, .55, Math.max(2, place.cell * .12), way);
+// Where an agent has been, fainter the longer ago, and as dots where it goes next as far as that is known: below what stands on the
+// ground.
+const TRAIL = 40, AHEAD = 16;
+function drawTrail(pen, film, frame, agent, place) {
+  const middle = at => middleOf(film, at, agent, place), width = Math.max(2, place.cell * .1);
+  for (let at = Math.max(1, frame - TRAIL); at <= frame; at += 1)
+    if (film.hasMoved(at, agent)) drawStroke(pen, agent, .12 + .5 * (1 - (frame - at) / TRAIL), width, [middle(at - 1), middle(at)]);
+  pen.fillStyle = wayOf(agent);
+  pen.globalAlpha = .7;
+  for (let at = frame + 1; at <= Math.min(film.count, frame + AHEAD); at += 1) {
+    if (!film.hasMoved(at, agent)) continue;
+    pen.beginPath();
+    pen.arc(...middle(at), Math.max(1.5, place.cell * .06), 0, 7);
+    pen.fill();
+  }
+  pen.globalAlpha = 1;
 }
-// The agents of a frame, each with the step that it has made.
+// The steps that the agents of a frame have made, below what stands on the ground too.
+function drawSteps(pen, film, frame, place) {
+  const radius = radiusOf(place.cell);
+  for (let a = 0; a < film.agents; a += 1) if (film.hasMoved(frame, a)) drawStroke(pen, a, .4, Math.max(2, radius * .5), [middleOf(film, frame - 1, a, place), middleOf(film, frame, a, place)]);
+}
 function drawAgents(pen, film, frame, chosen, place) {
-  const radius = radiusOf(place.cell), middle = (at, a) => middleOf(film, at, a, place);
-  for (let a = 0; a < film.agents; a += 1) if (film.hasMoved(frame, a)) drawStroke(pen, a, .45, Math.max(2, radius * .6), [middle(frame - 1, a), middle(frame, a)]);
-  const disc = a => drawDisc(pen, a, middle(frame, a), radius, film.loaded[frame * film.agents + a], a === chosen);
+  const radius = radiusOf(place.cell);
+  const disc = a => drawDisc(pen, a, middleOf(film, frame, a, place), radius, film.loaded[frame * film.agents + a], a === chosen);
   for (let a = 0; a < film.agents; a += 1) if (a !== chosen) disc(a);
   if (chosen >= 0) disc(chosen);
 }

@@ -1,4 +1,4 @@
-// The head of a page: its title, and the styles of `btview page` and of play.html (scripts/play_page takes them from here).
+// The head of a page: its title, and the styles of `btview page` and of play.html (scripts/pages/play_page.py takes them from here).
 
 pub const STYLE: &str = r#"<!DOCTYPE html>
 <html lang="en">
@@ -9,9 +9,20 @@ pub const STYLE: &str = r#"<!DOCTYPE html>
 <style>
 :root { --ink: #1c2430; --soft: #55606f; --line: #d5dae1; --panel: #ffffff; --back: #f1f3f6; --mark: #0b5cad; --mark-fill: #0b5cad; --button: #ffffff; --button-line: #b8c0ca; --hover: #eef4fb;
   --head: #e9edf2; --row: #edf0f3; --chosen: #dcebfb; --detail: #fbfcfe; --cover: rgba(255,255,255,.88);
-  --success: #1d7f4e; --failure: #c02a2a; --running: #5a6f8c; --load: #8a6100; --signal: #7a4a1e;
+  --success: #1d7f4e; --failure: #c02a2a; --running: #4f637f; --load: #8a6100; --signal: #7a4a1e;
   --outer: #e3e7ec; --floor: #fdfdfb; --wall: #5b6675; --grid: rgba(60,75,95,.13); --place: #cfe3f7; --place-ink: #174a7c; --door: #8a5426; --door-open: #f7ead9;
-  --strip: #f4f6f8; --success-fill: #3aa873; --failure-fill: #dc5a5a; --moved-fill: #6f9fd8; --stayed-fill: #cfd7e1; --lighter: 0; }
+  --strip: #f4f6f8; --success-fill: #3aa873; --failure-fill: #dc5a5a; --moved-fill: #6f9fd8; --stayed-fill: #cfd7e1; --lighter: 0;
+  --success-pale: #e3f4eb; --failure-pale: #fbe6e6; --running-pale: #e6edf6; --success-deep: #1a7446; --key: #6a3fa0; --text: #2c5f3c;
+  --logic: #6a3fb5; --think: #1668b8; --path: #b35c00; --draw: #1d7f4e; --lane: #eaeef3; --lane-other: #f3f5f8; --axis: #d3dae3; }
+:root { color-scheme: light dark; }
+@media (prefers-color-scheme: dark) { :root {
+  --ink: #e4e9f0; --soft: #9aa7b8; --line: #333d4b; --panel: #1a212b; --back: #11161d; --mark: #6fb1f2; --mark-fill: #1b66b0; --button: #242d39; --button-line: #4d5b6d; --hover: #2d3947;
+  --head: #232c38; --row: #262f3b; --chosen: #1d3c5c; --detail: #171d26; --cover: rgba(20,26,34,.88);
+  --success: #5cc795; --failure: #f07f7f; --running: #9db4d3; --load: #e0b040; --signal: #e0a56c;
+  --outer: #0d1116; --floor: #3b4757; --wall: #1b222b; --grid: rgba(215,228,245,.07); --place: #2f587f; --place-ink: #d3e7fb; --door: #9a5c27; --door-open: #3a3129;
+  --strip: #232c38; --success-fill: #349767; --failure-fill: #c95252; --moved-fill: #5688c4; --stayed-fill: #445063; --lighter: 28;
+  --success-pale: #1c3a2c; --failure-pale: #452428; --running-pale: #26364a; --success-deep: #1a7446; --key: #c3a4f0; --text: #9fd0ae;
+  --logic: #9a79dd; --think: #4f97de; --path: #d68a3c; --draw: #45a878; --lane: #1d2530; --lane-other: #202935; --axis: #3a4656; } }
 * { box-sizing: border-box; }
 [hidden] { display: none !important; }
 html, body { margin: 0; height: 100%; }
@@ -51,7 +62,7 @@ main { display: grid; grid-template-columns: minmax(0, 1fr) minmax(0, 530px); ga
 .letter:hover { filter: brightness(1.15); }
 .answer { font-weight: 650; }
 .S { color: var(--success); } .F { color: var(--failure); } .R { color: var(--running); }
-td.tree { overflow: hidden; text-overflow: ellipsis; color: var(--soft); }
+td.tree { overflow: hidden; text-overflow: ellipsis; color: var(--soft); max-width: 0; }
 td.load { color: var(--load); font-weight: 700; }
 td canvas { display: block; }
 #detail { flex: 1 1 0; min-height: 0; overflow: auto; padding: 6px 10px 8px; font-size: 13px; border-top: 1px solid var(--line); background: var(--detail); }
@@ -70,7 +81,7 @@ td canvas { display: block; }
 
 /* the run */
 #run { padding: 5px 10px 3px; }
-#bar { display: flex; align-items: center; gap: 5px 6px; }
+#bar { display: flex; flex-wrap: wrap; align-items: center; gap: 5px 6px; }
 #bar label { display: flex; align-items: center; gap: 5px; }
 #play { min-width: 74px; font-weight: 650; background: var(--mark-fill); border-color: var(--mark-fill); color: #fff; }
 #overKeys { margin-left: auto; display: flex; gap: 10px; font-size: 12px; }
@@ -80,8 +91,10 @@ td canvas { display: block; }
 
 /* help */
 #help { position: fixed; inset: 0; display: flex; align-items: center; justify-content: center; background: rgba(20,28,40,.5); z-index: 20; padding: 10px; }
+#agentsBox th small { font: inherit; }
 #help > div { background: var(--panel); border-radius: 8px; padding: 14px 24px 18px; box-shadow: 0 6px 30px rgba(0,0,0,.3); max-width: 640px; max-height: 100%; overflow: auto; }
 #help h2 { margin: 0 0 8px; font-size: 17px; }
 #help td { padding: 2px 12px 2px 0; vertical-align: top; } #help td:first-child { white-space: nowrap; }
 @media (max-width: 1180px) { #overKeys { display: none; } }
+@media (max-width: 900px) { #agentsBox .since, #agentsBox th small { display: none; } #agentsBox col.wide { width: 82px !important; } }
 "#;

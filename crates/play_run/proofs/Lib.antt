@@ -6,3 +6,4 @@ mod Putting
 mod Places
 mod Delivered
 pub mod Leaving
+mod Taken

@@ -1,7 +1,8 @@
-ghost use Rattle.std.specs.Prelude.{IfOk, IfErr, IsSomeAnd};
+ghost use Rattle.std.specs.Prelude.{IfOk, IfErr, OnErr, IsSomeAnd};
 ghost use Rattle.std.specs.Io.KnownBytes.{Appends};
 ghost use Rattle.level_text.specs.Games.{spelled_game};
 ghost use Rattle.log_text.specs.Text.{events_text};
+ghost use Rattle.run_printer.specs.Journals.{TakesPart};
 ghost use Rattle.play_run.specs.Plays.{IsPlayed, IsPlayFault};
 
 use crate::fault::PlayFault;
@@ -32,6 +33,7 @@ pub fn run_bytes_journalled<W: Write, J: Journal, G: Gate, R: Threads + Wait + C
     ensures ok { IfOk result (λ r. IsSomeAnd (spelled_game level.now script.now) (λ g. IsPlayed (W.contents out.old) (W.contents out.new) g settings r)) }
     ensures err { IfErr result (IsPlayFault (W.contents out.old) (W.contents out.new) level.now script.now settings) }
     ensures journal { IfOk result (λ r. Appends (J.contents journal.old) (J.contents journal.new) (events_text r.events.items)) }
+    ensures part { OnErr result (TakesPart (J.contents journal.old) (J.contents journal.new)) }
 {
     let level = match read_level(alloc, level) {
         Ok(level) => level,

@@ -159,7 +159,7 @@ fn lower(a: Option<Cause>, b: Option<Cause>) -> Option<Cause>
     ensures { result ≡ None → (a ≡ None) × (b ≡ None) }
 {
     match (a, b) {
-        (Some(x), Some(y)) => Some(x.min(y)),
+        (Some(x), Some(y)) => Some(x.lower(y)),
         (Some(x), None) => Some(x),
         (None, y) => y,
     }

@@ -1,6 +1,6 @@
 -- Where bands are kept until their frame is printed. A frame's row has a place for each number of a band, with the frame whose
 -- band lies there, if any; a table has so many rows, and frame f has the row f modulo their number.
-use Rattle.std.specs.Prelude.{◌≡◌, ◌≢◌, ◌%◌, ℕ, List, [], Option, Some, None, length, map, replicate, slice_index_or, slice_set}
+use Rattle.std.specs.Prelude.{◌≡◌, ◌≢◌, ◌⊎◌, ◌%◌, ℕ, List, [], Option, Some, None, length, map, replicate, slice_index_or, slice_set}
 use Rattle.grid_world.specs.Map.{count_up}
 use Rattle.game_rules.specs.Game.{Game}
 use Rattle.draw_list.specs.declared.band.Band.{Band}
@@ -24,6 +24,10 @@ with_band table frame number = slice_set table (frame % length table) (with_plac
 -- each row but a frame's own is as it was
 abbrev pub IsElsewhereSame : (frame : ℕ) → (old new : List (List (Option ℕ))) → Type 0
 IsElsewhereSame frame old new = (row : ℕ) → row ≢ frame % length old → slice_index_or new row [] ≡ slice_index_or old row []
+
+-- so many bands of a frame are taken as it has, or up to a place where none of that frame lies
+abbrev pub AreAllTaken : (row : List (Option ℕ)) → (frame bands taken : ℕ) → Type 0
+AreAllTaken row frame bands taken = (taken ≡ bands) ⊎ (slice_index_or row taken None ≢ Some frame)
 
 -- each band lies at the place of its number
 abbrev pub AreAtTheirNumbers : (numbers : List (Option ℕ)) → Type 0

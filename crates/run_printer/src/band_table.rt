@@ -1,6 +1,6 @@
-ghost use Rattle.std.specs.Prelude.{◌≡◌, ◌<◌, ◌≤◌, ◌%◌, vec_len, IfOk, Some};
+ghost use Rattle.std.specs.Prelude.{◌≡◌, ◌<◌, ◌≤◌, ◌%◌, vec_len, IfOk, OnOk, Some};
 ghost use Rattle.game_rules.specs.Game.{Game};
-ghost use Rattle.run_printer.specs.Tables.{no_bands, with_band, AreFirstBands, IsElsewhereSame};
+ghost use Rattle.run_printer.specs.Tables.{no_bands, row_of, with_band, AreAllTaken, AreFirstBands, IsElsewhereSame};
 
 use crate::frame_bands::FrameBands;
 use draw_list::Band;
@@ -67,6 +67,8 @@ impl<'t, L: RunLedger> BandTable<'t, L> {
         requires few { vec_len into.old ≤ bands }
         ensures first { (g : Game) → L.game ≡ Some g → AreFirstBands g frame into.new.items }
         ensures few { vec_len into.new ≤ bands }
+        ensures more { vec_len into.old ≤ vec_len into.new }
+        ensures all { OnOk result (AreAllTaken (row_of self.old frame) frame bands (vec_len into.new)) }
         ensures others { IsElsewhereSame frame self.old self.new }
     {
         let row = row_at(self.frames.len(), frame);

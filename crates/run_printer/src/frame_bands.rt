@@ -1,7 +1,7 @@
-ghost use Rattle.std.specs.Prelude.{◌≡◌, ◌≢◌, ◌≤◌, ◌⊎◌, Some, None, replicate, slice_index_or, slice_set, vec_len, IfOk, OnOk, IfSome, IfNone};
+ghost use Rattle.std.specs.Prelude.{◌≡◌, ◌≢◌, ◌≤◌, Some, None, replicate, slice_index_or, slice_set, vec_len, IfOk, OnOk, IfSome, IfNone};
 ghost use Rattle.game_rules.specs.Game.{Game};
 ghost use Rattle.frame_state.specs.Contents.{band_in};
-ghost use Rattle.run_printer.specs.Tables.{with_place, AreFirstBands};
+ghost use Rattle.run_printer.specs.Tables.{with_place, AreAllTaken, AreFirstBands};
 
 use draw_list::Band;
 use run_shared::{RunBand, RunLedger};
@@ -76,7 +76,7 @@ impl<'t, L: RunLedger> FrameBands<'t, L> {
         ensures first { (g : Game) → L.game ≡ Some g → AreFirstBands g frame into.new.items }
         ensures few { vec_len into.new ≤ bands }
         ensures more { vec_len into.old ≤ vec_len into.new }
-        ensures all { OnOk result ((vec_len into.new ≡ bands) ⊎ (slice_index_or self.old (vec_len into.new) None ≢ Some frame)) }
+        ensures all { OnOk result (AreAllTaken self.old frame bands (vec_len into.new)) }
     {
         for number in into.len() as u32..bands {
             let Some(band) = self.take_band(frame, number) else {

@@ -1,10 +1,11 @@
-ghost use Rattle.std.specs.Prelude.{◌≡◌, ◌+◌, ◌<◌, IfOk, OnOk, IfErr, IfSome, MatchResult, Some, length, vec_len};
+ghost use Rattle.std.specs.Prelude.{◌≡◌, ◌+◌, ◌<◌, IfOk, OnOk, OnErr, IfErr, IfSome, IsTrue, MatchResult, Some, length, vec_len};
 ghost use Rattle.std.specs.Io.KnownBytes.{Appends};
 ghost use Rattle.game_rules.specs.Game.{Game};
 ghost use Rattle.game_rules.specs.Text.{frame_text, texts};
 ghost use Rattle.frame_state.specs.Contents.{bands_in};
 ghost use Rattle.log_text.specs.Text.{events_text};
 ghost use Rattle.run_shared.specs.Printed.{WrotePart};
+ghost use Rattle.run_printer.specs.Journals.{AreShownIn, TakesPart};
 ghost use Rattle.run_printer.specs.Tables.{AreFirstBands, AreAllBands};
 
 use crate::band_table::BandTable;
@@ -14,13 +15,14 @@ use crate::noting::note_news;
 use byte_streams::write_whole;
 use draw_list::{Band, band_count, frame_text};
 use game_session::Session;
-use run_shared::{Cause, RunFault, RunLedger, Shared, ShownFrame, SleepTime, Trials};
+use run_shared::{Cause, RunFault, RunLedger, Shared, ShownFrame};
 use std::alloc::{AllocError, Global};
 use std::io::Write;
 use std::sync::Wait;
 use std::sync::ledger::{Ledger, Share};
 use std::time::Clock;
 use task_board::{BoardFault, Event, Settings, Shown};
+use wakeups::{Backoff, WorkerTuner};
 
 // How many bands each frame has.
 fn bands_of(session: &Session) -> u32
@@ -73,7 +75,7 @@ impl<'t, L: RunLedger> Printer<'t, L> {
             any = true;
         }
         if any {
-            shared.waiting.call_for_room();
+            shared.wakeups.call_for_room();
         }
         any
     }
@@ -85,7 +87,7 @@ impl<'t, L: RunLedger> Printer<'t, L> {
         shared: &Shared<'t, L, M, D>,
         frame: u32,
         bands: u32,
-        sleep: &mut SleepTime,
+        backoff: &mut Backoff,
     ) -> Result<(), Cause>
         requires { self.old.inbox.taker.mail ≡ shared.now.mail }
         ensures mail { self.new.inbox.taker.mail ≡ shared.now.mail }
@@ -104,10 +106,10 @@ impl<'t, L: RunLedger> Printer<'t, L> {
                 continue;
             }
             // Who stopped the board has a cause of its own, which goes before this one.
-            if shared.waiting.printer.is_over() {
+            if shared.wakeups.printer.is_over() {
                 return Err(Cause::Stranger);
             }
-            shared.waiting.printer.wait(rt, sleep);
+            shared.wakeups.printer.wait(rt, backoff);
         }
         unreachable!()
     }
@@ -119,7 +121,7 @@ impl<'t, L: RunLedger> Printer<'t, L> {
         rt: &R,
         shared: &Shared<'t, L, M, D>,
         emits: &mut Share<M>,
-        sleep: &mut SleepTime,
+        backoff: &mut Backoff,
     ) -> Result<Shown<'t>, Cause>
         requires emits { (emits.old.parts ≡ M.parts) × (0 < M.parts) }
         requires drawn { (g : Game) → L.game ≡ Some g → AreAllBands g (emits.old.amount + 1) self.now.next.items }
@@ -138,11 +140,11 @@ impl<'t, L: RunLedger> Printer<'t, L> {
                     },
                 ) => {
                     if is_more {
-                        shared.waiting.call_worker();
+                        shared.wakeups.call_worker();
                     }
                     return Ok(shown);
                 }
-                Err(BoardFault::Illegal) => shared.waiting.printer.wait(rt, sleep),
+                Err(BoardFault::Illegal) => shared.wakeups.printer.wait(rt, backoff),
                 Err(BoardFault::OutOfMemory) => return Err(Cause::OutOfMemory),
                 // Who stopped a board has a cause of its own, which goes before this one.
                 Err(_) => return Err(Cause::Stranger),
@@ -159,7 +161,7 @@ impl<'t, L: RunLedger> Printer<'t, L> {
         session: &Session,
         shared: &Shared<'t, L, M, D>,
         frame: u32,
-        sleep: &mut SleepTime,
+        backoff: &mut Backoff,
         emits: &mut Share<M>,
     ) -> Result<Vec<u8>, Cause>
         requires run { L.game ≡ Some session.now }
@@ -171,8 +173,8 @@ impl<'t, L: RunLedger> Printer<'t, L> {
         ensures counted { OnOk result (emits.new.amount ≡ emits.old.amount + 1) }
         ensures text { IfOk result (λ text. text.items ≡ frame_text session.now frame) }
     {
-        self.gather(rt, shared, frame, bands_of(session), sleep)?;
-        let turn = self.show(rt, shared, emits, sleep)?.into_turn();
+        self.gather(rt, shared, frame, bands_of(session), backoff)?;
+        let turn = self.show(rt, shared, emits, backoff)?.into_turn();
         let text = frame_text(alloc, frame, &self.next, turn.world(), turn.statuses());
         shared.leave_printed(rt, &mut self.next);
         match text {
@@ -204,11 +206,13 @@ pub fn print<'t, W: Write, J: Journal, L: RunLedger, M: Ledger, D: Ledger, R: Wa
     ensures ok { OnOk result (Appends (W.contents out.old) (W.contents out.new) (texts session.now settings.frames)) }
     ensures err { IfErr result (λ e. WrotePart (W.contents out.old) (W.contents out.new) session.now settings.frames e.frames) }
     ensures journal { IfOk result (λ noted. Appends (J.contents journal.old) (J.contents journal.new) (events_text noted.items)) }
+    ensures shown { IsTrue (J.is_follower journal.old) → IfOk result (λ noted. AreShownIn noted.items settings.frames) }
+    ensures part { OnErr result (TakesPart (J.contents journal.old) (J.contents journal.new)) }
 {
     let last = settings.frames();
     let mut noted = Vec::new(alloc);
-    let mut sleep = SleepTime::new();
-    let mut trials = Trials::new();
+    let mut backoff = Backoff::new();
+    let mut tuner = WorkerTuner::new();
     for done in 0..last {
         let text = match printer.next_text(
             rt,
@@ -216,7 +220,7 @@ pub fn print<'t, W: Write, J: Journal, L: RunLedger, M: Ledger, D: Ledger, R: Wa
             session,
             shared,
             done + 1,
-            &mut sleep,
+            &mut backoff,
             emits,
         ) {
             Ok(text) => text,
@@ -228,7 +232,7 @@ pub fn print<'t, W: Write, J: Journal, L: RunLedger, M: Ledger, D: Ledger, R: Wa
                 });
             }
         };
-        trials.count_frame(rt, &shared.waiting);
+        tuner.count_frame(rt, &shared.wakeups);
         match write_whole(out, &text) {
             Ok(()) => {}
             Err(_) => {
@@ -239,7 +243,7 @@ pub fn print<'t, W: Write, J: Journal, L: RunLedger, M: Ledger, D: Ledger, R: Wa
                 });
             }
         }
-        match note_news(rt, alloc, shared, journal, &mut noted) {
+        match note_news(rt, alloc, shared, done + 1, journal, &mut noted) {
             Ok(()) => {}
             Err(cause) => {
                 shared.stop(rt);
@@ -251,7 +255,7 @@ pub fn print<'t, W: Write, J: Journal, L: RunLedger, M: Ledger, D: Ledger, R: Wa
         }
     }
     // There is no other task, so they end.
-    shared.waiting.call_workers();
+    shared.wakeups.call_workers();
     match out.flush() {
         Ok(()) => Ok(noted),
         Err(_) => {

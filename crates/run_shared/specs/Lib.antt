@@ -1,3 +1,4 @@
 pub mod Printed
+pub mod Causes
 pub mod Counts
 pub mod Holds

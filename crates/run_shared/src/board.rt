@@ -1,4 +1,4 @@
-ghost use Rattle.std.specs.Prelude.{◌≡◌, ◌↔◌, ◌+◌, ◌<◌, ◌≤◌, ℕ, MatchResult, MatchOption, IfOk, IfErr, IfSome, OnOk, OnErr, IsTrue, IsSomeAnd, count_by, option_map, [], Some};
+ghost use Rattle.std.specs.Prelude.{◌≡◌, ◌↔◌, ◌+◌, ◌<◌, ◌≤◌, ℕ, MatchResult, MatchOption, IfOk, IfErr, IfSome, OnOk, OnErr, IsTrue, IsSomeAnd, count_by, option_map, [], None, Some};
 ghost use Rattle.std.specs.Coded.{Coded-set, coded_option};
 ghost use Rattle.game_rules.specs.Game.{Game};
 ghost use Rattle.game_session.specs.GameCode.{game_code};
@@ -12,6 +12,7 @@ ghost use Rattle.task_board.specs.Boards.{setup_in, state_in, GivesJob, IsTaken,
 ghost use Rattle.task_board.specs.HandedIn.{IsHandedIn, IsHandInRefused};
 ghost use Rattle.task_board.specs.Setups.{setup_for};
 ghost use Rattle.run_shared.specs.Counts.{names_worker, is_emit, draws_ended};
+ghost use Rattle.run_shared.specs.Holds.{IsDone};
 
 use crate::ledger::RunLedger;
 use crate::run_task::RunTask;
@@ -200,6 +201,7 @@ impl<'t, L: RunLedger, M: Ledger, D: Ledger> SharedBoard<'t, L, M, D> {
     ) -> Option<Vec<Event>>
         requires whole { (all.old.parts ≡ L.parts) × (emits.old.parts ≡ M.parts) × (draws.old.parts ≡ D.parts) }
         ensures complete { IfSome result (λ events. (g : Game) (n : Numbers) → L.game ≡ Some g → L.numbers ≡ Some n → IsComplete (setup_for g n) events.items) }
+        ensures none { result ≡ None → IsDone self.entry → ⊥ }
         ensures named { IfSome result (λ events. count_by names_worker events.items ≡ all.old.amount) }
         ensures emitted { IfSome result (λ events. count_by is_emit events.items ≡ emits.old.amount) }
         ensures drawn { IfSome result (λ events. count_by ends_draw events.items ≡ draws.old.amount) }

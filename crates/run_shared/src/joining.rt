@@ -1,4 +1,5 @@
-ghost use Rattle.std.specs.Prelude.{◌≡◌, OnOk, IfOk, IfErr, Ok, None};
+ghost use Rattle.std.specs.Prelude.{◌≡◌, OnOk, IfOk, IfErr, Ok, None, Some};
+ghost use Rattle.run_shared.specs.Causes.{cause_of};
 ghost use Rattle.run_shared.specs.Printed.{frames_of};
 
 use crate::fault::{Cause, RunFault};
@@ -13,16 +14,18 @@ pub fn joined<T: Drop>(
 ) -> Result<T, RunFault>
     ensures ok { IfOk result (λ value. printed ≡ Ok value) }
     ensures met { OnOk result (met ≡ None) }
+    ensures cause { IfErr result (λ e. Some e.cause ≡ cause_of printed met) }
     ensures frames { IfErr result (λ e. e.frames ≡ frames_of printed last) }
 {
     match (printed, met) {
-        (printed, None) => printed,
+        (Ok(value), None) => Ok(value),
+        (Err(fault), None) => Err(fault),
         (Ok(_), Some(cause)) => Err(RunFault {
             cause,
             frames: last,
         }),
         (Err(fault), Some(cause)) => Err(RunFault {
-            cause: cause.min(fault.cause),
+            cause: cause.lower(fault.cause),
             frames: fault.frames,
         }),
     }

@@ -1,4 +1,4 @@
-//! What the threads of a run share: the locked board with its books, the mail of bands, and who waits for whom and how.
+//! What the threads of a run share: the locked board with its books, the mail of bands, and who sleeps.
 #![tactic(auto)]
 
 mod board;
@@ -8,15 +8,10 @@ mod handed_in;
 mod hold;
 mod joining;
 mod ledger;
-mod lock;
-mod parking;
 mod run_band;
 mod run_task;
 mod shared;
 mod shown_frame;
-mod sleep_time;
-mod trials;
-mod waiting;
 mod worked;
 
 pub use board::{SharedBoard, draws_in};
@@ -26,12 +21,8 @@ pub use handed_in::HandedIn;
 pub use hold::Hold;
 pub use joining::joined;
 pub use ledger::RunLedger;
-pub use parking::Parking;
 pub use run_band::RunBand;
 pub use run_task::RunTask;
 pub use shared::Shared;
 pub use shown_frame::ShownFrame;
-pub use sleep_time::SleepTime;
-pub use trials::Trials;
-pub use waiting::Waiting;
 pub use worked::Worked;

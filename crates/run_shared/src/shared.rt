@@ -4,23 +4,22 @@ ghost use Rattle.band_mail.specs.Mails.{ArePuttersOf, IsAllDelivered, put_by};
 use crate::board::SharedBoard;
 use crate::hold::Hold;
 use crate::ledger::RunLedger;
-use crate::lock::lock_soon;
 use crate::run_band::RunBand;
-use crate::waiting::Waiting;
 use band_mail::{BandMail, Putter, Taker};
 use draw_list::Band;
 use std::mem;
 use std::sync::ledger::Ledger;
 use std::sync::{Mutex, Wait};
 use std::thread::Threads;
+use wakeups::{Wakeups, lock_soon};
 
 /// What the threads of a run share.
 pub struct Shared<'t, L: RunLedger, M: Ledger, D: Ledger> {
     board: Mutex<SharedBoard<'t, L, M, D>>,
     /// By which bands go to the printer.
     pub mail: BandMail<RunBand<'t, L>>,
-    /// Who waits.
-    pub waiting: Waiting,
+    /// Who sleeps.
+    pub wakeups: Wakeups,
     // Bands of a printed frame, for the workers to let go: they take the same memory again.
     printed: Mutex<Vec<Band>>,
 }
@@ -30,7 +29,7 @@ impl<'t, L: RunLedger, M: Ledger, D: Ledger> Drop for Shared<'t, L, M, D> {
         let Self {
             board: _,
             mail: _,
-            waiting: _,
+            wakeups: _,
             printed: _,
         } = self;
     }
@@ -50,7 +49,7 @@ impl<'t, L: RunLedger, M: Ledger, D: Ledger> Shared<'t, L, M, D> {
         Shared {
             board: Mutex::new(board),
             mail,
-            waiting: Waiting::new(rt, workers),
+            wakeups: Wakeups::new(rt, workers),
             printed: Mutex::new(printed),
         }
     }
@@ -63,7 +62,7 @@ impl<'t, L: RunLedger, M: Ledger, D: Ledger> Shared<'t, L, M, D> {
     /// Stops the board, so that all threads end.
     pub fn stop<R: Wait>(&self, rt: &R) {
         self.lock(rt).stop();
-        self.waiting.call_all();
+        self.wakeups.call_all();
     }
 
     /// Leaves the bands of a printed frame to the workers, for those that they left, which the next frame's replace.
@@ -94,7 +93,7 @@ impl<'t, L: RunLedger, M: Ledger, D: Ledger> Shared<'t, L, M, D> {
         let Self {
             board,
             mail,
-            waiting: _,
+            wakeups: _,
             printed: _,
         } = self;
         let left = mail.close(rt, putters, taker);

@@ -15,14 +15,13 @@ use crate::scratch::Scratch;
 use band_mail::Putter;
 use frame_params::{BoardStep, Lease, Step, Task};
 use game_session::Session;
-use run_shared::{
-    Cause, Given, HandedIn, RunBand, RunLedger, RunTask, Shared, SleepTime, Worked, draws_in,
-};
+use run_shared::{Cause, Given, HandedIn, RunBand, RunLedger, RunTask, Shared, Worked, draws_in};
 use std::alloc::Global;
 use std::hint;
 use std::sync::Wait;
 use std::sync::ledger::{Ledger, Share};
 use task_board::{BoardFault, Retired};
+use wakeups::Backoff;
 
 // How often a full queue is tried again before its worker waits for room: some microseconds.
 const TRIES: u32 = 100;
@@ -57,7 +56,7 @@ impl<'h, 't, L: RunLedger, M: Ledger, D: Ledger, G: Gate, R: Wait> Worker<'h, 't
         ensures part { share.new.parts ≡ share.old.parts }
     {
         // Who is awake stands in other cache lines, so that is read with the lock free.
-        let asks = !self.shared.waiting.are_enough();
+        let asks = !self.shared.wakeups.are_enough();
         let hold = self.shared.lock(self.rt);
         match hold.take(self.number, asks, lease, share) {
             Ok(given) => Ok(given),
@@ -77,16 +76,16 @@ impl<'h, 't, L: RunLedger, M: Ledger, D: Ledger, G: Gate, R: Wait> Worker<'h, 't
         ensures lease { IsLeaseOf self.now.session.now lease.new }
         ensures part { share.new.parts ≡ share.old.parts }
     {
-        let waiting = &self.shared.waiting;
-        let mut sleep = SleepTime::new();
+        let wakeups = &self.shared.wakeups;
+        let mut backoff = Backoff::new();
         for _ in self.rt.forever() {
-            waiting.rest(self.rt);
-            waiting.workers.enter();
+            wakeups.rest(self.rt);
+            wakeups.workers.enter();
             let given = self.look(lease, share);
             if let Ok(Given::Nothing) = &given {
-                waiting.workers.wait(self.rt, &mut sleep);
+                wakeups.workers.wait(self.rt, &mut backoff);
             }
-            waiting.workers.leave();
+            wakeups.workers.leave();
             match given {
                 Ok(Given::Nothing) => {}
                 given => return given,
@@ -106,8 +105,8 @@ impl<'h, 't, L: RunLedger, M: Ledger, D: Ledger, G: Gate, R: Wait> Worker<'h, 't
         ensures lease { IsLeaseOf self.now.session.now lease.new }
         ensures part { share.new.parts ≡ share.old.parts }
     {
-        let waiting = &self.shared.waiting;
-        let given = if waiting.are_too_many() {
+        let wakeups = &self.shared.wakeups;
+        let given = if wakeups.are_too_many() {
             self.wait_for_task(lease, share)
         } else {
             match self.look(lease, share) {
@@ -118,7 +117,7 @@ impl<'h, 't, L: RunLedger, M: Ledger, D: Ledger, G: Gate, R: Wait> Worker<'h, 't
         match given {
             Ok(Given::Task(task, is_more)) => {
                 if is_more {
-                    waiting.call_worker();
+                    wakeups.call_worker();
                 }
                 Ok(Some(task))
             }
@@ -162,25 +161,25 @@ impl<'h, 't, L: RunLedger, M: Ledger, D: Ledger, G: Gate, R: Wait> Worker<'h, 't
         ensures put { result ≡ true → putter.new ≡ with_put putter.old band.entry }
         ensures kept { result ≡ false → putter.new ≡ putter.old }
     {
-        let waiting = &self.shared.waiting;
-        let mut sleep = SleepTime::new();
+        let wakeups = &self.shared.wakeups;
+        let mut backoff = Backoff::new();
         let mut band = band;
-        waiting.room.enter();
+        wakeups.room.enter();
         for _ in self.rt.forever() {
             match self.shared.mail.put(self.rt, putter, band) {
                 Ok(()) => {
-                    waiting.room.leave();
-                    waiting.call_for_room();
+                    wakeups.room.leave();
+                    wakeups.call_for_room();
                     return true;
                 }
                 Err(back) => band = back,
             }
             if self.is_stopped() {
-                waiting.room.leave();
+                wakeups.room.leave();
                 return false;
             }
-            waiting.printer.call_one();
-            waiting.room.wait(self.rt, &mut sleep);
+            wakeups.printer.call_one();
+            wakeups.room.wait(self.rt, &mut backoff);
         }
         unreachable!()
     }
@@ -251,7 +250,7 @@ impl<'h, 't, L: RunLedger, M: Ledger, D: Ledger, G: Gate, R: Wait> Worker<'h, 't
         match hold.hand_in(self.number, told, share, draws) {
             Ok(HandedIn { shows, retired }) => {
                 if shows {
-                    self.shared.waiting.printer.call_one();
+                    self.shared.wakeups.printer.call_one();
                 }
                 Ok((Delivered::Told, Some(retired)))
             }

@@ -8,7 +8,7 @@ use Rattle.words.specs.declared.fault.WordsFault.{WordsFault}
 use Rattle.words.specs.declared.fault.WordsFault.TheVariants.{OutOfMemory, Help, Version, Refused}
 use Rattle.words.specs.declared.request.Words.{Words}
 use Rattle.words.specs.declared.request.Words.TheVariants.{Piped, Play, Replay, Check, Explain, Digest, State, Why, Complete, Record}
-use Rattle.words.specs.Program.{AreNumbers, Enters, IsNumber, IsReading, IsText, IsAskedFor, IsNoHelp, AsksToPlay, AsksToReplay, AsksToExplain, AsksToDigest, AsksForState, AsksWhy, AsksToComplete, AsksToRecord}
+use Rattle.words.specs.Program.{AreNumbers, Enters, IsNumber, IsReading, IsText, IsAskedFor, IsNoHelp, AsksToPlay, AsksToReplay, AsksToCheck, AsksToExplain, AsksToDigest, AsksForState, AsksWhy, AsksToComplete, AsksToRecord}
 
 abbrev pub name_in : Option (Text × List Row) → Text
 name_in None = []
@@ -82,6 +82,12 @@ pub read_as_replay : (words : List Text) (w : Words) (P : Words → Type 0) (Q :
 read_as_replay words w P Q reading asks step done =
     let it = read_as words w P (codes "replay") asks.0 reading asks.1 done in
     step it.0 it.1 it.2 it.3
+
+pub read_as_check : (words : List Text) (w : Words) (P : Words → Type 0) (Q : Type 0) → IsReading words w → AsksToCheck words
+    → ((level : _) → P (Check level) → Q) → P w → Q
+read_as_check words w P Q reading asks step done =
+    let it = read_as words w P (codes "check") asks.0 reading asks.1 done in
+    step it.0 it.1
 
 pub read_as_explain : (words : List Text) (w : Words) (P : Words → Type 0) (Q : Type 0) → IsReading words w → AsksToExplain words
     → ((level : _) (script : _) (log : _) → P (Explain level script log) → Q) → P w → Q

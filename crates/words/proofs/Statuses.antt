@@ -17,6 +17,7 @@ on_err_map (Err e) P Q f p = f p
 above_zero : (f : Fault) → 0 < status_of f
 above_zero (faults.File path) = omega arith
 above_zero faults.StandardInput = omega arith
+above_zero (faults.SameFile output input) = omega arith
 above_zero faults.Json = omega arith
 above_zero faults.Shape = omega arith
 above_zero faults.MapSize = omega arith

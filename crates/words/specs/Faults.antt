@@ -12,7 +12,7 @@ use Rattle.log_text.specs.Readings.{IsFirstFault}
 use Rattle.words.specs.declared.fault.WordsFault.{WordsFault}
 use Rattle.words.specs.declared.fault.WordsFault.TheVariants.{Refused}
 use Rattle.words.specs.declared.program_fault.Fault.{Fault}
-use Rattle.words.specs.declared.program_fault.Fault.TheVariants.{File, StandardInput, Json, Shape, MapSize, MapChar, Letters, AgentCount, BadTree, NoTree, NoPlace, NoAgent, ScriptLine, ScriptOrder, LogHead, LogLine, Write, Spawn, GateClosed, Stranger, OutOfMemory}
+use Rattle.words.specs.declared.program_fault.Fault.TheVariants.{File, StandardInput, SameFile, Json, Shape, MapSize, MapChar, Letters, AgentCount, BadTree, NoTree, NoPlace, NoAgent, ScriptLine, ScriptOrder, LogHead, LogLine, Write, Spawn, GateClosed, Stranger, OutOfMemory}
 
 -- a file or a write failed; refused words or files; want of memory, or the run failed otherwise
 abbrev pub status_of : Fault → ℕ
@@ -70,6 +70,12 @@ IsOfLog (logs.Line n) fault = fault ≡ LogLine n
 -- the bytes are no log
 abbrev pub IsReadingFault : List ℕ → Fault → Type 0
 IsReadingFault log fault = (f : LogFault) × ((f ≡ logs.OutOfMemory) ⊎ IsFirstFault log f) × IsOfLog f fault
+
+-- an output that is an input is reported by both paths
+abbrev pub IsSameFileFault : (output input : List ℕ) → Fault → Type 0
+IsSameFileFault output input OutOfMemory = Unit {0}
+IsSameFileFault output input (SameFile out into) = (string_bytes out ≡ output) × (string_bytes into ≡ input)
+IsSameFileFault output input _ = ⊥
 
 -- a file that can't be had is reported by its path
 abbrev pub IsFileFault : List ℕ → Fault → Type 0

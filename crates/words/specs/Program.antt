@@ -163,6 +163,10 @@ AsksToPlay words frames = (rows : List Row) × Enters words (codes "play") rows 
 abbrev pub AsksToReplay : List Text → Type 0
 AsksToReplay words = (rows : List Row) × Enters words (codes "replay") rows
 
+-- the words are taken for `check`
+abbrev pub AsksToCheck : List Text → Type 0
+AsksToCheck words = (rows : List Row) × Enters words (codes "check") rows
+
 -- the words are taken for `explain`
 abbrev pub AsksToExplain : List Text → Type 0
 AsksToExplain words = (rows : List Row) × Enters words (codes "explain") rows

@@ -12,7 +12,7 @@ use std::rt::Files;
 use std::{fs, io};
 
 /// Why a file could not be opened or made: for want of memory, or else by its name.
-fn file_fault(path: String, error: &io::Error) -> Fault
+pub(crate) fn file_fault(path: String, error: &io::Error) -> Fault
     ensures memory { error_kind error.now ≡ ErrorKind.OutOfMemory → result ≡ Fault.OutOfMemory }
     ensures file { error_kind error.now ≢ ErrorKind.OutOfMemory → result ≡ Fault.File path }
     ensures either { IsFileFault (string_bytes path) result }
@@ -63,18 +63,6 @@ pub fn create_file<H: Files>(rt: &H, path: String) -> Result<(H::File, String), 
         Ok(file) => Ok((file, path)),
         Err(error) => Err(file_fault(path, &error)),
     }
-}
-
-/// Makes a file of these bytes, in place of one that is there. Where it fails the file may be there with a first part
-/// of them.
-pub fn write_file<H: Files>(rt: &H, path: String, bytes: &[u8]) -> Result<(), Fault>
-    ensures { IfErr result (IsFileFault (string_bytes path)) }
-{
-    let (mut file, path) = create_file(rt, path)?;
-    if write_whole(&mut file, bytes).is_err() || file.flush().is_err() {
-        return Err(Fault::File(path));
-    }
-    Ok(())
 }
 
 /// Writes all bytes and flushes once. The fault is `Write`; a first part was written then.

@@ -13,6 +13,8 @@ pub enum Fault {
     File(String),
     #[error("file: standard input")]
     StandardInput,
+    #[error("words: {output} would overwrite {input}")]
+    SameFile { output: String, input: String },
     #[error("level: json")]
     Json,
     #[error("level: shape")]

@@ -1,6 +1,6 @@
 // What no clause says: a call of the board that is refused for memory answers, once it is called again, as it should.
 //
-// No growth is refused where this is run as it is; `scripts/refused_growths` refuses each in turn.
+// No growth is refused where this is run as it is; `scripts/runs/refused_growths.py` refuses each in turn.
 use super::sessions::session_of;
 use bumpalo::Bump;
 use frame_params::{BoardStep, LogicStep, Parked, Step, Task, ThinkStep};

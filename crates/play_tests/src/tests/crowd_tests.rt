@@ -1,6 +1,6 @@
 // A crowd with one worker and one slot: its events, and what a run that is refused memory tells.
 //
-// No growth is refused where this is run as it is; `scripts/refused_growths` refuses each in turn.
+// No growth is refused where this is run as it is; `scripts/runs/refused_growths.py` refuses each in turn.
 use super::levels::{CROWD, CROWD_TEXT};
 use play_run::{Cause, EveryJob, PlayFault, RunReport, run_bytes};
 use std::alloc::Global;

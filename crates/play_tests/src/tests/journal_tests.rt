@@ -33,6 +33,8 @@ impl Kept {
 }
 
 impl Journal for Kept {
+    ghost is_follower = { λ kept. kept.follows };
+
     fn follows(&self) -> bool {
         self.follows
     }

@@ -1,5 +1,5 @@
 use Rattle.commands.proofs.Untouched.{whole_is_part}
-use Rattle.commands.proofs.Doing.{played, played_in_part, replayed, replayed_in_part, explained, digested, digested_in_part, told, told_in_part, why_told, why_told_in_part, completed, completed_in_part, recorded, recorded_in_part}
+use Rattle.commands.proofs.Doing.{played, played_in_part, replayed, replayed_in_part, checked, checked_in_part, explained, digested, digested_in_part, told, told_in_part, why_told, why_told_in_part, completed, completed_in_part, recorded, recorded_in_part}
 use Rattle.commands.proofs.program.command.Goals as goal
 
 pub returns-in-Ok-play_input-clause-part : goal.returns-in-Ok-play_input-clause-part
@@ -17,6 +17,12 @@ returns-in-Ok-clause-replayed g c = λ asks zero. replayed _ _ _ c.in-Ok.words c
 
 pub returns-in-Ok-clause-replayed_part : goal.returns-in-Ok-clause-replayed_part
 returns-in-Ok-clause-replayed_part g c = λ asks. replayed_in_part _ _ _ c.in-Ok.words c.in-Ok.ensures.reading asks c.act.ensures.part
+
+pub returns-in-Ok-clause-checked : goal.returns-in-Ok-clause-checked
+returns-in-Ok-clause-checked g c = λ asks zero. checked _ _ _ c.in-Ok.words c.in-Ok.ensures.reading asks (c.act.ensures.done zero)
+
+pub returns-in-Ok-clause-checked_part : goal.returns-in-Ok-clause-checked_part
+returns-in-Ok-clause-checked_part g c = λ asks. checked_in_part _ _ _ c.in-Ok.words c.in-Ok.ensures.reading asks c.act.ensures.part
 
 pub returns-in-Ok-clause-explained : goal.returns-in-Ok-clause-explained
 returns-in-Ok-clause-explained g c = λ asks zero. explained _ _ _ c.in-Ok.words c.in-Ok.ensures.reading asks (c.act.ensures.done zero)

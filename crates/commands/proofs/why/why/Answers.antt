@@ -1,9 +1,9 @@
-use Rattle.std.proofs.Common.{◌≡◌, ◌∙◌, ◌<◌, ◌≤◌, ◌+◌, inr, refl, ap, subst, length, arith, ℕ, Option}
+use Rattle.std.proofs.Common.{◌≡◌, ◌∙◌, ◌<◌, ◌≤◌, inr, refl, ap, subst, length, arith, ℕ, List, Bool, Option}
 use Rattle.std.specs.Prelude.{IsSomeAnd, unwrap_or}
 use Rattle.game_rules.specs.Game.{Game}
 use Rattle.level_text.specs.Games.{spelled_game}
 use Rattle.stepping.specs.Played.{Played}
-use Rattle.commands.specs.Opening.{IsSteppedTo}
+use Rattle.tick_text.specs.Text.{IsNextTickText}
 use Rattle.commands.specs.Why.{HasAgent, agent_of_letter, why_text}
 use Rattle.commands.proofs.WhyTold.{has_agent, has_no_agent, no_tick, why_is}
 use Rattle.commands.proofs.why.why.Goals as goal
@@ -36,11 +36,10 @@ returns-clause-ok c =
     let same : c.unwrap_or-agent.result ≡ agent_of_letter c.args.letter.now = c.unwrap_or-agent.ensures ∙ ap (λ (o : Option ℕ). unwrap_or o 26) c.mark_in.ensures in
     let some : 0 < c.args.frame = omega (arith, c.if-frame-eq0.false) in
     let p : Played = c.step_all.new.game in
-    let q : Played = c.step.new.game in
-    let steps = subst (λ (x : Played). (g : Game) → IsSteppedTo g x.frame x → IsSteppedTo g (x.frame + 1) q) c.in_ok-after.ensures c.in_ok-step.ensures.ok in
-    subst (λ (a : ℕ). IsSomeAnd game (λ g. c.in_ok-told.field-0.items ≡ why_text g c.args.frame a)) same
-    (why_is game c.in_ok-opened.opened.game p q c.args.frame c.unwrap_or-agent.result c.in_ok-told.field-0.items some c.in_ok-opened.ensures.game
-    c.in_ok-step_all.ensures.ok steps c.in_ok-told.ensures)
+    let text : List ℕ = c.in_ok-next_tick_text.field-0.items in
+    let told = subst (λ (on : List Bool). IsNextTickText p on c.unwrap_or-agent.result text) c.scripted_signals-signals.ensures c.in_ok-next_tick_text.ensures in
+    subst (λ (a : ℕ). IsSomeAnd game (λ g. text ≡ why_text g c.args.frame a)) same
+    (why_is game c.in_ok-opened.opened.game p c.args.frame c.unwrap_or-agent.result text some c.in_ok-opened.ensures.game c.in_ok-step_all.ensures.ok told)
 
 pub returns-clause-agent : goal.returns-clause-agent
 returns-clause-agent c =

@@ -1,9 +1,9 @@
-use Rattle.std.proofs.Common.{rules, ◌≡◌, ◌+◌, ◌<◌, arith, ap, ◌∙◌}
+use Rattle.std.proofs.Common.{rules, ◌≡◌, ◌+◌, ◌<◌, arith, ap, sym, ◌∙◌}
 use Rattle.std.specs.Io.KnownBytes.{Appends}
 use Rattle.std.proofs.KnownBytes.{Appends-kept}
 use Rattle.game_rules.specs.Text.{texts, frame_text}
 use Rattle.run_shared.proofs.Texts.{one_more, part-of_more, part-of_whole}
-use Rattle.run_printer.proofs.Journals.{caught_up}
+use Rattle.run_printer.proofs.Journals.{caught_up, all_taken, broken_off, shown_more, none_shown}
 use Rattle.run_printer.proofs.printer.print.Goals as goal
 
 pub returns-in-Err-clause-err : goal.returns-in-Err-clause-err
@@ -31,6 +31,18 @@ returns-in-Err-note_news-clause-err g c =
     part-of_whole _ _ session _ (done + 1) (omega (arith, c.loop-done-test.true, c.frames-last.ensures.value))
     (one_more _ _ _ session done c.deref.result.now (c.deref.ensures.value ∙ c.in-Ok.ensures.text) c.loop-done.invariant.3 c.in-Ok-write_whole.ensures.ok)
 
+pub returns-in-Err-clause-part : goal.returns-in-Err-clause-part
+returns-in-Err-clause-part g c = all_taken _ _ c.loop-done.noted.items c.loop-done.invariant.4
+
+pub returns-in-Err-write_whole-clause-part : goal.returns-in-Err-write_whole-clause-part
+returns-in-Err-write_whole-clause-part g c = all_taken _ _ c.loop-done.noted.items c.loop-done.invariant.4
+
+pub returns-in-Err-note_news-clause-part : goal.returns-in-Err-note_news-clause-part
+returns-in-Err-note_news-clause-part g c = broken_off _ _ _ c.loop-done.noted.items c.note_news.new.noted.items c.loop-done.invariant.4 c.in-Err-note_news.ensures.err
+
+pub returns-in-Err-flush-clause-part : goal.returns-in-Err-flush-clause-part
+returns-in-Err-flush-clause-part g c = all_taken _ _ c.loop-done.noted.items c.loop-done.invariant.4
+
 pub loop-done-preserved : goal.loop-done-preserved
 loop-done-preserved g c =
     let inv = c.loop-done.invariant in (
@@ -38,5 +50,9 @@ loop-done-preserved g c =
       c.next_text.ensures.parts ∙ inv.1,
       omega (arith, c.in-Ok.ensures.counted, inv.2),
       one_more _ _ _ c.args.session.now c.loop-done.done c.deref.result.now (c.deref.ensures.value ∙ c.in-Ok.ensures.text) inv.3 c.in-Ok-write_whole.ensures.ok,
-      caught_up _ _ _ c.loop-done.noted.items c.note_news.new.noted.items inv.4 c.in-Ok-note_news.ensures,
+      caught_up _ _ _ c.loop-done.noted.items c.note_news.new.noted.items inv.4 c.in-Ok-note_news.ensures.ok,
+      c.in-Ok-note_news.ensures.follower ∙ inv.5,
+      λ follows.
+          shown_more c.loop-done.noted.items c.in-Ok-note_news.ensures.ok.0 c.note_news.new.noted.items c.loop-done.done c.in-Ok-note_news.ensures.ok.1 (inv.6 follows)
+          (c.in-Ok-note_news.ensures.shown (inv.5 ∙ follows)),
     )

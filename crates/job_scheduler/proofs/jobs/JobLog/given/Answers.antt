@@ -27,7 +27,7 @@ pub returns-in_default-held_by-clause-picked : goal.returns-in_default-held_by-c
 returns-in_default-held_by-clause-picked c = rw (← c.self.view_is) (λ q l. absurd (no_fiber (the_view c.self.inside) c.self.inside.scheduler _ _ c.self.invariant.0 q l c.args.worker (stop_is (the_view c.self.inside) c.self.inside.scheduler _ _ c.self.invariant.0 q l false (sym c.if-is_stopped.false ∙ c.is_stopped.ensures), omega (arith, c.if-worker-workers.false, c.workers.ensures.value)) (idle_where (the_view c.self.inside) c.self.inside.scheduler _ _ c.self.invariant.0 q l c.args.worker c.in-None.ensures) c.in-Ready.fiber (ap (λ p. Some (picked p)) (sym c.in-Ready.is) ∙ c.in-Some-find.ensures.value) (sym c.in_default-held_by.ensures)))
 
 pub returns-in-Some-held_by-clause-given : goal.returns-in-Some-held_by-clause-given
-returns-in-Some-held_by-clause-given c = rw (← c.self.view_is) (λ q l. (resume_given (the_view c.self.inside) c.self.inside.scheduler _ _ c.self.invariant.0 q l c.args.worker (stop_is (the_view c.self.inside) c.self.inside.scheduler _ _ c.self.invariant.0 q l false (sym c.if-is_stopped.false ∙ c.is_stopped.ensures), omega (arith, c.if-worker-workers.false, c.workers.ensures.value)) (idle_where (the_view c.self.inside) c.self.inside.scheduler _ _ c.self.invariant.0 q l c.args.worker c.in-None.ensures) c.in-Ready.fiber (ap (λ p. Some (picked p)) (sym c.in-Ready.is) ∙ c.in-Some-find.ensures.value) c.in-Some-held_by.held (sym c.in-Some-held_by.ensures), resume_step (the_view c.self.inside) c.self.inside.scheduler _ _ c.self.invariant.0 q l c.args.worker (stop_is (the_view c.self.inside) c.self.inside.scheduler _ _ c.self.invariant.0 q l false (sym c.if-is_stopped.false ∙ c.is_stopped.ensures), omega (arith, c.if-worker-workers.false, c.workers.ensures.value)) (idle_where (the_view c.self.inside) c.self.inside.scheduler _ _ c.self.invariant.0 q l c.args.worker c.in-None.ensures) c.in-Ready.fiber (ap (λ p. Some (picked p)) (sym c.in-Ready.is) ∙ c.in-Some-find.ensures.value) c.in-Some-held_by.held (sym c.in-Some-held_by.ensures)))
+returns-in-Some-held_by-clause-given c = rw (← c.self.view_is) (λ q l. let stands = resume_step (the_view c.self.inside) c.self.inside.scheduler _ _ c.self.invariant.0 q l c.args.worker (stop_is (the_view c.self.inside) c.self.inside.scheduler _ _ c.self.invariant.0 q l false (sym c.if-is_stopped.false ∙ c.is_stopped.ensures), omega (arith, c.if-worker-workers.false, c.workers.ensures.value)) (idle_where (the_view c.self.inside) c.self.inside.scheduler _ _ c.self.invariant.0 q l c.args.worker c.in-None.ensures) c.in-Ready.fiber (ap (λ p. Some (picked p)) (sym c.in-Ready.is) ∙ c.in-Some-find.ensures.value) c.in-Some-held_by.held (sym c.in-Some-held_by.ensures) in (resume_given (the_view c.self.inside) c.self.inside.scheduler _ _ c.self.invariant.0 q l c.args.worker (stop_is (the_view c.self.inside) c.self.inside.scheduler _ _ c.self.invariant.0 q l false (sym c.if-is_stopped.false ∙ c.is_stopped.ensures), omega (arith, c.if-worker-workers.false, c.workers.ensures.value)) (idle_where (the_view c.self.inside) c.self.inside.scheduler _ _ c.self.invariant.0 q l c.args.worker c.in-None.ensures) c.in-Ready.fiber (ap (λ p. Some (picked p)) (sym c.in-Ready.is) ∙ c.in-Some-find.ensures.value) c.in-Some-held_by.held (sym c.in-Some-held_by.ensures), stands.1, stands.0))
 
 pub returns-in-Some-held_by-clause-place : goal.returns-in-Some-held_by-clause-place
 returns-in-Some-held_by-clause-place c = rw (← c.self.view_is) (λ q l. rw (← c.self.invariant.0.core q) (resume_place (the_view c.self.inside) c.self.inside.scheduler _ _ c.self.invariant.0 q l c.args.worker (stop_is (the_view c.self.inside) c.self.inside.scheduler _ _ c.self.invariant.0 q l false (sym c.if-is_stopped.false ∙ c.is_stopped.ensures), omega (arith, c.if-worker-workers.false, c.workers.ensures.value)) (idle_where (the_view c.self.inside) c.self.inside.scheduler _ _ c.self.invariant.0 q l c.args.worker c.in-None.ensures) c.in-Ready.fiber (ap (λ p. Some (picked p)) (sym c.in-Ready.is) ∙ c.in-Some-find.ensures.value) c.in-Some-held_by.held (sym c.in-Some-held_by.ensures), subst (λ x. IsAt c.self.inside.scheduler.queues x c.in-Some-find.field-0.place) c.in-Ready.is c.in-Some-find.ensures.place))

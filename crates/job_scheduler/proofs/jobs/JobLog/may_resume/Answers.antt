@@ -27,7 +27,8 @@ pub returns-clause-some : goal.returns-clause-some
 returns-clause-some c = rw (← c.self.view_is) (λ q l.
     let free = ((rw (← c.self.view_is) at c.is_free.ensures) q l).0 c.if-not-is_free.false in
     let legal = resume_legal (the_view c.self.inside) c.self.inside.scheduler _ _ c.self.invariant.0 q l c.args.worker c.args.job c.in-Some.fiber c.in-Some.ensures free (there_at (λ other. c.in-Some.fiber == other) c.self.inside.scheduler.queues.ready c.in-Some-find_ready.place c.in-Some-find_ready.ensures) in
-    (legal, resume_stands (the_view c.self.inside) c.self.inside.scheduler _ _ c.self.invariant.0 q l c.args.worker c.args.job c.in-Some.fiber c.in-Some.ensures c.in-Some-held_by.held c.in-Some-held_by.ensures legal))
+    let stands = resume_stands (the_view c.self.inside) c.self.inside.scheduler _ _ c.self.invariant.0 q l c.args.worker c.args.job c.in-Some.fiber c.in-Some.ensures c.in-Some-held_by.held c.in-Some-held_by.ensures legal in
+    (legal, stands.1, stands.0))
 
 pub returns-clause-place : goal.returns-clause-place
 returns-clause-place c = rw (← c.self.view_is) (λ q. subst (λ (x : Core). IsFirstAt (λ other. c.in-Some.fiber == other) x.queues.ready c.in-Some-find_ready.place) (c.self.invariant.0.core q) c.in-Some-find_ready.ensures)

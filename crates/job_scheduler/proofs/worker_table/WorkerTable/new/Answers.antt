@@ -4,7 +4,7 @@ use Rattle.job_scheduler.proofs.Fronts.{all_empty}
 use Rattle.job_scheduler.proofs.worker_table.WorkerTable.new.Goals as goal
 
 pub invariant_of-result : goal.invariant_of-result
-invariant_of-result c = (c.requires, all_empty c.args.workers 16)
+invariant_of-result c = (c.requires, all_empty c.args.workers 64)
 
 pub returns : goal.returns
-returns c = front_replicate c.args.workers 16 None c.requires
+returns c = front_replicate c.args.workers 64 None c.requires

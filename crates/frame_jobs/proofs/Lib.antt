@@ -1,0 +1,4 @@
+pub mod Boarding
+pub mod Going
+pub mod Refusing
+pub mod Taking

@@ -1,0 +1,4 @@
+pub mod Boards
+pub mod BoardCode
+pub mod Going
+pub mod Draws
