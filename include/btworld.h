@@ -16,7 +16,8 @@
  *
  * Each call but btworld_version and btworld_close answers a status, and says below what it *fails with*, in the order in which it looks; NO_MEMORY may
  * come in between. After any failure each handle and each buffer is as it was, and the same call may come again, but for what is
- * said at btworld_step, btworld_replay and btworld_log_frames, and that SHORT writes *size: how much is wanted.
+ * said at btworld_step, btworld_run, btworld_step_all, btworld_replay and btworld_log_frames, and that SHORT writes *size: how much is
+ * wanted.
  *
  * In all versions 2.x these stay, so that a program goes on with a newer shared library (libbtworld.so.2) as it was built:
  *  - the name, the arguments and the meaning of each call, and the number of each status: a new status comes of new calls alone;
@@ -32,7 +33,7 @@
 #include <stdint.h>
 
 /* 10000 * major + 100 * minor + patch */
-#define BTWORLD_VERSION 20000
+#define BTWORLD_VERSION 20100
 
 #if defined(__cplusplus) || (defined(__STDC_VERSION__) && __STDC_VERSION__ >= 199901L)
 #define BTWORLD_INLINE static inline
@@ -57,16 +58,50 @@ enum btworld_answer {
     BTWORLD_SUCCESS = 0,
     BTWORLD_FAILURE = 1,
     BTWORLD_RUNNING = 2,
-    BTWORLD_NOT_TICKED = 3 /* of btworld_nodes alone */
+    BTWORLD_NOT_TICKED = 3 /* of btworld_nodes, and before the first frame of btworld_agents and btworld_look_all */
 };
 
-/* x counts columns from the left and y rows from the top, from 0; status is one of btworld_answer, and never BTWORLD_NOT_TICKED. */
+/* x counts columns from the left and y rows from the top, from 0; status is one of btworld_answer, and of btworld_agent never
+ * BTWORLD_NOT_TICKED. */
 BTWORLD_SINCE_C99 typedef struct btworld_agent_state { uint32_t x, y; bool carrying; uint8_t status; } btworld_agent_state;
 
 /* mark is what the level's map has there where nobody stands and nothing lies: # a wall, . the floor, a to z a door, open or shut,
  * 0 to 9 a place. item is whether an item lies there; agent is who stands there, 0 for A, and BTWORLD_NOBODY where nobody does. */
 BTWORLD_SINCE_C99 typedef struct btworld_cell_state { uint8_t mark; bool item; uint8_t agent; } btworld_cell_state;
 #define BTWORLD_NOBODY 255
+
+/* The first step of a walk. North leads to the row above, whose number is one less. */
+enum btworld_direction {
+    BTWORLD_NORTH = 0,
+    BTWORLD_EAST = 1,
+    BTWORLD_SOUTH = 2,
+    BTWORLD_WEST = 3,
+    BTWORLD_HERE = 4,  /* no step is wanted */
+    BTWORLD_NO_WAY = 5 /* of btworld_way alone: no walk leads there */
+};
+
+/* How many steps a shortest walk has, 0 where none leads there, and its first direction, one of btworld_direction. */
+BTWORLD_SINCE_C99 typedef struct btworld_way_state { uint32_t steps, direction; } btworld_way_state;
+
+/* What an agent wants to do in a frame. */
+enum btworld_deed {
+    BTWORLD_STAY = 0,
+    BTWORLD_MOVE = 1,
+    BTWORLD_TAKE = 2,
+    BTWORLD_DROP = 3,
+    BTWORLD_GIVE = 4
+};
+
+/* deed is one of btworld_deed. node is the node that wants it, in preorder from 0, and BTWORLD_NO_NODE where the agent stays. x and y
+ * are the cell onto which it moves, that of the agent to whom it gives, or else its own. direction is one of btworld_direction, and
+ * BTWORLD_HERE but for a move. agent is to whom it gives, 0 for A, and BTWORLD_NOBODY but for a gift. granted is whether the frame does
+ * what is wanted: never where the agent stays. */
+BTWORLD_SINCE_C99 typedef struct btworld_intent_state {
+    uint32_t node, x, y;
+    uint8_t deed, direction, agent;
+    bool granted;
+} btworld_intent_state;
+#define BTWORLD_NO_NODE 0xffffffffu
 
 enum btworld_status {
     BTWORLD_OK = 0,
@@ -79,6 +114,7 @@ enum btworld_status {
     BTWORLD_LAST_FRAME = 7, /* 2^32 - 1 frames were stepped */
     BTWORLD_NO_CELL = 8,    /* there is no such cell */
     BTWORLD_LONG = 9,       /* a signal changed after frame 9999, which no script can name */
+    BTWORLD_NO_PLACE = 10,  /* the map has no such place */
     /* LEVEL: the first fault of a level, in this order */
     BTWORLD_LEVEL_JSON = 16,
     BTWORLD_LEVEL_SHAPE = 17,
@@ -123,6 +159,7 @@ BTWORLD_INLINE const char *btworld_status_text(uint32_t status) {
     case BTWORLD_LAST_FRAME: return "the last frame was stepped";
     case BTWORLD_NO_CELL: return "there is no such cell";
     case BTWORLD_LONG: return "a signal changed after frame 9999";
+    case BTWORLD_NO_PLACE: return "there is no such place";
     case BTWORLD_LEVEL_JSON: return "level: json";
     case BTWORLD_LEVEL_SHAPE: return "level: shape";
     case BTWORLD_LEVEL_MAP_SIZE: return "level: map size";
@@ -291,7 +328,73 @@ uint32_t btworld_log_frames(const uint8_t *level, size_t level_length, const uin
 uint32_t btworld_complete(const uint8_t *level, size_t level_length, const uint8_t *script, size_t script_length, const uint8_t *log,
                           size_t log_length, uint8_t *whole, size_t capacity, size_t *size);
 
-/* Bytes of length 0 may be null: the calls below, by macros of their names, hand on the address of a byte for it. Where a call's
+/* ---- The calls from here on came with 2.1.0: an older library doesn't have them. */
+
+/* All cells after the frame, or before the first one, row after row, at the start of a buffer, and how many they are, width * height:
+ * each as btworld_cell tells it. capacity counts cells.
+ * Fails with CLOSED, SHORT. */
+uint32_t btworld_cells(const btworld_game *game, btworld_cell_state *cells, size_t capacity, size_t *size);
+
+/* All agents after the frame, A first, at the start of a buffer, and how many they are, at most 26: each as btworld_agent tells it, and
+ * before the first frame as the map has it, with the status BTWORLD_NOT_TICKED. capacity counts agents.
+ * Fails with CLOSED, SHORT. */
+uint32_t btworld_agents(const btworld_game *game, btworld_agent_state *agents, size_t capacity, size_t *size);
+
+/* A frame with each of these signals, in their order, as so many calls of btworld_step, and how many frames were stepped, which is told
+ * whatever the status is.
+ * Fails with CLOSED, LAST_FRAME, NO_MEMORY, at the first frame with which btworld_step does; not where there are no signals. The frames
+ * before it were stepped, and the game is as that failed step leaves it: the call may come again with the signals from there on. */
+uint32_t btworld_run(btworld_game *game, const uint32_t *signals, size_t count, size_t *stepped);
+
+/* The next frame of each of these games, which lie side by side, the first with the first of the signals, as so many calls of
+ * btworld_step, and how many games were stepped, which is told whatever the status is. Signals behind those of the last game count
+ * nothing. Games that share a level may be among them, and several threads may each have a part.
+ * Fails with SHORT where the signals are fewer than the games, and then no game is stepped; with CLOSED, LAST_FRAME, NO_MEMORY at the
+ * first game with which btworld_step does: those before it were stepped, it is as that failed step leaves it, and those behind it are
+ * as they were. */
+uint32_t btworld_step_all(btworld_game *games, size_t count, const uint32_t *signals, size_t signal_count, size_t *stepped);
+
+/* What btworld_cells tells of each of these games, which lie side by side, behind one another at the start of a buffer, and what
+ * btworld_agents tells of each at the start of another. Capacities count cells and agents; btworld_map tells how many a game has.
+ * Fails with CLOSED, and with SHORT where either buffer is, whichever comes at the first game. */
+uint32_t btworld_look_all(const btworld_game *games, size_t count, btworld_cell_state *cells, size_t cell_capacity,
+                          btworld_agent_state *agents, size_t agent_capacity);
+
+/* As btworld_load, with a script beside the game for btworld_step_script: the next frame has the signals that the script has in the
+ * frame of that number. So level, script and state are a save of a game that goes on by its script.
+ * Fails with OPEN, NO_MEMORY, LEVEL, SCRIPT, STATE. */
+uint32_t btworld_load_script(btworld_game *game, const uint8_t *level, size_t level_length, const uint8_t *script,
+                             size_t script_length, const uint8_t *state, size_t state_length);
+
+/* The names of an agent's nodes, 0 for A, in preorder, at the start of a buffer, and how many bytes they have: of each a line, with two
+ * spaces for each level above it, as `btworld why` writes it (`seq*`, `  move 0`, `  wait 3`). They are the same at each frame.
+ * Fails with CLOSED, NO_AGENT, NO_MEMORY, SHORT. */
+uint32_t btworld_node_names(const btworld_game *game, uint32_t agent, uint8_t *text, size_t capacity, size_t *size);
+
+/* The way from an agent, 0 for A, to a place, 0 to 9, in the next frame if that has these signals, which are taken as btworld_step takes
+ * them: what a `move` to it gets, and `btworld why` shows. It takes the time of one search, where the distances are not known.
+ * Fails with CLOSED, NO_AGENT, NO_PLACE, NO_MEMORY. */
+uint32_t btworld_way(const btworld_game *game, uint32_t signals, uint32_t agent, uint32_t place, btworld_way_state *out);
+
+/* What an agent, 0 for A, wants to do in the next frame if that has these signals, which are taken as btworld_step takes them, which node
+ * of its tree wants it, and whether the frame grants it: others may be on the cell first. It takes the time of that frame.
+ * Fails with CLOSED, NO_AGENT, LAST_FRAME, NO_MEMORY. */
+uint32_t btworld_intent(const btworld_game *game, uint32_t signals, uint32_t agent, btworld_intent_state *out);
+
+/* Where the first fault of a level or, where that has none, of a script lies, and why it is one, at the start of a buffer, and how many
+ * bytes that has: the second line that `btworld explain` writes, from the line's number on, a line feed, and the third. 0 bytes mean
+ * that neither has a fault.
+ * Fails with NO_MEMORY, SHORT. */
+uint32_t btworld_explain(const uint8_t *level, size_t level_length, const uint8_t *script, size_t script_length, uint8_t *text,
+                         size_t capacity, size_t *size);
+
+/* What `btworld why` writes of an agent, 0 for A, if the next frame has these signals, at the start of a buffer, and how many bytes it
+ * has: the frame's number, the agent in that frame, and for each node in preorder what btworld_nodes answers of it, its name, and a
+ * move's way or how its memory changes.
+ * Fails with CLOSED, NO_AGENT, LAST_FRAME, NO_MEMORY, SHORT. */
+uint32_t btworld_why(const btworld_game *game, uint32_t signals, uint32_t agent, uint8_t *text, size_t capacity, size_t *size);
+
+/* Bytes and arrays of length 0 may be null: the calls below, by macros of their names, hand on an address for it. Where a call's
  * address is taken, or its name stands in parentheses, it is the call itself, and no pointer may be null. An argument with a comma
  * that no parentheses are around, as in a compound literal, wants parentheses of its own. */
 BTWORLD_INLINE const uint8_t *btworld_some(const uint8_t *bytes) {
@@ -305,6 +408,22 @@ BTWORLD_INLINE uint8_t *btworld_some_room(uint8_t *room) {
 BTWORLD_INLINE uint16_t *btworld_some_numbers(uint16_t *numbers) {
     static uint16_t none;
     return numbers ? numbers : &none;
+}
+BTWORLD_INLINE const uint32_t *btworld_some_signals(const uint32_t *signals) {
+    static const uint32_t none = 0;
+    return signals ? signals : &none;
+}
+BTWORLD_INLINE btworld_game *btworld_some_games(const btworld_game *games) {
+    static btworld_game none;
+    return games ? (btworld_game *)games : &none;
+}
+BTWORLD_INLINE btworld_cell_state *btworld_some_cells(btworld_cell_state *cells) {
+    static btworld_cell_state none;
+    return cells ? cells : &none;
+}
+BTWORLD_INLINE btworld_agent_state *btworld_some_agents(btworld_agent_state *agents) {
+    static btworld_agent_state none;
+    return agents ? agents : &none;
 }
 #define btworld_check(level, length) btworld_check(btworld_some(level), length)
 #define btworld_fault_text(level, level_length, script, script_length, text, capacity, size) \
@@ -330,6 +449,22 @@ BTWORLD_INLINE uint16_t *btworld_some_numbers(uint16_t *numbers) {
 #define btworld_complete(level, level_length, script, script_length, log, log_length, whole, capacity, size) \
     btworld_complete(btworld_some(level), level_length, btworld_some(script), script_length, btworld_some(log), log_length, \
                      btworld_some_room(whole), capacity, size)
+#define btworld_cells(game, cells, capacity, size) btworld_cells(game, btworld_some_cells(cells), capacity, size)
+#define btworld_agents(game, agents, capacity, size) btworld_agents(game, btworld_some_agents(agents), capacity, size)
+#define btworld_run(game, signals, count, stepped) btworld_run(game, btworld_some_signals(signals), count, stepped)
+#define btworld_step_all(games, count, signals, signal_count, stepped) \
+    btworld_step_all(btworld_some_games(games), count, btworld_some_signals(signals), signal_count, stepped)
+#define btworld_look_all(games, count, cells, cell_capacity, agents, agent_capacity) \
+    btworld_look_all(btworld_some_games(games), count, btworld_some_cells(cells), cell_capacity, btworld_some_agents(agents), \
+                     agent_capacity)
+#define btworld_load_script(game, level, level_length, script, script_length, state, state_length) \
+    btworld_load_script(game, btworld_some(level), level_length, btworld_some(script), script_length, btworld_some(state), \
+                        state_length)
+#define btworld_node_names(game, agent, text, capacity, size) btworld_node_names(game, agent, btworld_some_room(text), capacity, size)
+#define btworld_explain(level, level_length, script, script_length, text, capacity, size) \
+    btworld_explain(btworld_some(level), level_length, btworld_some(script), script_length, btworld_some_room(text), capacity, size)
+#define btworld_why(game, signals, agent, text, capacity, size) \
+    btworld_why(game, signals, agent, btworld_some_room(text), capacity, size)
 
 #ifdef BTWORLD_HOOKED
 /* What a library that was built by `make HOOKED=1` takes all its memory from. The program defines them; they do what the C library's

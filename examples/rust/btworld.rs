@@ -30,8 +30,36 @@ struct CellState {
     agent: u8,
 }
 
+#[repr(C)]
+#[derive(Clone, Copy, Default)]
+struct WayState {
+    steps: u32,
+    direction: u32,
+}
+
+#[repr(C)]
+#[derive(Clone, Copy, Default)]
+struct IntentState {
+    node: u32,
+    x: u32,
+    y: u32,
+    deed: u8,
+    direction: u8,
+    agent: u8,
+    granted: bool,
+}
+
 unsafe extern "C" {
     fn btworld_fault_text(
+        level: *const u8,
+        level_length: usize,
+        script: *const u8,
+        script_length: usize,
+        text: *mut u8,
+        capacity: usize,
+        size: *mut usize,
+    ) -> u32;
+    fn btworld_explain(
         level: *const u8,
         level_length: usize,
         script: *const u8,
@@ -47,14 +75,34 @@ unsafe extern "C" {
         script: *const u8,
         script_length: usize,
     ) -> u32;
-    fn btworld_load(game: *mut Handle, level: *const u8, level_length: usize, state: *const u8, state_length: usize) -> u32;
+    fn btworld_load_script(
+        game: *mut Handle,
+        level: *const u8,
+        level_length: usize,
+        script: *const u8,
+        script_length: usize,
+        state: *const u8,
+        state_length: usize,
+    ) -> u32;
     fn btworld_step(game: *mut Handle, signals: u32) -> u32;
     fn btworld_step_script(game: *mut Handle) -> u32;
+    fn btworld_run(game: *mut Handle, signals: *const u32, count: usize, stepped: *mut usize) -> u32;
     fn btworld_text(game: *const Handle, text: *mut u8, capacity: usize, size: *mut usize) -> u32;
     fn btworld_agent(game: *const Handle, agent: u32, out: *mut AgentState) -> u32;
+    fn btworld_agents(game: *const Handle, agents: *mut AgentState, capacity: usize, size: *mut usize) -> u32;
     fn btworld_map(game: *const Handle, width: *mut u32, height: *mut u32, agents: *mut u32) -> u32;
     fn btworld_cell(game: *const Handle, x: u32, y: u32, out: *mut CellState) -> u32;
+    fn btworld_cells(game: *const Handle, cells: *mut CellState, capacity: usize, size: *mut usize) -> u32;
+    fn btworld_step_all(games: *mut Handle, count: usize, signals: *const u32, signal_count: usize, stepped: *mut usize) -> u32;
     fn btworld_frame(game: *const Handle, frame: *mut u32) -> u32;
+    fn btworld_look_all(
+        games: *const Handle,
+        count: usize,
+        cells: *mut CellState,
+        cell_capacity: usize,
+        agents: *mut AgentState,
+        agent_capacity: usize,
+    ) -> u32;
     fn btworld_fork(game: *const Handle, copy: *mut Handle) -> u32;
     fn btworld_same(game: *const Handle, other: *const Handle, same: *mut bool) -> u32;
     fn btworld_digest(game: *const Handle, digest: *mut u64) -> u32;
@@ -62,8 +110,12 @@ unsafe extern "C" {
     fn btworld_state(game: *const Handle, text: *mut u8, capacity: usize, size: *mut usize) -> u32;
     fn btworld_memory(game: *const Handle, agent: u32, numbers: *mut u16, capacity: usize, size: *mut usize) -> u32;
     fn btworld_nodes(game: *const Handle, signals: u32, agent: u32, answers: *mut u8, capacity: usize, size: *mut usize) -> u32;
+    fn btworld_node_names(game: *const Handle, agent: u32, text: *mut u8, capacity: usize, size: *mut usize) -> u32;
     fn btworld_signals(game: *const Handle, shown: *mut u32, scripted: *mut u32) -> u32;
+    fn btworld_way(game: *const Handle, signals: u32, agent: u32, place: u32, out: *mut WayState) -> u32;
+    fn btworld_intent(game: *const Handle, signals: u32, agent: u32, out: *mut IntentState) -> u32;
     fn btworld_script(game: *const Handle, text: *mut u8, capacity: usize, size: *mut usize) -> u32;
+    fn btworld_why(game: *const Handle, signals: u32, agent: u32, text: *mut u8, capacity: usize, size: *mut usize) -> u32;
     fn btworld_close(game: *mut Handle);
 }
 
@@ -82,8 +134,12 @@ pub enum Fault {
     LastFrame,
     /// There is no such cell.
     NoCell,
+    /// The map has no such place.
+    NoPlace,
     /// A signal changed after frame 9999, which no script can name.
     Long,
+    /// There are fewer signals than games.
+    Short,
 }
 
 impl fmt::Display for Fault {
@@ -95,7 +151,9 @@ impl fmt::Display for Fault {
             Fault::NoAgent => "there is no such agent",
             Fault::LastFrame => "the last frame was stepped",
             Fault::NoCell => "there is no such cell",
+            Fault::NoPlace => "there is no such place",
             Fault::Long => "a signal changed after frame 9999",
+            Fault::Short => "there are fewer signals than games",
         })
     }
 }
@@ -108,10 +166,12 @@ fn done(status: u32) -> Result<(), Fault> {
         0 => Ok(()),
         1 => Err(Fault::NoMemory),
         4 => Err(Fault::NoFrame),
+        5 => Err(Fault::Short),
         6 => Err(Fault::NoAgent),
         7 => Err(Fault::LastFrame),
         8 => Err(Fault::NoCell),
         9 => Err(Fault::Long),
+        10 => Err(Fault::NoPlace),
         _ => unreachable!("the types here rule status {status} out"),
     }
 }
@@ -135,11 +195,24 @@ fn written(call: impl FnMut(*mut u8, usize, &mut usize) -> u32) -> Result<String
     Ok(String::from_utf8(filled(call)?).expect("what btworld writes is UTF-8"))
 }
 
-/// The line of the first fault of a level or a script.
-fn fault_text(level: &[u8], script: &[u8]) -> Result<String, Fault> {
+/// The line that btworld writes of the first fault of a level or a script; empty where there is none.
+pub fn fault_text(level: &[u8], script: &[u8]) -> Result<String, Fault> {
     // SAFETY: a slice has as many bytes as it says, and is never null; `written` hands in a buffer that is as long as it says.
     written(|text, capacity, size| unsafe {
         btworld_fault_text(level.as_ptr(), level.len(), script.as_ptr(), script.len(), text, capacity, size)
+    })
+}
+
+/// Where the first fault of a level or a script lies and why it is one, as `btworld explain` tells it; empty where there is none.
+///
+/// ```
+/// assert_eq!(btworld::explain(b"{\n}", b"")?, "1:1\nthe key \"map\" is missing; wanted: map, agents, trees");
+/// # Ok::<(), btworld::Fault>(())
+/// ```
+pub fn explain(level: &[u8], script: &[u8]) -> Result<String, Fault> {
+    // SAFETY: as in `fault_text`.
+    written(|text, capacity, size| unsafe {
+        btworld_explain(level.as_ptr(), level.len(), script.as_ptr(), script.len(), text, capacity, size)
     })
 }
 
@@ -158,13 +231,78 @@ impl Answer {
     }
 }
 
-/// An agent after a frame: `x` counts columns from the left and `y` rows from the top, from 0.
+/// The first step of a way. North leads to the row above.
+#[derive(Clone, Copy, Debug, PartialEq, Eq)]
+pub enum Direction {
+    North,
+    East,
+    South,
+    West,
+}
+
+impl Direction {
+    /// By its number in btworld.h; none where no step is wanted.
+    fn of(number: u32) -> Option<Direction> {
+        [Direction::North, Direction::East, Direction::South, Direction::West].get(number as usize).copied()
+    }
+}
+
+/// A shortest walk to a place.
+#[derive(Clone, Copy, Debug, PartialEq, Eq)]
+pub enum Way {
+    /// The agent stands there.
+    Here,
+    /// No walk leads there.
+    None,
+    /// The first step, and how many there are.
+    Steps(Direction, u32),
+}
+
+/// What an agent wants to do in a frame.
+#[derive(Clone, Copy, Debug, PartialEq, Eq)]
+pub enum Deed {
+    Stay,
+    Move(Direction),
+    Take,
+    Drop,
+    /// To whom, 0 for `A`.
+    Give(u32),
+}
+
+/// What an agent wants to do: the node of its tree that wants it, in preorder from 0, `None` where the agent stays; the cell onto which it
+/// moves, that of the agent to whom it gives, or else its own; and whether the frame does it.
+#[derive(Clone, Copy, Debug, PartialEq, Eq)]
+pub struct Intent {
+    pub deed: Deed,
+    pub node: Option<u32>,
+    pub x: u32,
+    pub y: u32,
+    pub granted: bool,
+}
+
+/// The number of the signals with these letters, whose bit 0 is `a`; `None` where one is not from `a` to `z`.
+///
+/// ```
+/// assert_eq!(btworld::mask_of("ac"), Some(5));
+/// assert_eq!(btworld::mask_of("A"), None);
+/// ```
+pub fn mask_of(letters: &str) -> Option<u32> {
+    letters.bytes().try_fold(0, |mask, it| it.is_ascii_lowercase().then(|| mask | 1 << (it - b'a')))
+}
+
+/// An agent after a frame: `x` counts columns from the left and `y` rows from the top, from 0. `answer` is `None` before the first frame.
 #[derive(Clone, Copy, Debug, PartialEq, Eq)]
 pub struct Agent {
     pub x: u32,
     pub y: u32,
     pub carrying: bool,
-    pub answer: Answer,
+    pub answer: Option<Answer>,
+}
+
+impl Agent {
+    fn of(state: AgentState) -> Agent {
+        Agent { x: state.x, y: state.y, carrying: state.carrying, answer: Answer::of(state.status) }
+    }
 }
 
 /// How many columns and rows a map has, and how many agents stand on it.
@@ -183,7 +321,36 @@ pub struct Cell {
     pub agent: Option<u32>,
 }
 
-/// A game after a frame. The calls that only read write to the handle while they do, so it lies in a cell.
+impl Cell {
+    fn of(state: CellState) -> Cell {
+        let agent = (state.agent != 255).then_some(u32::from(state.agent));
+        Cell { mark: char::from(state.mark), item: state.item, agent }
+    }
+}
+
+/// The cells of some games, those of each behind those of the game before, and their agents.
+#[derive(Clone, Debug, PartialEq, Eq)]
+pub struct Look {
+    pub cells: Vec<Cell>,
+    pub agents: Vec<Agent>,
+}
+
+/// A game after a frame.
+///
+/// ```
+/// use btworld::{Fault, Game};
+///
+/// let level = br#"{"map":["Aa0"],"agents":["t"],"trees":{"t":["move","0"]}}"#;
+/// let mut game = Game::open(level, b"")?;
+/// let kept = game.fork()?;
+/// game.step(btworld::mask_of("a").unwrap())?;
+/// assert_eq!(game.text()?, "frame 1\n.A0\nA R 1,0 -\n");
+/// assert!(game != kept && Game::load(level, &game.state()?, b"")? == game);
+/// assert_eq!(Game::open(b"{}", b"").err(), Some(Fault::Refused("level: shape".into())));
+/// # Ok::<(), Fault>(())
+/// ```
+// The calls that only read write to the handle while they do, so it lies in a cell. Games side by side are handles side by side.
+#[repr(transparent)]
 pub struct Game(UnsafeCell<Handle>);
 
 // SAFETY: the library is proved for this: what a game shares with its clones never changes, and is counted atomically, and nothing
@@ -205,15 +372,15 @@ impl Game {
         }
     }
 
-    /// The game of a level in the state that `state` wrote, with no script.
-    pub fn load(level: &[u8], state: &str) -> Result<Game, Fault> {
-        let game = Game::closed();
+    /// The game of a level in the state that `state` wrote, with a script for `step_script`; an empty one turns nothing.
+    pub fn load(level: &[u8], state: &str, script: &[u8]) -> Result<Game, Fault> {
+        let (game, text) = (Game::closed(), state.as_ptr());
         // SAFETY: as in `open`.
-        match unsafe { btworld_load(game.0.get(), level.as_ptr(), level.len(), state.as_ptr(), state.len()) } {
+        match unsafe { btworld_load_script(game.0.get(), level.as_ptr(), level.len(), script.as_ptr(), script.len(), text, state.len()) } {
             64 => Err(Fault::Refused("state: no text of a state".into())),
             65 => Err(Fault::Refused("state: of another level".into())),
             66 => Err(Fault::Refused("state: no world of the level".into())),
-            16.. => Err(Fault::Refused(fault_text(level, &[])?)),
+            16.. => Err(Fault::Refused(fault_text(level, script)?)),
             status => done(status).map(|()| game),
         }
     }
@@ -230,6 +397,13 @@ impl Game {
         done(unsafe { btworld_step_script(self.0.get()) })
     }
 
+    /// A frame with each of these signals, in their order. After a fault `frame` tells how many were stepped.
+    pub fn run(&mut self, signals: &[u32]) -> Result<(), Fault> {
+        let mut stepped = 0;
+        // SAFETY: as in `step`; a slice has as many numbers as it says, and is never null.
+        done(unsafe { btworld_run(self.0.get(), signals.as_ptr(), signals.len(), &mut stepped) })
+    }
+
     /// The text of the frame.
     pub fn text(&self) -> Result<String, Fault> {
         // SAFETY: as in `step`; the buffer is as long as it says, and overlaps neither the handle nor the size.
@@ -241,8 +415,14 @@ impl Game {
         let mut state = AgentState::default();
         // SAFETY: as in `step`.
         done(unsafe { btworld_agent(self.0.get(), number, &mut state) })?;
-        let answer = Answer::of(state.status).expect("an agent's tree is ticked");
-        Ok(Agent { x: state.x, y: state.y, carrying: state.carrying, answer })
+        Ok(Agent::of(state))
+    }
+
+    /// All agents after the frame, or before the first one, `A` first.
+    pub fn agents(&self) -> Vec<Agent> {
+        // SAFETY: as in `text`. The handle is open, so there is no fault.
+        let states = filled(|agents, capacity, size| unsafe { btworld_agents(self.0.get(), agents, capacity, size) });
+        states.expect("an open game has agents").into_iter().map(Agent::of).collect()
     }
 
     /// The size of the map.
@@ -259,8 +439,14 @@ impl Game {
         let mut state = CellState::default();
         // SAFETY: as in `step`.
         done(unsafe { btworld_cell(self.0.get(), x, y, &mut state) })?;
-        let agent = (state.agent != 255).then_some(u32::from(state.agent));
-        Ok(Cell { mark: char::from(state.mark), item: state.item, agent })
+        Ok(Cell::of(state))
+    }
+
+    /// All cells after the frame, or before the first one, row after row.
+    pub fn cells(&self) -> Vec<Cell> {
+        // SAFETY: as in `text`. The handle is open, so there is no fault.
+        let states = filled(|cells, capacity, size| unsafe { btworld_cells(self.0.get(), cells, capacity, size) });
+        states.expect("an open game has cells").into_iter().map(Cell::of).collect()
     }
 
     /// The memory of an agent after the frame, 0 for `A`: a number for each node of its tree, in preorder.
@@ -278,12 +464,53 @@ impl Game {
         Ok(answers.into_iter().map(Answer::of).collect())
     }
 
+    /// The names of an agent's nodes, 0 for `A`, in preorder: of each a line, with two spaces for each level above it.
+    pub fn node_names(&self, number: u32) -> Result<String, Fault> {
+        // SAFETY: as in `text`.
+        written(|text, capacity, size| unsafe { btworld_node_names(self.0.get(), number, text, capacity, size) })
+    }
+
+    /// What `btworld why` writes of an agent, 0 for `A`, if the next frame has these signals.
+    pub fn why(&self, signals: u32, number: u32) -> Result<String, Fault> {
+        // SAFETY: as in `text`.
+        written(|text, capacity, size| unsafe { btworld_why(self.0.get(), signals, number, text, capacity, size) })
+    }
+
     /// The signals of the frame, and those that the script has in the next one: bit 0 is `a`.
     pub fn signals(&self) -> Result<(u32, u32), Fault> {
         let (mut shown, mut scripted) = (0, 0);
         // SAFETY: as in `step`; the two numbers don't overlap.
         done(unsafe { btworld_signals(self.0.get(), &mut shown, &mut scripted) })?;
         Ok((shown, scripted))
+    }
+
+    /// The way from an agent, 0 for `A`, to a place, 0 to 9, in the next frame if that has these signals: what a `move` of its tree gets
+    /// there.
+    pub fn way(&self, signals: u32, number: u32, place: u32) -> Result<Way, Fault> {
+        let mut state = WayState::default();
+        // SAFETY: as in `step`.
+        done(unsafe { btworld_way(self.0.get(), signals, number, place, &mut state) })?;
+        Ok(match Direction::of(state.direction) {
+            Some(direction) => Way::Steps(direction, state.steps),
+            None if state.direction == 4 => Way::Here,
+            None => Way::None,
+        })
+    }
+
+    /// What an agent, 0 for `A`, wants to do in the next frame if that has these signals, and whether it is granted.
+    pub fn intent(&self, signals: u32, number: u32) -> Result<Intent, Fault> {
+        let mut state = IntentState::default();
+        // SAFETY: as in `step`.
+        done(unsafe { btworld_intent(self.0.get(), signals, number, &mut state) })?;
+        let deed = match (state.deed, Direction::of(state.direction.into())) {
+            (1, Some(direction)) => Deed::Move(direction),
+            (2, _) => Deed::Take,
+            (3, _) => Deed::Drop,
+            (4, _) => Deed::Give(state.agent.into()),
+            _ => Deed::Stay,
+        };
+        let node = (state.node != u32::MAX).then_some(state.node);
+        Ok(Intent { deed, node, x: state.x, y: state.y, granted: state.granted })
     }
 
     /// The signals of the frames so far, as a script.
@@ -323,7 +550,7 @@ impl Game {
     }
 
     /// The same game at the same frame, to be gone on with apart from this one.
-    pub fn try_clone(&self) -> Result<Game, Fault> {
+    pub fn fork(&self) -> Result<Game, Fault> {
         let copy = Game::closed();
         // SAFETY: as in `step`; the other handle is closed.
         done(unsafe { btworld_fork(self.0.get(), copy.0.get()) })?;
@@ -331,9 +558,39 @@ impl Game {
     }
 }
 
+/// The next frame of each of these games, the first with the first of the signals; several threads may each have a part. After a fault those
+/// before the game that fails were stepped, as `Game::frame` tells, or none, where there are fewer signals than games.
+///
+/// ```
+/// use btworld::{Game, step_all};
+///
+/// let first = Game::open(br#"{"map":["Aa0"],"agents":["t"],"trees":{"t":["move","0"]}}"#, b"")?;
+/// let mut games = vec![first.clone(), first];
+/// step_all(&mut games, &[0, 1])?;
+/// assert!(games[0].agent(0)?.x == 0 && games[1].agent(0)?.x == 1);
+/// # Ok::<(), btworld::Fault>(())
+/// ```
+pub fn step_all(games: &mut [Game], signals: &[u32]) -> Result<(), Fault> {
+    let mut stepped = 0;
+    // SAFETY: as in `Game::step`; games of a slice are handles side by side, and a slice has as many as it says, and is never null.
+    done(unsafe { btworld_step_all(games.as_mut_ptr().cast(), games.len(), signals.as_ptr(), signals.len(), &mut stepped) })
+}
+
+/// What `Game::cells` and `Game::agents` tell of each of these games; several threads may each have a part.
+pub fn look_all(games: &[Game]) -> Look {
+    let sizes: Vec<Size> = games.iter().map(Game::map).collect();
+    let mut cells = vec![CellState::default(); sizes.iter().map(|it| it.width as usize * it.height as usize).sum()];
+    let mut agents = vec![AgentState::default(); sizes.iter().map(|it| it.agents as usize).sum()];
+    let handles = games.as_ptr().cast();
+    // SAFETY: as in `step_all`, and both rooms are as long as they say. The handles are open, so there is no fault.
+    done(unsafe { btworld_look_all(handles, games.len(), cells.as_mut_ptr(), cells.len(), agents.as_mut_ptr(), agents.len()) })
+        .expect("open games have cells and agents");
+    Look { cells: cells.into_iter().map(Cell::of).collect(), agents: agents.into_iter().map(Agent::of).collect() }
+}
+
 impl Clone for Game {
     fn clone(&self) -> Game {
-        self.try_clone().expect("memory for a copy")
+        self.fork().expect("memory for a copy")
     }
 }
 
@@ -351,6 +608,12 @@ impl PartialEq for Game {
 }
 
 impl Eq for Game {}
+
+impl fmt::Debug for Game {
+    fn fmt(&self, f: &mut fmt::Formatter<'_>) -> fmt::Result {
+        write!(f, "Game of level {:016x} after frame {}: {:016x}", self.level_digest(), self.frame(), self.digest())
+    }
+}
 
 impl Drop for Game {
     fn drop(&mut self) {

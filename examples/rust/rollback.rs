@@ -2,9 +2,6 @@
 //! tenth frame it plays a clone on with all signals on, which the game itself never notices.
 //!
 //! Status: 0; 2 where the level or the script is refused, with the line that btworld writes; 1 for any other fault.
-// A wrapper of all calls, of which some are not used here.
-#[allow(dead_code)]
-mod btworld;
 use btworld::{Fault, Game};
 use std::error::Error;
 use std::fs::read;
@@ -17,7 +14,12 @@ fn play(level: &[u8], script: &[u8], frames: u32) -> Result<(), Fault> {
         print!("{}", game.text()?);
         if frame % 10 == 0 {
             look_ahead(&game)?;
-            assert!(Game::load(level, &game.state()?)? == game);
+            let mut loaded = Game::load(level, &game.state()?, script)?;
+            assert!(loaded == game);
+            loaded.step_script()?;
+            let mut fork = game.fork()?;
+            fork.step_script()?;
+            assert!(loaded == fork);
         }
     }
     Ok(())
@@ -25,7 +27,7 @@ fn play(level: &[u8], script: &[u8], frames: u32) -> Result<(), Fault> {
 
 /// Plays a clone on, and looks that the game is where it was.
 fn look_ahead(game: &Game) -> Result<(), Fault> {
-    let (digest, mut ahead) = (game.digest(), game.try_clone()?);
+    let (digest, mut ahead) = (game.digest(), game.fork()?);
     assert!(ahead == *game && ahead.state()? == game.state()?);
     for _ in 0..10 {
         ahead.step(0x3ff_ffff)?;
