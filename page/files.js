@@ -1,26 +1,60 @@
-// Samples, files and links.
+// Samples and files.
 
+// The levels, the lessons and the drafts; of the texts that stand there the own name, where they are none of these.
 function buildSamples() {
-  const names = [...samples.map((it) => it.name), BLANK.name], own = state.texts.name;
-  const all = names.includes(own) ? names : [own, ...names], key = all.join("\n");
+  const { name } = state.texts, isOwn = isDraft(state.texts), own = drafts().map((it) => it.name);
+  const groups = { levels: [...samples.map((it) => it.name), BLANK.name], lessons: LESSONS.map((it) => LESSON + it.name), yours: isOwn && !own.includes(name) ? [name, ...own] : own };
+  const key = JSON.stringify(groups);
   if (buildSamples.key != key) {
     $("sample").textContent = "";
-    for (const name of all) $("sample").append(new Option(name, name));
+    for (const [label, names] of Object.entries(groups)) {
+      if (names.length == 0) continue;
+      const group = $("sample").appendChild(Object.assign(document.createElement("optgroup"), { label }));
+      for (const it of names) group.append(new Option(label == "yours" && originalOf(it) ? `${it}, changed` : it, `${label}/${it}`));
+    }
     buildSamples.key = key;
   }
-  $("sample").value = own;
-  document.title = `${own} - btworld`;
+  $("sample").value = `${isOwn ? "yours" : lessonOf(name) ? "lessons" : "levels"}/${name}`;
+  $("revert").hidden = !isOwn || !originalOf(name);
+  if (document.activeElement != $("name")) $("name").value = name;
+  document.title = `${name} - btworld`;
 }
 
-// Another level, from its start or from a frame.
-function load({ name, level, script = "", about = "", frames = 100, frame = 0 }) {
+function openSample(value) {
+  const [label, name] = [value.slice(0, value.indexOf("/")), value.slice(value.indexOf("/") + 1)];
+  note("");
+  if (label == "yours") return openDraft(drafts().find((it) => it.name == name));
+  if (lessonOf(name)) return openLesson(lessonOf(name));
+  load(originalOf(name), 0);
+}
+
+// An empty room under a name that no draft has, ready to be painted.
+function newLevel() {
+  const names = new Set(drafts().map((it) => it.name));
+  let name = BLANK.name;
+  for (let k = 2; names.has(name); k++) name = `${BLANK.name} ${k}`;
+  load({ ...BLANK, name }, 0);
+  setPainting(true);
+}
+
+// Another level, from its start or from a frame, with an agent that is chosen.
+function load({ name, level, script = "", about = "", frames = 100, frame = 0 }, chosen = -1) {
+  if (state.texts.name) writeDraft();
   setPainting(false);
   Object.assign(state.view, { zoom: 1, x: 0, y: 0 });
   state.total = Math.max(1, Math.min(MOST_FRAMES, Math.round(frames) || 1));
   state.wanted = Math.max(0, Math.min(state.total, Math.round(frame) || 0));
-  state.chosen = -1;
-  $("agentsPage").classList.remove("picked");
+  state.chosen = chosen;
+  state.node = -1;
+  state.later = null;
+  Object.assign(outline, { agent: -1, zoom: 0 });
+  state.stops = [];
+  showStops();
   change({ name, level, script, about }, `load ${steps.past.length}`);
+  seeChosen();
+  checkLesson();
+  if (state.fault) setPage(state.fault.startsWith("script:") ? "script" : "level");
+  else if (state.pane == "text") setPane("tree");
 }
 
 // Files that were picked or dropped: a level, a script, or both.
@@ -61,59 +95,8 @@ async function framesText() {
   return made;
 }
 
-const piped = (bytes, through) => new Response(new Blob([bytes]).stream().pipeThrough(through));
-
-// What a link holds: base64url of a deflated JSON text.
-async function spellLink() {
-  const { name, level, script } = state.texts;
-  const said = JSON.stringify({ name, level, script, frame: shownFrame(), frames: state.total });
-  const packed = new Uint8Array(await piped(said, new CompressionStream("deflate-raw")).arrayBuffer());
-  let binary = "";
-  for (const byte of packed) binary += String.fromCharCode(byte);
-  return "#play=" + btoa(binary).replace(/\+/g, "-").replace(/\//g, "_").replace(/=+$/, "");
-}
-
-const MOST_OF_LINK = 4 << 20; // bytes that a link may unpack to
-async function readLink(hash) {
-  const packed = Uint8Array.from(atob(hash.slice("#play=".length).replace(/-/g, "+").replace(/_/g, "/")), (char) => char.charCodeAt(0));
-  const reader = piped(packed, new DecompressionStream("deflate-raw")).body.getReader(), parts = [];
-  for (let size = 0; ;) {
-    const { done, value } = await reader.read();
-    if (done) break;
-    size += value.length;
-    if (size > MOST_OF_LINK) throw new Error("too long");
-    parts.push(value);
-  }
-  const said = JSON.parse(await new Blob(parts).text());
-  for (const part of ["name", "level", "script"]) if (typeof said[part] != "string") throw new Error(`no ${part}`);
-  return said;
-}
-
-async function makeLink() {
-  const hash = await spellLink();
-  history.replaceState(null, "", hash);
-  try {
-    await navigator.clipboard.writeText(location.href);
-    note("the link is copied, and stands in the address bar");
-  } catch (_) {
-    note("the link stands in the address bar");
-  }
-}
-
-// Loads what the address holds; answers whether it holds anything.
-async function followLink() {
-  if (!location.hash.startsWith("#play=")) return false;
-  try {
-    load(await readLink(location.hash));
-    return true;
-  } catch (_) {
-    note("this link can't be read");
-    return false;
-  }
-}
-
-function note(text) {
+function note(text, lasts = 6000) {
   $("note").textContent = text;
   clearTimeout(note.later);
-  note.later = setTimeout(() => { $("note").textContent = ""; }, 6000);
+  note.later = setTimeout(() => { $("note").textContent = ""; }, lasts);
 }

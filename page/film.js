@@ -50,6 +50,7 @@ class Film extends Frames {
     Object.assign(this, { world, level, head: game });
     this.kept = [world.fork(game)];
     this.cursor = null;
+    this.told = new Map(); // of an agent that was asked of: what its nodes answered, by frame
     this.setStarts(map);
   }
 
@@ -105,6 +106,48 @@ class Film extends Frames {
     return bytes;
   }
 
+  // What each node of an agent's tree answered in a frame from 1 on. The game that is asked stands at the frame before.
+  answers(frame, agent) {
+    if (!this.told.has(agent)) this.told.set(agent, []);
+    const told = this.told.get(agent);
+    return (told[frame] ??= this.world.nodes(this.at(frame - 1), this.signals.of(frame), agent));
+  }
+
+  // Whether a node answers in a frame otherwise than in the frame before; in frame 1, whether it is ticked.
+  hasTurned(frame, agent, node) {
+    const before = frame > 1 ? this.answers(frame - 1, agent)[node] : NOT_TICKED;
+    return this.answers(frame, agent)[node] != before;
+  }
+
+  // The way to a place that a `move` of an agent got in a frame from 1 on, or null where the module doesn't tell.
+  way(frame, agent, place) {
+    return this.world.way(this.at(frame - 1), this.signals.of(frame), agent, place);
+  }
+
+  // What an agent wanted in a frame from 1 on and whether that came about, or null where the module doesn't tell.
+  intent(frame, agent) {
+    return this.world.intent(this.at(frame - 1), this.signals.of(frame), agent);
+  }
+
+  // What `btworld why` writes of a frame from 1 on, or null where the module doesn't tell.
+  why(frame, agent) {
+    return this.world.why(this.at(frame - 1), this.signals.of(frame), agent);
+  }
+
+  // Whether what an agent wanted came to nothing, as far as the module tells.
+  isBlocked(frame, agent) {
+    const intent = frame > 0 ? this.intent(frame, agent) : null;
+    return intent !== null && intent.deed != "stay" && !intent.isGranted;
+  }
+
+  // To whom an agent's item went that it has no longer, or -1 where it gave it to nobody. Of a module that doesn't tell, what `btview page`
+  // sees in the frames.
+  giftOf(frame, agent) {
+    const intent = this.intent(frame, agent);
+    if (intent) return intent.deed == "give" && intent.isGranted ? intent.agent : -1;
+    return super.giftOf(frame, agent);
+  }
+
   digest(frame) {
     return this.world.digest(this.at(frame)).toString(16).padStart(16, "0");
   }
@@ -129,6 +172,7 @@ class Film extends Frames {
     this.head = head.game;
     this.count = frame;
     this.version++;
+    for (const told of this.told.values()) told.length = Math.min(told.length, frame + 1);
   }
 
   close() {

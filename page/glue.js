@@ -3,6 +3,13 @@
 
 // As many nodes as a tree may have.
 const MOST_NODES = 255;
+// What `nodes` answers of a node that was not ticked.
+const NOT_TICKED = 3;
+// The first step of a way, in the order of btworld_direction; the last two have no step.
+const DIRECTIONS = ["north", "east", "south", "west", "here", "no way"];
+// What an agent may want, in the order of btworld_deed.
+const DEEDS = ["stay", "move", "take", "drop", "give"];
+const NOBODY = 255;
 
 class Btworld {
   static async load(bytes) {
@@ -82,6 +89,18 @@ class Btworld {
     return told.bytes ? new TextDecoder().decode(told.bytes) : `status ${told.status}`;
   }
 
+  // Where the first fault of a level and a script stands, line and column from 0, and why it is one, as `btworld explain` says it:
+  // "LINE:COLUMN POINTER" of a level, columns counted in bytes, or "LINE" of a script, and the reason in the next line. Null where the
+  // module has no such call, or there is no fault.
+  explain(level, script) {
+    if (!this.calls.btworld_explain) return null;
+    const { bytes } = this.with([level, script], (...given) => this.written((...room) => this.calls.btworld_explain(...given, ...room)));
+    const said = bytes && /^(\d+)(?::(\d+))?(?: \/[^\n]*)?\n([^]*)$/.exec(new TextDecoder().decode(bytes));
+    if (!said) return null;
+    const line = said[1] - 1, row = new TextEncoder().encode((said[2] ? level : script).split("\n")[line] ?? "");
+    return { line, column: new TextDecoder().decode(row.subarray(0, (said[2] ?? 1) - 1)).length, reason: said[3] };
+  }
+
   // A handle that holds no game.
   closed() {
     const game = this.take(16);
@@ -123,12 +142,45 @@ class Btworld {
     return { x: at.getUint32(0, true), y: at.getUint32(4, true), loaded: at.getUint8(8), answer: at.getUint8(9) };
   }
 
+  // A cell after the frame, or before the first one: whether an item lies on it, also under an agent.
+  cell(game, x, y) {
+    const status = this.calls.btworld_cell(game, x, y, this.state) >>> 0;
+    if (status) throw new Error(`status ${status}`);
+    return { hasItem: this.bytes(this.state, 3)[1] == 1 };
+  }
+
   // What each node of an agent's tree answers in the next frame, if exactly these signals are on in it, in preorder: 0 success, 1 failure,
   // 2 running, 3 not ticked. The game stays as it is.
   nodes(game, signals, agent) {
     const { status, bytes } = this.written((...room) => this.calls.btworld_nodes(game, signals, agent, ...room));
     if (status) throw new Error(`status ${status}`);
     return bytes;
+  }
+
+  // The way from an agent to a place, 0 to 9, that a `move` gets in the next frame, if exactly these signals are on in it: its first step, and
+  // how many there are. Null where the module has no such call.
+  way(game, signals, agent, place) {
+    if (!this.calls.btworld_way) return null;
+    const status = this.calls.btworld_way(game, signals, agent, place, this.state) >>> 0, at = new DataView(this.calls.memory.buffer, Number(this.state), 8);
+    if (status) throw new Error(`status ${status}`);
+    return { steps: at.getUint32(0, true), direction: DIRECTIONS[at.getUint32(4, true)] };
+  }
+
+  // What an agent wants to do in the next frame, if exactly these signals are on in it, and whether the frame does it: the deed, the number of
+  // the node that wants it, and to whom it gives; both -1 where there is none. Null where the module has no such call.
+  intent(game, signals, agent) {
+    if (!this.calls.btworld_intent) return null;
+    const status = this.calls.btworld_intent(game, signals, agent, this.state) >>> 0, at = new DataView(this.calls.memory.buffer, Number(this.state), 16);
+    if (status) throw new Error(`status ${status}`);
+    return { node: at.getInt32(0, true), deed: DEEDS[at.getUint8(12)], agent: at.getUint8(14) == NOBODY ? -1 : at.getUint8(14), isGranted: at.getUint8(15) == 1 };
+  }
+
+  // What `btworld why` writes of an agent, if exactly these signals are on in the next frame. Null where the module has no such call.
+  why(game, signals, agent) {
+    if (!this.calls.btworld_why) return null;
+    const { status, bytes } = this.written((...room) => this.calls.btworld_why(game, signals, agent, ...room));
+    if (status) throw new Error(`status ${status}`);
+    return new TextDecoder().decode(bytes);
   }
 
   // The number that an agent remembers for each node of its tree, in preorder, after the frame.

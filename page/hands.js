@@ -10,24 +10,41 @@ function setSpeed(speed) {
   $("speed").setAttribute("aria-valuetext", pace);
 }
 
+// Plays on to the last frame, or past it where that is wanted; a stop on the way halts it.
 function tick(now) {
   if (!state.isPlaying) return;
   const pace = 1000 / SPEEDS[$("speed").value], { film } = state;
   if (film && now - tick.last >= pace) {
     const count = Math.max(1, Math.min(60, Math.floor((now - tick.last) / pace)));
     tick.last = now - tick.last > 4 * pace && count == 60 ? now : tick.last + count * pace;
-    if (state.wanted + count > state.total) setTotal(state.total + Math.max(50, state.total >> 2));
-    if (state.wanted >= MOST_FRAMES) return setPlaying(false);
-    if (film.count > state.wanted) show(Math.min(state.wanted + count, film.count));
+    if (state.isEndless && state.wanted + count > state.total) setTotal(state.total + Math.max(50, state.total >> 2));
+    if (state.wanted >= state.total) return setPlaying(false);
+    if (film.count > state.wanted && playTo(Math.min(state.wanted + count, film.count))) return;
   }
   tick.next = requestAnimationFrame(tick);
 }
 
+// Shows a frame, or one before it at which it halts; answers whether it halts.
+function playTo(frame) {
+  let stop = null;
+  if (state.stops.length > 0) guarded(() => {
+    for (let at = shownFrame() + 1; at <= frame && !stop; at++) {
+      stop = stopAt(state.film, at);
+      if (stop) frame = at;
+    }
+  });
+  if (stop) haltAt(frame, stop);
+  else show(frame);
+  return Boolean(stop);
+}
+
 function setPlaying(isOn) {
+  if (isOn && !state.isPlaying && state.wanted >= state.total && !state.isEndless) show(0);
   state.isPlaying = isOn;
   $("play").textContent = isOn ? "Pause" : "Play";
   cancelAnimationFrame(tick.next);
-  if (!isOn) return;
+  search++;
+  if (!isOn) return void keepAddress();
   tick.last = performance.now();
   tick.next = requestAnimationFrame(tick);
 }
@@ -44,13 +61,26 @@ const clicks = {
   whyBack: () => show(shownFrame() - 1), whyNext: () => goOn(1), whyClose: () => choose(-1),
   before: () => seekChange(-1), after: () => seekChange(1), play: () => setPlaying(!state.isPlaying),
   keys: () => setHelp(true), closeHelp: () => setHelp(false), help: (event) => { if (event.target == $("help")) setHelp(false); },
-  agentsTab: () => setPage("agents"), levelTab: () => setPage("level"), paint: () => setPainting(!state.isPainting),
-  clear: () => change({ script: "" }, "clear"), undo, redo, undoText: undo, redoText: redo, open: () => $("file").click(), link: makeLink,
+  proved: () => { setHelp(true, "start"); $("provedText").scrollIntoView(); }, manual: () => setHelp(true, "rules"),
+  levelTab: () => setPage("level"), scriptTab: () => setPage("script"), paint: () => setPainting(!state.isPainting),
+  blank: newLevel, newTree: addNewTree, ownTree: copyTree,
+  clear: () => change({ script: "" }, "clear"), undo, redo, open: () => $("file").click(), link: makeLink, revert: () => load(originalOf(state.texts.name), 0),
+  wrap: () => setWrap($("wrap").getAttribute("aria-pressed") != "true"), endless: () => setEndless(!state.isEndless), nextStop: seekStop,
+  copyWhy,
+  fold: () => { state.isFolding = $("fold").getAttribute("aria-pressed") != "true"; refresh(); },
+  treeOut: () => zoomTree(1 / 1.25), treeIn: () => zoomTree(1.25), treeFit: () => zoomTree(0),
+  lessons: beginLessons, begin: () => { closeWelcome(); beginLessons(); }, noWelcome: closeWelcome, nextLesson, solve: solveLesson,
+  showHint: () => setHint($("hint").hidden), again: () => openLesson(lessonNow()), noLesson: () => openSample(`levels/${samples[0].name}`),
   saveLevel: () => save(`${state.texts.name}.json`, [state.texts.level]),
   saveScript: () => save(`${state.texts.name}.script`, [state.texts.script]),
   saveFrames: () => framesText().then((parts) => save(`${state.texts.name}.frames.txt`, parts), (error) => note(`${error.message}`)),
 };
 for (const [id, click] of Object.entries(clicks)) $(id).addEventListener("click", click);
+
+function setEndless(isOn) {
+  state.isEndless = isOn;
+  $("endless").setAttribute("aria-pressed", isOn);
+}
 
 // One frame on, also past the last.
 function goOn(by) {
@@ -62,7 +92,7 @@ function goOn(by) {
 document.addEventListener("click", (event) => {
   const button = event.target.closest && event.target.closest("button");
   if (button && event.detail > 0) button.blur();
-  if (!$("saveMenu").contains(event.target) || button) $("saveMenu").open = false;
+  for (const menu of document.querySelectorAll(".menu")) if (!menu.contains(event.target) || button) menu.open = false;
 });
 $("slider").oninput = (event) => show(+event.target.value);
 $("speed").oninput = (event) => setSpeed(event.target.value);
@@ -77,12 +107,62 @@ $("total").onchange = (event) => {
   event.target.value = state.total;
   refresh();
 };
+$("treeOf").onchange = (event) => followTree(event.target.value);
+$("treeName").onchange = (event) => renameTree(event.target.value);
 $("width").onchange = $("height").onchange = setSize;
 $("sample").onchange = (event) => {
-  const found = [...samples, BLANK].find((it) => it.name == event.target.value);
-  if (found) load(found);
+  openSample(event.target.value);
   event.target.blur();
 };
+$("name").onchange = (event) => change({ name: event.target.value.trim() || "level" }, "name");
+for (const tab of $("panes").children) tab.onclick = () => setPane(tab.dataset.pane);
+
+// the tree: a click chooses a node, its sign of children folds it
+$("whyTree").addEventListener("click", (event) => {
+  const box = event.target.closest(".node");
+  if (!box) return;
+  const n = +box.dataset.node;
+  if (event.target.closest(".more")) setFolded(n, !isFolded(outline.nodes[n]));
+  else chooseNode(state.node == n ? -1 : n);
+});
+// drawn by its ground it moves
+let treeGrip = null;
+$("whyTree").onpointerdown = (event) => {
+  if (event.pointerType == "mouse" && event.button == 0 && !event.target.closest(".node")) treeGrip = { x: event.clientX + $("whyTree").scrollLeft, y: event.clientY + $("whyTree").scrollTop };
+};
+$("whyTree").onpointermove = (event) => {
+  if (!treeGrip || !event.buttons) return void (treeGrip = null);
+  $("whyTree").scrollTo(treeGrip.x - event.clientX, treeGrip.y - event.clientY);
+};
+$("whyTree").addEventListener("dblclick", (event) => {
+  const box = event.target.closest(".node");
+  if (!box) return;
+  chooseNode(+box.dataset.node);
+  goToText();
+});
+$("whyTree").addEventListener("wheel", (event) => {
+  if (!event.ctrlKey) return;
+  event.preventDefault();
+  zoomTree(event.deltaY > 0 ? 1 / 1.1 : 1.1);
+}, { passive: false });
+
+// between tree and text: how much of the side the tree has
+const SHARES = { least: 15, most: 85, first: 58 };
+function setShare(share) {
+  const now = Math.max(SHARES.least, Math.min(SHARES.most, Math.round(share)));
+  $("right").style.setProperty("--share", `${now}%`);
+  $("splitter").setAttribute("aria-valuenow", now);
+  kept.write("share", now);
+  fitTree();
+}
+const isBeside = () => getComputedStyle($("right")).flexDirection == "row";
+$("splitter").onpointerdown = (event) => { $("splitter").setPointerCapture(event.pointerId); };
+$("splitter").onpointermove = (event) => {
+  if (!event.buttons) return;
+  const box = $("right").getBoundingClientRect();
+  setShare(isBeside() ? (event.clientX - box.left) / box.width * 100 : (event.clientY - box.top) / box.height * 100);
+};
+$("splitter").ondblclick = () => setShare(SHARES.first);
 $("file").onchange = (event) => {
   openFiles(event.target.files);
   event.target.value = "";
@@ -161,7 +241,16 @@ $("map").addEventListener("wheel", (event) => {
 
 // The help takes the focus, and gives it back.
 let asker = null;
-function setHelp(isOn) {
+function setHelpPage(name) {
+  for (const tab of $("helpHead").querySelectorAll("[data-help]")) {
+    tab.setAttribute("aria-selected", tab.dataset.help == name);
+    $(tab.dataset.help).hidden = tab.dataset.help != name;
+  }
+  $("helpText").scrollTop = 0;
+}
+for (const tab of $("helpHead").querySelectorAll("[data-help]")) tab.onclick = () => setHelpPage(tab.dataset.help);
+function setHelp(isOn, page = "start") {
+  if (isOn && page) setHelpPage(page);
   if (isOn == !$("help").hidden) return;
   $("help").hidden = !isOn;
   if (isOn) {
@@ -179,15 +268,27 @@ const plain = {
   ArrowUp: () => seekChange(-1), ArrowDown: () => seekChange(1), Escape: () => leave(),
   ",": () => setSpeed(+$("speed").value - 1), ".": () => setSpeed(+$("speed").value + 1), "[": () => zoomMap(1 / 1.3), "]": () => zoomMap(1.3),
   "=": () => { Object.assign(state.view, { zoom: 1, x: 0, y: 0 }); zoomMap(1); },
-  1: () => setPage("agents"), 2: () => { setPage("level"); editors.level.area.focus(); }, 3: () => editors.script.area.focus(), "?": () => setHelp(true),
+  1: () => setPage("agents"), 2: () => goToEditor("level"), 3: () => goToEditor("script"), "?": () => setHelp(true),
+  "<": () => seekTurn(-1), ">": () => seekTurn(1),
 };
+function goToEditor(name) {
+  setPage(name);
+  editors[name].area.focus({ preventScroll: true });
+}
+// With the focus on a node of the tree.
+const ofTree = {
+  ArrowUp: () => stepInTree(-1), ArrowDown: () => stepInTree(1), "+": (n) => setFolded(n, false), "-": (n) => setFolded(n, true),
+  Enter: (n) => (state.node == n ? goToText() : chooseNode(n)),
+};
+const ofSplitter = { ArrowUp: -5, ArrowLeft: -5, ArrowDown: 5, ArrowRight: 5 };
 const ofCell = { ArrowLeft: () => moveCell(-1, 0), ArrowRight: () => moveCell(1, 0), ArrowUp: () => moveCell(0, -1), ArrowDown: () => moveCell(0, 1), Enter: () => state.cell && paint([state.cell]) };
 
 function leave() {
   if (!$("help").hidden) setHelp(false);
-  else if ($("saveMenu").open) $("saveMenu").open = false;
+  else if (document.querySelector(".menu[open]")) document.querySelector(".menu[open]").open = false;
   else if (document.activeElement.matches("textarea, input, select")) document.activeElement.blur();
   else if (state.isPainting) setPainting(false);
+  else if (state.node >= 0) chooseNode(-1);
   else choose(-1);
 }
 
@@ -198,18 +299,20 @@ function handOf(event) {
   if (event.ctrlKey || event.metaKey) return !event.altKey && !isField ? withCtrl[key] : null;
   if (event.altKey) return null;
   if (key == "Escape") return leave;
-  if (!$("help").hidden) return key == "?" ? leave : key == "Tab" ? () => {} : null;
+  if (!$("help").hidden) return key == "?" ? leave : key == "Tab" ? () => tabInHelp(event.shiftKey) : null;
   if (isField && key == "Enter") return () => target.blur();
   if (isText || isField) return null;
   if (target.matches("button, summary") && (key == "Enter" || (key == " " && !$("bar").contains(target)))) return null;
   if (target == $("speed") && /^(Arrow|Page|Home|End)/.test(key)) return null;
-  if ((target == $("detail") || target == $("agentsBox")) && /^(Arrow|Page)(Up|Down)$/.test(key)) return null;
+  if (target == $("agentsBox") && /^(Arrow|Page)(Up|Down)$/.test(key)) return null;
+  if (target.matches("[role=treeitem]") && ofTree[key]) return () => ofTree[key](+target.dataset.node);
+  if (target == $("splitter") && ofSplitter[key]) return () => setShare(+$("splitter").getAttribute("aria-valuenow") + ofSplitter[key]);
   if (state.isPainting) {
     if (target == $("map") && ofCell[key]) return ofCell[key];
     if (/^[#.*a-zA-Z0-9]$/.test(key)) return () => setTool(key);
     if (key == "Backspace" || key == "Delete") return () => setTool("erase");
   }
-  if (/^[a-z]$/.test(key)) return state.good && signalsOf(state.good).includes(key) ? () => flip(key) : null;
+  if (/^[a-z]$/.test(key)) return state.good && signalLetters().includes(key) ? () => flip(key) : null;
   if (/^[A-Z]$/.test(key)) return () => choose(key.charCodeAt(0) - 65);
   return plain[key] && (() => plain[key](event.shiftKey ? 10 : 1));
 }
@@ -221,28 +324,49 @@ document.addEventListener("keydown", (event) => {
   hand();
 });
 
+// Tab stays within the help.
+function tabInHelp(isBack) {
+  const all = [...$("help").querySelectorAll("button, a")].filter((it) => it.getClientRects().length > 0), at = all.indexOf(document.activeElement);
+  all[(at + (isBack ? -1 : 1) + all.length) % all.length].focus();
+}
+
 // ---- the start
 
 function laidOut() {
   if (state.film) layAgents();
+  fitTree();
   refresh();
+}
+// The chosen node stays in sight.
+function treeLaidOut() {
+  fitTree();
+  if (outline.nodes[state.node]) seeNode(outline.nodes[state.node]);
 }
 
 async function start() {
   readTheme();
   setSpeed(1);
+  setWrap(true);
+  setText("level");
+  setPane("tree");
   await loadModule();
-  new ResizeObserver(laidOut).observe($("mapBox"));
+  setShare(kept.read("share") ?? SHARES.first);
+  new ResizeObserver(() => guarded(drawMap)).observe($("mapBox"));
+  new ResizeObserver(treeLaidOut).observe($("whyTree"));
   window.addEventListener("resize", laidOut);
   window.addEventListener("hashchange", followLink);
-  matchMedia("(prefers-color-scheme: dark)").addEventListener("change", () => { readTheme(); refresh(); });
-  const isLinked = await followLink();
-  if (!isLinked) load(samples[0]);
+  window.addEventListener("pagehide", writeDraft);
+  matchMedia("(prefers-color-scheme: dark)").addEventListener("change", () => { readTheme(); band.key = ""; refresh(); });
+  const isLinked = await followLink(), isBack = !isLinked && openLast();
+  if (!isLinked && !isBack) {
+    load(samples[0], 0);
+  }
+  showWelcome();
   window.btworld.startedAt = performance.now();
-  if (isLinked) return;
-  if (!matchMedia("(prefers-reduced-motion: reduce)").matches) setPlaying(true);
+  if (isLinked || isBack) return;
+  if (!isStill()) setPlaying(true);
 }
 
 // For tests, and for whoever looks in from the console.
-window.btworld = { state, show, load, flip, change, setTool, setPainting, setPlaying, setTotal, framesText, spellLink, choose };
+window.btworld = { state, show, load, flip, change, setTool, setPainting, setPlaying, setTotal, framesText, spellLink, choose, chooseNode };
 start().catch((error) => { $("mapFault").textContent = `page: ${error.message}`; });

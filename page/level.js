@@ -1,46 +1,6 @@
 // A level's text: where its parts stand in it, and the changes that painting makes to it. A change leaves the rest of the text as it
 // was written. Whether a text is a level, only the module says.
 
-// The parts of a JSON text that JSON.parse takes: of each value its kind, where it begins and ends, and what is in it.
-function partsOf(text) {
-  let at = 0;
-  const blank = () => { while (" \t\n\r".includes(text[at]) && at < text.length) at++; };
-  const string = () => {
-    const from = at++;
-    while (text[at] != '"') at += text[at] == "\\" ? 2 : 1;
-    at++;
-    return { kind: "string", from, to: at, value: JSON.parse(text.slice(from, at)) };
-  };
-  const list = (kind, close, part) => {
-    const it = { kind, from: at++, items: [] };
-    blank();
-    while (text[at] != close) {
-      it.items.push(part());
-      blank();
-      if (text[at] == ",") at++;
-      blank();
-    }
-    it.to = ++at;
-    return it;
-  };
-  const entry = () => {
-    const key = string();
-    blank();
-    at++;
-    return { key, value: value() };
-  };
-  const value = () => {
-    blank();
-    if (text[at] == '"') return string();
-    if (text[at] == "[") return list("array", "]", value);
-    if (text[at] == "{") return list("object", "}", entry);
-    const from = at;
-    while (at < text.length && !" \t\n\r,]}".includes(text[at])) at++;
-    return { kind: "other", from, to: at };
-  };
-  return value();
-}
-
 // What can be drawn and painted of a text, or null: rows of one length, the agents' tree names and the trees.
 function readDraft(text) {
   try {
@@ -69,12 +29,6 @@ function signalsOf(draft) {
   return [...found].filter((letter) => /^[a-z]$/.test(letter)).sort();
 }
 
-// The text with pieces of it replaced, each { from, to, by }.
-function replaced(text, pieces) {
-  for (const { from, to, by } of pieces.sort((one, other) => other.from - one.from)) text = text.slice(0, from) + by + text.slice(to);
-  return text;
-}
-
 // The text with another map and other agents. Rows that stay are left as they were written.
 function withMap(draft, map, agents) {
   const { text, parts } = draft, pieces = [];
@@ -91,23 +45,42 @@ function withMap(draft, map, agents) {
   return replaced(text, pieces);
 }
 
-// The text with one more tree behind the others.
+// The text with one more tree behind the others; it is spelt TREE.
 function withTree(text, name, tree) {
   const { items, from, to } = readDraft(text).parts.trees;
-  const spelt = `${JSON.stringify(name)}: ${JSON.stringify(tree).replace(/,/g, ", ")}`;
+  const spelt = `${JSON.stringify(name)}: ${tree}`;
   if (items.length == 0) return replaced(text, [{ from, to, by: `{${spelt}}` }]);
   const last = items[items.length - 1].value.to, before = items[items.length - 1].key.from;
   const gap = /[ \t]*$/.exec(text.slice(0, before))[0], ownLine = text[before - gap.length - 1] == "\n";
   return replaced(text, [{ from: last, to: last, by: ownLine ? `,\n${gap}${spelt}` : `, ${spelt}` }]);
 }
 
-// What a new agent does: it walks between the first two places of the map, or to the only one, or waits.
+// The text in which an agent follows another tree.
+function withTreeOf(draft, agent, name) {
+  const { from, to } = draft.parts.agents.items[agent];
+  return replaced(draft.text, [{ from, to, by: JSON.stringify(name) }]);
+}
+
+// The text in which a tree has another name, also where agents name it.
+function renamedTree(draft, name, by) {
+  const { trees, agents } = draft.parts, named = [...trees.items.map((it) => it.key), ...agents.items].filter((it) => it.value == name);
+  return replaced(draft.text, named.map(({ from, to }) => ({ from, to, by: JSON.stringify(by) })));
+}
+
+// A name that no tree has: this one, or with a number behind it.
+function freeName(draft, name) {
+  const stem = name.replace(/ \d+$/, "");
+  let free = name;
+  for (let k = 2; Object.hasOwn(draft.trees, free); k++) free = `${stem} ${k}`;
+  return free;
+}
+
+// What a new agent does, as it is spelt: it walks between the first two places of the map, or to the only one, or waits.
 const NEW_TREE = "walker";
 function newTree(map) {
-  const places = [...new Set([...map.join("")].filter(isPlace))].sort();
-  if (places.length == 0) return ["wait", 1];
-  if (places.length == 1) return ["move", places[0]];
-  return ["seq*", ["move", places[0]], ["move", places[1]]];
+  const places = [...new Set([...map.join("")].filter(isPlace))].sort(), move = (place) => `["move", "${place}"]`;
+  if (places.length == 0) return `["wait", 1]`;
+  return places.length == 1 ? move(places[0]) : `["seq*", ${move(places[0])}, ${move(places[1])}]`;
 }
 
 const setCell = (map, x, y, char) => map.map((row, at) => (at == y ? row.slice(0, x) + char + row.slice(x + 1) : row));
@@ -157,37 +130,4 @@ function resized(draft, width, height) {
   const rows = draft.map.slice(0, height).map((row) => row.slice(0, width).padEnd(width, "."));
   while (rows.length < height) rows.push(".".repeat(width));
   return withMap(draft, rows, draft.agents);
-}
-
-// In which line of a level's or a script's text a fault stands, counted from 0, or null.
-function lineOfFault(text, fault) {
-  const lineAt = (place) => text.slice(0, place).split("\n").length - 1;
-  const ofScript = /^script: (?:line|order at line) (\d+)$/.exec(fault);
-  if (ofScript) return ofScript[1] - 1;
-  if (fault == "level: json") {
-    const place = placeOfJsonFault(text);
-    return place ? place.line : null;
-  }
-  const cell = /^level: map character at \d+,(\d+)$/.exec(fault), tree = /^level: tree (.*?)(?:: [a-z ]+| names an? .*)$/s.exec(fault);
-  try {
-    const of = (name) => partsOf(text).items.filter((it) => it.key.value == name).pop();
-    if (cell) return lineAt(of("map").value.items[cell[1]].from);
-    if (tree) return lineAt(of("trees").value.items.filter((it) => it.key.value == tree[1]).pop().key.from);
-    if (/^level: (map|letters)/.test(fault)) return lineAt(of("map").key.from);
-    if (/^level: agent/.test(fault)) return lineAt(of("agents").key.from);
-  } catch (_) {
-    return null;
-  }
-  return null;
-}
-
-// Where the browser's own reader stops, which mostly is where btworld's does: a hint and no more.
-function placeOfJsonFault(text) {
-  try {
-    JSON.parse(text);
-    return null;
-  } catch ({ message }) {
-    const at = /position (\d+)/.exec(message), place = at ? +at[1] : text.trimEnd().length;
-    return { line: text.slice(0, place).split("\n").length - 1, message: message.replace(/ in JSON.*| \(line.*/s, "") };
-  }
 }

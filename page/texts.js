@@ -28,9 +28,14 @@ function setTexts(texts) {
   state.draft = readDraft(texts.level);
   editors.level.put(texts.level);
   editors.script.put(texts.script);
-  for (const id of ["undo", "undoText"]) $(id).disabled = steps.past.length == 0;
-  for (const id of ["redo", "redoText"]) $(id).disabled = steps.future.length == 0;
+  $("undo").disabled = steps.past.length == 0;
+  $("redo").disabled = steps.future.length == 0;
+  $("scriptLines").textContent = texts.script.trim() ? ` ${texts.script.trim().split("\n").length}` : "";
+  $("clear").disabled = texts.script == "";
   buildSamples();
+  showLesson();
+  keepDraft();
+  keepAddress();
   cancelAnimationFrame(setTexts.later);
   // A stroke changes the text at each cell: it is judged once for each picture.
   if (state.stroke > 0) setTexts.later = requestAnimationFrame(judge);
@@ -59,24 +64,32 @@ function adopt(level, script) {
     state.film = null;
     state.film = new Film(world, level, state.draft.map, state.draft.agents.length, signals);
     state.good = state.draft;
-    if (state.chosen >= state.film.agents) state.chosen = -1;
+    if (state.chosen >= state.film.agents) state.chosen = state.node = -1;
+    keepStops();
     layAgents();
   }
   buildSignals();
   playAhead();
+  checkLesson();
 }
 
+// The fault, with the line in which it stands, and why it is one, as the module explains it.
 function showFault() {
   const { fault, texts } = state, isOfScript = fault.startsWith("script:");
-  const hint = fault == "level: json" ? placeOfJsonFault(texts.level) : null;
-  const say = (id, text, more) => {
-    $(id).textContent = text;
-    if (text && more) put($(id), "small", more);
+  let place = null;
+  if (/^(level|script):/.test(fault)) guarded(() => { place = world.explain(texts.level, texts.script); });
+  const say = (id, said) => {
+    $(id).textContent = said;
+    if (said && place) put($(id), "small", `line ${place.line + 1}${isOfScript ? "" : `, column ${place.column + 1}`}: ${place.reason}`);
   };
-  say("levelFault", isOfScript ? "" : fault, hint && `line ${hint.line + 1}: ${hint.message}`);
+  say("levelFault", isOfScript ? "" : fault);
   say("scriptFault", isOfScript ? fault : "");
-  $("levelFine").hidden = fault != "" && !isOfScript;
-  say("mapFault", fault, state.good && "the last good level plays");
-  editors.level.mark(isOfScript ? null : lineOfFault(texts.level, fault), true);
-  if (isOfScript) editors.script.mark(lineOfFault(texts.script, fault), true);
+  $("levelFine").hidden = fault != "";
+  say("mapFault", fault);
+  if (fault && state.good) put($("mapFault"), "small", "the last good level plays");
+  $("levelTab").classList.toggle("wrong", fault != "" && !isOfScript);
+  $("scriptTab").classList.toggle("wrong", isOfScript);
+  editors.level.mark(isOfScript || !place ? null : place.line, true, place ? place.column : null);
+  if (isOfScript) editors.script.mark(place ? place.line : null, true, null);
+  else if (editors.script.isWrong) editors.script.mark(null, false);
 }

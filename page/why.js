@@ -1,11 +1,9 @@
-// Why the chosen agent did so: its tree, with what each node answered in the frame that is shown. Answers and numbers are the module's;
+// Why the chosen agent did so: what each node of its tree answered in the frame that is shown. Answers and numbers are the module's;
 // the tree's shape is what the level's text says.
 
 const ANSWERS = [...WORDS, "not ticked"];
-// What the answer of a `move` says of its way.
-const WAYS = ["here", "no way", "a way", ""];
-// The outline that stands in the page, and its nodes in preorder.
-const outline = { agent: -1, tree: null, nodes: [], letters: "" };
+// What stands beside a `move`: the way that it got.
+const waySaid = ({ steps, direction }) => direction + (steps > 0 ? `, ${steps} step${steps == 1 ? "" : "s"}` : "");
 
 // The answers and numbers of the chosen agent's nodes in the frame that is shown, or null where no agent is chosen. At the start no node
 // is ticked. The game that is asked stands at the frame before, and goes on to this one.
@@ -14,72 +12,91 @@ function readWhy() {
   if (!film || chosen < 0) return null;
   if (frame == 0) {
     const numbers = world.numbers(film.at(0), chosen);
-    return { answers: numbers.map(() => ANSWERS.length - 1), before: numbers, after: numbers };
+    return { answers: numbers.map(() => NOT_TICKED), before: numbers, after: numbers, ways: null, blocked: -1 };
   }
-  const game = film.at(frame - 1), answers = world.nodes(game, film.signals.of(frame), chosen), before = world.numbers(game, chosen);
-  return { answers: [...answers], before, after: world.numbers(film.at(frame), chosen) };
+  const answers = film.answers(frame, chosen), before = world.numbers(film.at(frame - 1), chosen);
+  const ways = new Map(), { good } = state;
+  for (const node of treeOf(good, good.agents[chosen])) {
+    const way = node.name == "move" && answers[node.number] != NOT_TICKED && film.way(frame, chosen, +wordsOf(good.text, node)[0]);
+    if (way) ways.set(node.number, waySaid(way));
+  }
+  // The node whose want came to nothing, or -1.
+  const blocked = film.isBlocked(frame, chosen) ? film.intent(frame, chosen).node : -1;
+  return { answers: [...answers], before, after: world.numbers(film.at(frame), chosen), ways, blocked };
 }
 
 function showWhy(told) {
+  $("why").hidden = $("whySteps").hidden = !told;
+  $("treePanel").classList.toggle("open", told !== null);
+  $("copyWhy").hidden = !told || shownFrame() == 0 || !world.calls.btworld_why;
+  showWhose(told);
+  showTreeMenu();
   if (!told) return closeWhy();
   const { good, chosen } = state, name = good.agents[chosen];
-  $("why").hidden = $("whySteps").hidden = false;
-  $("detail").classList.add("open");
-  if (outline.agent != chosen || outline.tree != good.trees[name]) buildOutline(chosen, name, good.trees[name]);
-  outline.nodes.forEach((node, n) => showNode(node, told.answers[n], told.before[n], told.after[n]));
+  if (outline.agent != chosen || outline.text != spellOf(good, name)) buildTree(chosen, name);
+  outline.nodes.forEach((node, n) => showNode(node, told.answers[n], told.before[n], told.after[n], told.ways?.get(n), n == told.blocked));
+  colourEdges(told.answers);
+  foldQuiet(told.answers);
   followTick(told.answers.join(""));
+  tintText(told.answers);
   sayTick();
+  showChosenNode(told);
+}
+
+// The tick as `btworld why` writes it, for a report or a question.
+async function copyWhy() {
+  let text = "";
+  guarded(() => { text = state.film.why(shownFrame(), state.chosen); });
+  try {
+    await navigator.clipboard.writeText(text);
+    note("what btworld why writes is copied");
+  } catch (_) {
+    note("the browser lets nothing be copied");
+  }
 }
 
 // The keys' focus goes back to the agent's row.
 function closeWhy() {
   const row = cells[outline.agent];
-  if (row && $("whySteps").querySelector(":focus-visible")) row.letter.focus();
-  $("why").hidden = $("whySteps").hidden = true;
-  $("detail").classList.remove("open");
-  Object.assign(outline, { agent: -1, tree: null, nodes: [], letters: "" });
+  if (row && $("treePanel").querySelector(":focus-visible")) row.letter.focus();
+  Object.assign(outline, { agent: -1, text: null, nodes: [], letters: "" });
+  state.node = -1;
+  editors.level.pick(null);
+  editors.level.tint(new Map());
+  showChosenNode(null);
   sayTick();
 }
 
-function buildOutline(agent, name, tree) {
-  const box = $("whyTree");
+// The heading: whose tree it is, and what its root answered.
+function showWhose(told) {
+  const box = $("whyName"), { good, chosen, film } = state;
   box.textContent = "";
-  putTree(box, `Why: tree ${name} of ${letterOf(agent)}`, tree, [], nodeTexts);
-  const nodes = [...box.querySelectorAll(".said")].map((said) => {
-    const head = said.nextElementSibling, way = put(box, "small", "", "way"), number = put(box, "span", "", "number");
-    for (const it of [said, number]) it.setAttribute("role", "img");
-    head.after(way, number);
-    return { said, head, way, number, name: head.textContent, isMove: head.querySelector("b").textContent == "move" };
-  });
-  Object.assign(outline, { agent, tree, nodes, letters: "" });
+  if (!told) return void box.append(shownFrame() > 0 ? `In frame ${shownFrame()}` : "At the start");
+  const disc = put(box, "i", letterOf(chosen), "letter");
+  disc.style.background = colourOf(chosen);
+  put(box, "span", good.agents[chosen]);
+  const word = shownFrame() > 0 ? WORDS[film.answer[shownFrame() * film.agents + chosen]] : "";
+  if (word) put(box, "small", word, `answer ${word[0]}`);
 }
 
 // A number that is 0 before and after the frame is not shown.
-function showNode(node, answer, before, after) {
+function showNode(node, answer, before, after, way, isBlocked) {
+  const key = `${answer},${before},${after},${way},${isBlocked}`;
+  if (node.key == key) return;
+  node.key = key;
   const isTicked = answer < WORDS.length, letter = isTicked ? ANSWERS[answer][0] : "\u00b7";
   node.said.className = `said ${isTicked ? letter : ""}`;
   node.said.textContent = letter;
-  node.said.setAttribute("aria-label", ANSWERS[answer]);
-  node.head.classList.toggle("silent", !isTicked);
-  node.way.textContent = node.isMove ? WAYS[answer] : "";
+  node.box.classList.remove("S", "F", "R", "silent");
+  node.box.classList.add(isTicked ? letter : "silent");
+  node.way.textContent = [way ?? "", isBlocked ? "in vain" : ""].filter((it) => it).join(", ");
+  node.way.classList.toggle("vain", isBlocked);
   node.number.textContent = before != after ? `${before} to ${after}` : after || "";
   node.number.hidden = !node.number.textContent;
   node.number.classList.toggle("changed", before != after);
-  node.number.setAttribute("aria-label", `number ${node.number.textContent}`);
   const parts = [node.name, ANSWERS[answer], node.way.textContent, node.number.hidden ? "" : `number ${node.number.textContent}`];
+  node.box.setAttribute("aria-label", parts.filter((part) => part).join(", "));
   node.spoken = isTicked ? parts.filter((part) => part).join(" ") : "";
-}
-
-// Where other nodes answer, or others than before, the last one that was ticked is scrolled into sight.
-function followTick(letters) {
-  if (outline.letters == letters) return;
-  outline.letters = letters;
-  const last = outline.nodes.filter((node) => node.spoken).pop();
-  if (!last) return;
-  const box = $("detail"), line = last.head.getBoundingClientRect(), { top, bottom } = box.getBoundingClientRect();
-  const above = top + $("whyHead").offsetHeight - line.top, below = line.bottom + 4 - bottom;
-  if (above > 0) box.scrollTop -= above;
-  else if (below > 0) box.scrollTop += below;
 }
 
 // Says the tick to whoever hears the page, once the frames stand still.
@@ -88,4 +105,11 @@ function sayTick() {
   const { agent, nodes } = outline, frame = shownFrame();
   const spoken = () => `${letterOf(agent)}, ${frame > 0 ? `frame ${frame}: ${nodes.map((node) => node.spoken).filter((it) => it).join(", ")}` : "the start"}`;
   sayTick.later = setTimeout(() => { if (!state.isPlaying) $("whySaid").textContent = agent < 0 ? "" : spoken(); }, 250);
+}
+
+// In the level's text the names of the nodes bear the colours of their answers.
+function tintText(answers) {
+  const tints = new Map(), nodes = treeOf(state.draft, state.good.agents[state.chosen]);
+  if (nodes.length == answers.length && shownFrame() > 0) nodes.forEach((node, n) => { if (answers[n] < WORDS.length) tints.set(node.part.items[0].from, WORDS[answers[n]][0]); });
+  editors.level.tint(tints);
 }

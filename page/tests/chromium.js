@@ -1,34 +1,39 @@
-// Headless Chromium by its DevTools protocol: node 20 wants --experimental-websocket.
+// Headless Chromium by its DevTools protocol, over a pipe.
 const fs = require("fs");
 const os = require("os");
 const path = require("path");
 const { spawn } = require("child_process");
+const { PLAYS, untilIn } = require("./browser.js");
 
-// Whether play.html plays.
-const PLAYS = "window.btworld && (btworld.state.film || btworld.state.fault) ? 1 : 0";
+const CTRL = 2;
+// What these keys put into a text, and their numbers: without them Enter presses no button.
+const TEXTS = { Enter: "\r", Tab: undefined };
+const NUMBERS = { Enter: 13, Tab: 9 };
 
-class Browser {
+class Chromium {
   static async start() {
     const profile = fs.mkdtempSync(path.join(os.tmpdir(), "page-"));
-    const flags = ["--headless=new", "--no-sandbox", "--disable-gpu", "--remote-debugging-port=0", `--user-data-dir=${profile}`];
-    const child = spawn("chromium", [...flags, "about:blank"], { stdio: ["ignore", "ignore", "pipe"] });
-    const address = await new Promise((done, failed) => {
-      let said = "";
-      child.stderr.on("data", (part) => {
-        said += part;
-        const found = /DevTools listening on (\S+)/.exec(said);
-        if (found) done(found[1]);
-      });
-      child.on("exit", () => failed(new Error(said)));
+    const flags = ["--headless=new", "--no-sandbox", "--disable-gpu", "--remote-debugging-pipe", `--user-data-dir=${profile}`];
+    const child = spawn("chromium", [...flags, "about:blank"], { stdio: ["ignore", "ignore", "ignore", "pipe", "pipe"] });
+    const browser = new Chromium(child, profile);
+    await new Promise((done, failed) => {
+      child.once("error", failed);
+      child.once("exit", (status) => failed(new Error(`chromium ends with status ${status}`)));
+      browser.call("Browser.getVersion").then(done, failed);
     });
-    const socket = new WebSocket(address);
-    await new Promise((done) => (socket.onopen = done));
-    return new Browser(child, profile, socket);
+    return browser;
   }
 
-  constructor(child, profile, socket) {
-    Object.assign(this, { child, profile, socket, waiting: new Map(), number: 0, messages: [] });
-    socket.onmessage = ({ data }) => this.hear(JSON.parse(data));
+  constructor(child, profile) {
+    const [, , , to, from] = child.stdio;
+    Object.assign(this, { child, profile, to, waiting: new Map(), number: 0, messages: [], rest: "" });
+    to.on("error", () => {}); // it has ended, which is told by its status
+    from.setEncoding("utf8");
+    from.on("data", (text) => {
+      const told = (this.rest + text).split("\0");
+      this.rest = told.pop();
+      told.forEach((it) => this.hear(JSON.parse(it)));
+    });
   }
 
   hear(told) {
@@ -46,12 +51,12 @@ class Browser {
   call(method, params = {}, sessionId = this.session) {
     return new Promise((done, failed) => {
       this.waiting.set(++this.number, { done, failed });
-      this.socket.send(JSON.stringify({ id: this.number, method, params, sessionId: sessionId ?? undefined }));
+      this.to.write(`${JSON.stringify({ id: this.number, method, params, sessionId: sessionId ?? undefined })}\0`);
     });
   }
 
-  // A new tab of a size, at an address, in the place of the one before.
-  async open(address, width, height, { isDark = false, isTouch = false, scale = 1, ready = PLAYS } = {}) {
+  // A new tab of a size, at an address, in the place of the one before; what the page kept is forgotten, or stays where that is asked.
+  async open(address, width, height, { isDark = false, isTouch = false, scale = 1, ready = PLAYS, keeps = false } = {}) {
     const { targetId } = await this.call("Target.createTarget", { url: "about:blank" }, null);
     if (this.tab) await this.call("Target.closeTarget", { targetId: this.tab }, null);
     this.tab = targetId;
@@ -59,8 +64,10 @@ class Browser {
     for (const domain of ["Page", "Runtime", "Log"]) await this.call(`${domain}.enable`);
     await this.call("Emulation.setDeviceMetricsOverride", { width, height, deviceScaleFactor: scale, mobile: isTouch });
     await this.call("Emulation.setEmulatedMedia", { features: [{ name: "prefers-color-scheme", value: isDark ? "dark" : "light" }] });
+    const forget = keeps ? null : await this.call("Page.addScriptToEvaluateOnNewDocument", { source: "localStorage.clear()" });
     await this.call("Page.navigate", { url: address });
     await this.until(ready);
+    if (forget) await this.call("Page.removeScriptToEvaluateOnNewDocument", forget);
   }
 
   async evaluate(expression) {
@@ -69,18 +76,14 @@ class Browser {
     return result.value;
   }
 
-  async until(expression, tries = 200) {
-    for (let k = 0; k < tries; k++) {
-      if (await this.evaluate(expression)) return true;
-      await new Promise((done) => setTimeout(done, 25));
-    }
-    return false;
+  until(expression, tries) {
+    return untilIn(this, expression, tries);
   }
 
   async key(key, modifiers = 0) {
-    const text = key.length == 1 && !(modifiers & 2) ? key : undefined;
-    await this.call("Input.dispatchKeyEvent", { type: "keyDown", key, text, modifiers });
-    await this.call("Input.dispatchKeyEvent", { type: "keyUp", key, modifiers });
+    const text = key in TEXTS ? TEXTS[key] : key.length == 1 && !(modifiers & CTRL) ? key : undefined, windowsVirtualKeyCode = NUMBERS[key];
+    await this.call("Input.dispatchKeyEvent", { type: "keyDown", key, text, modifiers, windowsVirtualKeyCode });
+    await this.call("Input.dispatchKeyEvent", { type: "keyUp", key, modifiers, windowsVirtualKeyCode });
   }
 
   async mouse(type, x, y, buttons = 1) {
@@ -92,16 +95,30 @@ class Browser {
     await this.mouse("mouseReleased", x, y, 0);
   }
 
+  // One finger: "touchStart" and "touchMove" at a point, "touchEnd".
+  async touch(type, x, y) {
+    await this.call("Input.dispatchTouchEvent", { type, touchPoints: type == "touchEnd" ? [] : [{ x, y }] });
+  }
+
+  async saveTo(folder) {
+    await this.call("Browser.setDownloadBehavior", { behavior: "allow", downloadPath: folder }, null);
+  }
+
   async shot(file) {
     const { data } = await this.call("Page.captureScreenshot", { format: "png" });
     fs.writeFileSync(file, Buffer.from(data, "base64"));
+  }
+
+  // What the console was told.
+  async told() {
+    return this.messages;
   }
 
   stop() {
     return new Promise((done) => {
       this.child.removeAllListeners("exit");
       this.child.on("exit", () => {
-        fs.rmSync(this.profile, { recursive: true, force: true });
+        fs.rmSync(this.profile, { recursive: true, force: true, maxRetries: 5 });
         done();
       });
       this.child.kill();
@@ -109,4 +126,4 @@ class Browser {
   }
 }
 
-module.exports = { Browser };
+module.exports = { Chromium };

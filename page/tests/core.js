@@ -7,7 +7,7 @@ const held = (page, id) => new RegExp(`id="${id}">([^]*?)</script>`).exec(page)[
 
 function readPage(file) {
   const page = fs.readFileSync(file, "utf8");
-  const names = ["Btworld", "Film", "Signals", "readDraft", "painted", "resized", "lineOfFault", "partsOf"];
+  const names = ["Btworld", "Film", "Signals", "readDraft", "painted", "resized", "partsOf", "nodesOf", "treeOf", "labelOf", "FORMS", "spelt", "withChild", "withoutNode", "withWord", "wrapped", "asKind", "swapped", "withTree", "withTreeOf", "renamedTree", "freeName", "LESSONS", "levelOf", "reached", "isOwnWork"];
   const core = vm.runInThisContext(`${held(page, "core")}\n({ ${names.join(", ")} })`, { filename: "play.html" });
   return { ...core, code: zlib.gunzipSync(Buffer.from(held(page, "module"), "base64")), samples: JSON.parse(held(page, "samples")) };
 }

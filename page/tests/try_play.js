@@ -1,12 +1,17 @@
-// node --experimental-websocket try_play.js PAGE TOP EXPECTED [SHOTS]: opens play.html in headless Chromium and uses it as hands do, and
+// node try_play.js BROWSER PAGE TOP EXPECTED [SHOTS]: opens play.html in a headless browser, chromium or firefox, uses it as hands do, and
 // says what it takes of time. EXPECTED holds the 70 frames of levels/warehouse that btworld writes. SHOTS is a folder for pictures.
 const fs = require("fs");
 const path = require("path");
-const { Browser } = require("./chromium.js");
+const { pathToFileURL } = require("url");
+const { startBrowser } = require("./browser.js");
 const { tryWhy } = require("./why.js");
-const [page, top, expected, shots] = process.argv.slice(2);
+const { tryTree } = require("./tree.js");
+const { tryTexts } = require("./texts.js");
+const { tryLessons } = require("./lessons.js");
+const { tryLooks } = require("./looks.js");
+const [name, page, top, expected, shots] = process.argv.slice(2);
 const CTRL = 2, SHIFT = 8;
-const address = `file://${path.resolve(page)}`;
+const address = pathToFileURL(path.resolve(page)).href;
 const levelOf = (name) => fs.readFileSync(path.join(top, "levels", `${name}.json`), "utf8");
 const pause = (milliseconds) => new Promise((done) => setTimeout(done, milliseconds));
 
@@ -48,7 +53,7 @@ async function main(browser) {
   console.log("-- the first look");
   await browser.open(address, 1280, 800);
   console.log("milliseconds until the first frame is drawn:", await value("Math.round(btworld.startedAt)"));
-  same(await value("btworld.state.isPlaying"), true, "it plays at once");
+  same(await value("[btworld.state.isPlaying, btworld.state.chosen, outline.nodes.length > 20]"), [true, 0, true], "it plays at once, and A's tree stands there");
   look(await browser.until("btworld.state.film.count >= 70 && btworld.state.wanted > 2"), "and gets on");
   await browser.key(" ");
   same(await value("btworld.state.isPlaying"), false, "space pauses");
@@ -63,7 +68,8 @@ async function main(browser) {
 
   console.log("-- keys");
   await browser.key("Home");
-  same(await value("btworld.state.wanted"), 0, "Home");
+  await browser.key("Escape");
+  same(await value("[btworld.state.wanted, btworld.state.chosen]"), [0, -1], "Home, Esc");
   await browser.key("ArrowRight");
   await browser.key("ArrowRight", SHIFT);
   same(await value("btworld.state.wanted"), 11, "Right, Shift+Right");
@@ -74,33 +80,57 @@ async function main(browser) {
   await browser.key("Escape");
   same(await value("btworld.state.chosen"), -1, "Esc chooses none");
   await browser.key("?");
-  await browser.key("Tab");
-  same(await value("[document.getElementById('help').hidden, document.activeElement.id]"), [false, "helpText"], "? shows the help, Tab stays in it");
+  let isWithin = true;
+  for (let k = 0; k < 12; k++) {
+    await browser.key("Tab");
+    isWithin &&= await value("document.getElementById('help').contains(document.activeElement) && document.activeElement.id != 'helpText'");
+  }
+  same([await value("document.getElementById('help').hidden"), isWithin], [false, true], "? shows the help, Tab stays in it");
+  const pages = await value("[...document.querySelectorAll('#helpHead [data-help]')].map((tab) => { tab.click(); return document.getElementById(tab.dataset.help).textContent.length > 500 && document.querySelectorAll('#helpText > .page:not([hidden])').length == 1; })");
+  same(pages, [true, true, true, true], "its four pages");
   await shot("help");
   await browser.key("Escape");
+  await value("window.scrolled = document.getElementById('levelCode').scrollTop");
   await browser.key("2");
-  same(await value("[document.activeElement.tagName, document.getElementById('agentsPage').hidden]"), ["TEXTAREA", true], "2 goes to the level's text");
+  same(await value("[document.activeElement == editors.level.area, document.getElementById('levelCode').scrollTop == scrolled, editors.level.area.selectionStart]"), [true, true, 0], "2 goes to the level's text, and scrolls it nowhere");
   await browser.key("Escape");
   await browser.key("1");
   await browser.key(".");
   same(await value("document.getElementById('pace').textContent"), "10 a second", ". is faster");
   await browser.key(",");
 
+  console.log("-- the end of a run");
+  await load("warehouse", "", 40);
+  await value("setSpeed(5); btworld.show(30); btworld.setPlaying(true)");
+  look(await browser.until("!btworld.state.isPlaying"), "play stops");
+  same(await value("[btworld.state.wanted, btworld.state.total]"), [40, 40], "at the last frame");
+  await value("setSpeed(2)");
+  await browser.key(" ");
+  look(await browser.until("btworld.state.isPlaying && btworld.state.wanted < 40"), "and begins anew there");
+  await browser.click(...await middle("endless"));
+  await value("btworld.show(35); btworld.setPlaying(true)");
+  look(await browser.until("btworld.state.wanted > 60"), "\u221e plays on past it");
+  await browser.click(...await middle("endless"));
+  await value("btworld.setPlaying(false); setSpeed(1)");
+  await load("warehouse", "12 on a\n30 on b\n99 off a\n", 70);
+  await browser.until("btworld.state.film.count == 70");
+
   console.log("-- the editor");
-  const level = levelOf("warehouse");
+  const level = levelOf("warehouse"), explains = await value("world.calls.btworld_explain !== undefined");
   await value("btworld.show(25)");
   same(await type("level", level.slice(0, 200)), "level: json", "broken text");
-  look(/line \d+: /.test(await value("document.getElementById('levelFault').textContent")), await value("document.getElementById('levelFault').textContent"));
+  look(/^level: json(line \d+, column \d+: .+)?$/.test(await value("document.getElementById('levelFault').textContent")), await value("document.getElementById('levelFault').textContent"));
   same(await value("[btworld.state.film.count, document.getElementById('frameName').textContent]"), [70, "frame 25"], "the last good game stays");
   same(await type("level", level.replace('["move", "7"]', '["move", "9"]')), "level: tree visitor names a place that is not on the map", "a place that isn't there");
-  const line = level.split("\n").findIndex((it) => it.includes('"visitor":'));
-  same(await value("[editors.level.line, editors.level.bar.hidden]"), [line, false], `its line ${line + 1} is marked`);
+  const line = level.split("\n").findIndex((it) => it.includes('["move", "7"]'));
+  if (explains) same(await value("[editors.level.line, editors.level.isWrong, document.querySelectorAll('#levelCode .line.wrong').length]"), [line, true, 1], `its line ${line + 1} is marked`);
   await value("setPage('level')");
   await shot("fault");
   same(await type("level", level.replace('["move", "7"]', '["move", "8"]')), "", "mended");
   same(await value(compare), 0, "and played");
   same(await type("script", "12 on a\n3 on b\n"), "script: order at line 2", "a fault of the script");
-  same(await value("[editors.script.line, document.getElementById('scriptFault').textContent]"), [1, "script: order at line 2"], "stands at the script");
+  const [marked, said] = await value("[editors.script.line, document.getElementById('scriptFault').textContent]");
+  look(explains ? marked == 1 && said.startsWith("script: order at line 2line 2: ") : marked === null && said == "script: order at line 2", `stands at the script: ${said}`);
   same(await type("script", "12 on a\n30 on b\n"), "", "mended");
   for (let k = 0; k < 6 && (await texts()).level != level; k++) await browser.key("z", CTRL);
   same((await texts()).level == level && (await texts()).script, "12 on a\n30 on b\n99 off a\n", "Ctrl+Z goes back to the first texts");
@@ -110,6 +140,7 @@ async function main(browser) {
   await value("setPage('level'); btworld.show(25)");
   await browser.click(...await middle("paint"));
   same(await value("[btworld.state.isPainting, btworld.state.wanted]"), [true, 0], "painting shows the start");
+  same(await value("[document.getElementById('note').textContent.startsWith('painting'), [...document.querySelectorAll('button')].filter((it) => it.getAttribute('aria-label') == 'undo' || it.textContent.toLowerCase() == 'undo').length]"), [true, 1], "and says so; undo stands once");
   const drag = async (from, to) => {
     await browser.mouse("mousePressed", ...await cellMiddle(...from));
     await browser.mouse("mouseMoved", ...await cellMiddle(...to));
@@ -148,6 +179,7 @@ async function main(browser) {
   same(await value("[btworld.state.fault, btworld.state.good.map[3], btworld.state.good.map[4]]"), ["", "#.A.*...#D.6.#", "#1##########b#"], "a place is moved");
   await browser.key("Escape");
   same(await value("[btworld.state.isPainting, btworld.state.wanted]"), [false, 25], "Esc plays again, at the frame from before");
+  same(await value("document.getElementById('note').textContent"), "", "and no longer says that it paints");
   same(await value(compare), 0, "frames as of a game of that text");
 
   console.log("-- signals");
@@ -199,7 +231,7 @@ async function main(browser) {
   await value(`openFiles([new File(["{"], "bad.json")])`);
   same([(await texts()).name, await value("btworld.state.fault"), await value("btworld.state.good.agents.length")], ["bad", "level: json", 3], "a bad file says its fault");
   const folder = fs.mkdtempSync(path.join(require("os").tmpdir(), "saved-"));
-  await browser.call("Browser.setDownloadBehavior", { behavior: "allow", downloadPath: folder }, null);
+  await browser.saveTo(folder);
   await value("btworld.load(samples[0])");
   await value("btworld.setTotal(70); document.getElementById('saveMenu').open = true; document.getElementById('saveFrames').click()");
   const saved = path.join(folder, "warehouse.frames.txt");
@@ -294,15 +326,22 @@ async function main(browser) {
 
   console.log("-- why");
   await browser.open(address, 1280, 800);
-  await tryWhy(browser, { look, same, load, type, middle, cellMiddle, levelOf });
+  await tryWhy(browser, { look, same, load, type, middle, cellMiddle, levelOf, shot });
+
+  const tools = { look, same, load, type, middle, cellMiddle, levelOf, address, pause, shot };
+  for (const [name, part] of Object.entries({ "the tree that is drawn": tryTree, "texts, faults, drafts and links": tryTexts, lessons: tryLessons, "looks at all sizes": tryLooks })) {
+    console.log(`-- ${name}`);
+    await browser.open(address, 1280, 800);
+    await part(browser, tools);
+  }
 
   console.log("-- sizes");
   await browser.open(address, 1280, 800);
-  await value("btworld.setPlaying(false); btworld.show(40); btworld.choose(0)");
+  await value("btworld.setPlaying(false); btworld.show(40); btworld.choose(0, true)");
   await pause(200);
   await shot("play");
   await browser.open(address, 1280, 800, { isDark: true });
-  await value("btworld.setPlaying(false); btworld.show(40); btworld.choose(0)");
+  await value("btworld.setPlaying(false); btworld.show(40); btworld.choose(0, true)");
   await pause(200);
   await shot("dark");
   await browser.open(address, 390, 844, { isTouch: true, scale: 2 });
@@ -310,13 +349,13 @@ async function main(browser) {
   await pause(300);
   same(await value("document.documentElement.scrollWidth"), 390, "390 wide without a scroll sideways");
   await shot("phone");
-  await value("btworld.choose(0); document.getElementById('pages').scrollIntoView()");
+  await value("btworld.choose(0, true)");
   await pause(300);
-  same(await value("[document.documentElement.scrollWidth, document.getElementById('detail').scrollWidth - document.getElementById('detail').clientWidth]"), [390, 0], "a tree of 390 wide");
+  same(await value("[document.documentElement.scrollWidth, document.getElementById('whyTree').getBoundingClientRect().bottom <= innerHeight]"), [390, true], "a tree of 390 wide, above the fold");
   await shot("phone_why");
   const [tapX, tapY] = await middle("whyNext");
-  await browser.call("Input.dispatchTouchEvent", { type: "touchStart", touchPoints: [{ x: tapX, y: tapY }] });
-  await browser.call("Input.dispatchTouchEvent", { type: "touchEnd", touchPoints: [] });
+  await browser.touch("touchStart", tapX, tapY);
+  await browser.touch("touchEnd");
   look(await browser.until("btworld.state.wanted == 41"), "a tap steps");
   await value("btworld.choose(-1); btworld.show(40); scrollTo(0, 0)");
   await pause(100);
@@ -324,20 +363,20 @@ async function main(browser) {
   await pause(200);
   await shot("phone_paint");
   await browser.key("#");
-  const touch = async (type, x, y) => { const [px, py] = await cellMiddle(x, y); await browser.call("Input.dispatchTouchEvent", { type, touchPoints: type == "touchEnd" ? [] : [{ x: px, y: py }] }); };
+  const touch = async (type, x, y) => browser.touch(type, ...await cellMiddle(x, y));
   await touch("touchStart", 9, 1);
   for (const y of [1, 2, 3]) await touch("touchMove", 9, y);
   await touch("touchEnd", 9, 3);
   await pause(100);
   same(await value("[1, 2, 3].map((y) => btworld.state.draft.map[y][9]).join('')"), "###", "a finger paints");
-  const small = await value("[...document.querySelectorAll('button, input, select')].filter((it) => { const box = it.getBoundingClientRect(); return box.width > 0 && (box.right > 391 || box.left < -1); }).map((it) => it.id || it.textContent)");
+  const small = await value("[...document.querySelectorAll('button, input, select')].filter((it) => !it.closest('#palette')).filter((it) => { const box = it.getBoundingClientRect(); return box.width > 0 && (box.right > 391 || box.left < -1); }).map((it) => it.id || it.textContent)");
   same(small, [], "no control beyond the edge");
   const unnamed = await value("[...document.querySelectorAll('button, input, select, textarea, canvas')].filter((it) => it.closest('td') === null && !it.textContent.trim() && !it.getAttribute('aria-label') && !it.title && !it.closest('label')).map((it) => it.outerHTML)");
   same(unnamed, [], "each control has a name");
-  same(browser.messages, [], "no message on the console");
+  same(await browser.told(), [], "no message on the console");
 }
 
-Browser.start().then(async (browser) => {
+startBrowser(name).then(async (browser) => {
   await main(browser).catch((error) => {
     console.log(`WRONG: ${error.stack}`, browser.messages);
     wrong++;

@@ -1,10 +1,10 @@
-// node --experimental-websocket try_view.js PAGE EXPECTED [SHOTS]: opens a page of `btview page` in headless Chromium, and uses it as hands
-// do: it draws by the same scripts as play.html. PAGE shows 70 frames of levels/warehouse by its script, EXPECTED holds their text.
+// node try_view.js BROWSER PAGE EXPECTED [SHOTS]: opens a page of `btview page` in a headless browser, and uses it as hands do: it draws by the same scripts as play.html. PAGE shows 70 frames of levels/warehouse by its script, EXPECTED holds their text.
 const fs = require("fs");
 const path = require("path");
-const { Browser } = require("./chromium.js");
-const [page, expected, shots] = process.argv.slice(2);
-const SHIFT = 8, address = `file://${path.resolve(page)}`, ready = "window.btview ? 1 : 0";
+const { pathToFileURL } = require("url");
+const { startBrowser } = require("./browser.js");
+const [name, page, expected, shots] = process.argv.slice(2);
+const SHIFT = 8, address = pathToFileURL(path.resolve(page)).href, ready = "window.btview ? 1 : 0";
 
 let wrong = 0;
 function look(fact, what) {
@@ -34,7 +34,13 @@ async function main(browser) {
   same([await text("frameName"), await text("signals")], ["frame 70", "signals on: a b"], "End");
   await browser.key("Home");
   await browser.key("a");
-  same([await value("chosen"), await value("document.querySelectorAll('#detail .leaf').length > 10")], [0, true], "a chooses A, and its tree stands there");
+  same([await value("chosen"), await text("frameName")], [-1, "frame 12signal a on"], "a goes to the frame in which the script switches a");
+  await browser.key("b");
+  await browser.key("b");
+  same(await text("frameName"), "frame 30signal b on", "and b to that of b, the only one");
+  await browser.key("Home");
+  await browser.key("A", SHIFT);
+  same([await value("chosen"), await value("document.querySelectorAll('#detail .leaf').length > 10")], [0, true], "A chooses A, and its tree stands there");
   await browser.key("ArrowDown");
   await browser.key("ArrowDown");
   same(await text("frameName"), "frame 10", "Down: A's next change but one");
@@ -75,13 +81,22 @@ async function main(browser) {
   same(await text("mapInfo"), "11,1  place 4, agent A", "the pointer's cell is told");
   await value("choose(-1)");
   await shot("view");
-  await browser.open(address, 390, 844, { ready, scale: 2, isTouch: true });
-  await value("show(25)");
-  await shot("view_phone");
-  same(browser.messages, [], "no message on the console");
+  await browser.open(address, 1280, 800, { ready, isDark: true });
+  await value("show(25); choose(0)");
+  const paper = () => value("(() => { const { data } = document.getElementById('lanes').getContext('2d').getImageData(2, 2, 1, 1); return data[0] + data[1] + data[2]; })()");
+  look(await paper() < 200 && await value("getComputedStyle(document.body).backgroundColor") == "rgb(17, 22, 29)", "dark where that is wanted, the jobs too");
+  await shot("view_dark");
+  for (const [width, height] of [[360, 640], [390, 844], [1024, 768], [1920, 1080]]) {
+    await browser.open(address, width, height, { ready, scale: width < 900 ? 2 : 1, isTouch: width < 900 });
+    await value("show(25)");
+    const beyond = await value("[...document.querySelectorAll('button, input, select, canvas, .panel, th, td')].filter((it) => { const box = it.getBoundingClientRect(); return box.width > 0 && (box.right > innerWidth + 1 || box.left < -1); }).map((it) => it.id || it.outerHTML.slice(0, 60))");
+    same([beyond, await value("document.documentElement.scrollWidth <= innerWidth")], [[], true], `${width} by ${height}: nothing sticks out`);
+    if (width == 390) await shot("view_phone");
+  }
+  same(await browser.told(), [], "no message on the console");
 }
 
-Browser.start().then(async (browser) => {
+startBrowser(name).then(async (browser) => {
   await main(browser).catch((error) => {
     console.log(`WRONG: ${error.stack}`, browser.messages);
     wrong++;
