@@ -3,9 +3,9 @@
 
     bench/bench.py [BTWORLD] [--workers 1,2,4] [--rounds 5] [--levels a,b] [--seconds 0.3] [--pools WORDS] [--json FILE]
 
-BTWORLD is the proved program of this repository where it isn't given; `-` measures the plain programs alone. What isn't there
-yet is made: the levels, and the programs by build.sh. README.md says how to read the figures. The status is 1 where a program
-prints other frames than serial."""
+BTWORLD is the proved program where it isn't given: that of dist/ if it is of these sources, else what ./prove built; `-` measures the plain programs alone. What isn't there
+yet is made: the levels, and the programs by build.sh. README.md says how to read the figures: by the clock and by processor time,
+a `~` where they differ by more than a tenth between rounds. The status is 1 where a program prints other frames than serial."""
 import argparse
 import hashlib
 import json
@@ -21,11 +21,36 @@ import time
 HERE = os.path.dirname(os.path.abspath(__file__))
 BUILT = os.path.join(HERE, 'out')
 LEVELS = os.path.join(BUILT, 'levels')
-BTWORLD = os.path.join(HERE, '..', 'crates', 'btworld', 'out', 'btworld')
+TOP = os.path.dirname(HERE)
 TIMEOUT = 120
 PARALLEL = ['parallel', 'tbb', 'fiber']
 # Those with one thread.
 SINGLE = ['serial', 'library']
+
+
+# More than this part of a figure's median between its least and its most is marked.
+STEADY = 0.1
+
+
+def loop():
+    """Counts for 20 ms of processor time; how many times as long that took by the clock, and the turns in a microsecond of processor time.
+
+    On a machine with nothing else to do the first is 1, and the second is the same each time."""
+    clock, used, turns = time.perf_counter(), time.process_time(), 0
+    while time.process_time() - used < 0.02:
+        for _ in range(1000):
+            turns += 1
+    used = time.process_time() - used
+    return (time.perf_counter() - clock) / used, turns / used / 1e6
+
+
+def proved():
+    of_dist = subprocess.run([os.path.join(TOP, 'scripts', 'in_dist'), 'btworld'], stdout=subprocess.PIPE, stderr=subprocess.DEVNULL)
+    return of_dist.stdout.decode().strip() if of_dist.returncode == 0 else os.path.join(TOP, 'crates', 'btworld', 'out', 'btworld')
+
+
+def spread(figures):
+    return (max(figures) - min(figures)) / statistics.median(figures)
 
 
 def run(cmd, out):
@@ -64,7 +89,7 @@ def digest(cmd):
 
 def main():
     ap = argparse.ArgumentParser()
-    ap.add_argument('btworld', nargs='?', default=BTWORLD)
+    ap.add_argument('btworld', nargs='?')
     ap.add_argument('--workers', default='1,2,4')
     ap.add_argument('--rounds', type=int, default=5)
     ap.add_argument('--levels')
@@ -72,6 +97,7 @@ def main():
     ap.add_argument('--pools', default='', help='more words for btworld, such as "--slots 8 --large 63"')
     ap.add_argument('--json')
     a = ap.parse_args()
+    a.btworld = a.btworld or proved()
     if a.btworld != '-' and not shutil.which(a.btworld):
         sys.exit('bench: there is no program %s; ./prove btworld builds it' % a.btworld)
     if not os.path.exists(os.path.join(BUILT, 'serial')):
@@ -103,13 +129,14 @@ def main():
         # one task per program and number of workers
         tasks = [(p, k) for p, _ in progs for k in (ks if p not in SINGLE else [1])]
         want = digest(cmd('serial', 1))
-        ok, times, cpu, mem = {}, dict((t, []) for t in tasks), dict((t, []) for t in tasks), {}
+        ok, times, cpu, mem, looped = {}, dict((t, []) for t in tasks), dict((t, []) for t in tasks), {}, []
         for p, k in tasks:
             got = digest(cmd(p, k))
             ok[(p, k)] = got == want
             mem[(p, k)] = peak(cmd(p, k))
         for r in range(a.rounds):
             for t in tasks[r % len(tasks):] + tasks[:r % len(tasks)]:
+                looped.append(loop())
                 spent, used, m = 0.0, 0.0, 0
                 while spent < a.seconds:
                     s, c = run(cmd(*t), null)
@@ -124,26 +151,32 @@ def main():
         top = max(par, key=lambda t: fps[t]) if par else None
         top_at = dict((k, max([t for t in par if t[1] == k], key=lambda t: fps[t])) for k in ks) if par else {}
 
-        def ratio(t, u):
+        def ratio(t, u, of=times):
             # median over rounds of the speed of t over that of u in the same round
-            return statistics.median([y / x for x, y in zip(times[t], times[u])]) if u else float('nan')
+            return statistics.median([y / x for x, y in zip(of[t], of[u])]) if u else float('nan')
         print('\n%s: %d frames; serial %.0f frames/s, %.1f us a frame, %d KiB' % (
             lv['name'], n, serial, 1e6 / serial, mem[('serial', 1)]))
-        print('  %-9s %2s %11s %9s %9s %9s %9s %11s %9s %9s %7s' % ('program', 'K', 'frames/s', 'best', 'us/frame', 'cpu us/f',
-                                                              'x serial', 'x best at K', 'x best', 'peak KiB', 'spread'))
+        waits, speeds = zip(*looped)
+        print('  a loop beside took %.2f times its processor time (at most %.2f), and its turns a second differ by %.0f%%'
+              % (statistics.median(waits), max(waits), spread(speeds) * 100))
+        print('  %-9s %2s %11s %9s %9s %9s %9s %9s %11s %9s %9s %8s %8s' % (
+            'program', 'K', 'frames/s', 'best', 'us/frame', 'cpu us/f', 'x serial', 'by cpu', 'x best at K', 'x best', 'peak KiB', 'spread',
+            'by cpu'))
         for p, _ in progs:
             for k in sorted({1, *ks}):
                 if (p, k) not in fps:
                     continue
                 t = (p, k)
                 r1, r2, r3 = ratio(t, ('serial', 1)), ratio(t, top_at.get(k)), ratio(t, top)
-                sp = (max(times[t]) - min(times[t])) / statistics.median(times[t])
-                c = min(cpu[t]) / n * 1e6
-                print('  %-9s %2d %11.0f %9.0f %9.1f %9.1f %9.3f %11.3f %9.3f %9d %6.0f%%%s' % (
-                    p, k, fps[t], n / min(times[t]), 1e6 / fps[t], c, r1, r2, r3, mem[t], sp * 100, '' if ok[t] else '  FRAMES DIFFER'))
+                sp, sc = spread(times[t]), spread(cpu[t])
+                c = statistics.median(cpu[t]) / n * 1e6
+                by_cpu = ratio(t, ('serial', 1), cpu)
+                print('  %-9s %2d %11.0f %9.0f %9.1f %9.1f %9.3f %9.3f %11.3f %9.3f %9d %6.0f%%%s %6.0f%%%s%s' % (
+                    p, k, fps[t], n / min(times[t]), 1e6 / fps[t], c, r1, by_cpu, r2, r3, mem[t], sp * 100, '~' if sp > STEADY else ' ',
+                    sc * 100, '~' if sc > STEADY else ' ', '' if ok[t] else '  FRAMES DIFFER'))
                 results.append({'level': lv['name'], 'frames': n, 'program': p, 'workers': k, 'fps': fps[t], 'best_fps': n / min(times[t]),
-                                'cpu_us_per_frame': c, 'x_serial': r1, 'x_best_at_k': r2, 'x_best': r3, 'peak_kib': mem[t],
-                                'spread': sp, 'same_frames': ok[t]})
+                                'cpu_us_per_frame': c, 'x_serial': r1, 'x_serial_by_cpu': by_cpu, 'x_best_at_k': r2, 'x_best': r3, 'peak_kib': mem[t],
+                                'spread': sp, 'spread_by_cpu': sc, 'loop': statistics.median(waits), 'same_frames': ok[t]})
         sys.stdout.flush()
     print('\nload at the end: %s' % open('/proc/loadavg').read().strip())
     if a.json:
