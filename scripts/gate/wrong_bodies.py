@@ -5,10 +5,10 @@
 
 A file there is written as one of must-fail/, of which `rt ci` tries each in a check of its own. A function is proved from its own body
 and from the contracts of those that it calls, so what is wrong in one doesn't count in another's proof: as many wrong bodies as there are
-functions go into one copy of a crate, and of each the prover has to say that the clause fails which its line `# refused-by: FUNCTION
-CLAUSE` names (scripts/gate/edit_refusals.py). Those that are not refused so come again, without those that are, and alone in the end: of a function
-that calls one which isn't proved the prover may say nothing. A wrong definition, an edit of specs/, is tried alone, and some proof has to
-refuse it.
+functions go into one copy of a crate, the proofs of these functions alone are checked, and of each the prover has to say that the clause
+fails which its line `# refused-by: FUNCTION CLAUSE` names (scripts/gate/edit_refusals.py). Those that are not refused so come again, without
+those that are, and alone in the end: of a function that calls one which isn't proved the prover may say nothing. A wrong definition, an edit
+of specs/, is tried alone, and some proof of its crate has to refuse it.
 
 The crates below are taken as they stand proved and built: by `rt ci` (crates/NAME/out/rlib), else by ./prove (crates/NAME/out/proved), or
 in FOLDER/NAME/. With --share N the crates are dealt to N shares of about the same work, and that one is tried whose turn it is by the number of
@@ -57,6 +57,12 @@ class Edit:
         text = (self.crate / path).read_text()
         at = text.find(old)
         return (path, *refusals.function_at(text, text[:at].count("\n") + 1)) if at >= 0 else (path, "", "")
+
+    def only(self):
+        """Returns the words that have the proofs of the functions alone checked which it changes."""
+        homes = ["::".join(Path(path).with_suffix("").parts[1:]).removesuffix("lib") for path, _, _ in self.functions]
+        names = [[owner or home, name] for home, (_, owner, name) in zip(homes, self.functions)]
+        return [word for it in names for word in ("--only", "::".join(filter(None, it)))]
 
     def why_stale(self):
         """Returns why it can't be applied to the sources as they stand, or None."""
@@ -110,7 +116,14 @@ class Checker:
                 edit.apply(room)
             texts = {path: (room / path).read_text() for edit in edits for path, _, _ in edit.pairs}
             words = [f"{rattle.kit()}/bin/rattle", *self.words(crate.name), "--incremental", kept]
-            ran = subprocess.run(words, cwd=room, stdin=subprocess.DEVNULL, stdout=subprocess.PIPE, stderr=subprocess.STDOUT, errors="replace", text=True)
+            only = [] if any(it.is_definition for it in edits) else [word for it in edits for word in it.only()]
+            run = lambda more: subprocess.run(
+                words + more, cwd=room, stdin=subprocess.DEVNULL, stdout=subprocess.PIPE, stderr=subprocess.STDOUT, errors="replace", text=True
+            )
+            ran = run(only)
+            # A name that fits several functions or none: all of the crate is checked.
+            if only and ran.returncode == 2:
+                ran = run([])
         print(ran.stdout, file=self.log, flush=True)
         return ran.returncode, ran.stdout.rstrip().split("\n"), lambda path: texts.get(path) or (crate / path).read_text()
 
@@ -127,7 +140,7 @@ def is_of(edit, owner, function):
 
 def why_not(edit, status, lines, source):
     """Returns why this edit doesn't count as refused, or None."""
-    if status != 1 or not lines[-1].startswith("logic=not-proved"):
+    if status != 1 or not lines[-1].startswith(("logic=not-proved", "only=")):
         return f"status {status}: {lines[-1][:160]}"
     if edit.is_definition:
         return None

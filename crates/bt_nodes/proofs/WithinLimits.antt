@@ -5,7 +5,7 @@ use Rattle.bt_nodes.specs.Plain.{Plain}
 use Rattle.bt_nodes.specs.Sizes.{size, depth}
 use Rattle.bt_nodes.specs.Limits.{keeps, tree_fault}
 use Rattle.bt_nodes.specs.Trees.{plain_of}
-use Rattle.bt_nodes.specs.declared.fault.TreeFault.TheVariants.{TooManyNodes, TooDeep, NoChild, Threshold, Count}
+use Rattle.bt_nodes.specs.declared.tree_fault.TreeFault.TheVariants.{TooManyNodes, TooDeep, NoChild, Threshold, Count}
 use Rattle.bt_nodes.specs.declared.limits.Limit.TheVariants.{Children, Thresholds, Counts}
 use Rattle.bt_nodes.specs.declared.tree.Tree.{Tree}
 

@@ -3,8 +3,8 @@ use Rattle.std.specs.Prelude.{ℕ, Bool, true, false, ◌&&◌, nat_le, nat_lt, 
 use Rattle.bt_nodes.specs.declared.leaf.Leaf.TheVariants.{Near}
 use Rattle.bt_nodes.specs.Plain.{Plain, Composite, Star, Par, Not, Tries, Ticks, Wait, Does, Forest, none, tree}
 use Rattle.bt_nodes.specs.Sizes.{size, depth, count}
-use Rattle.bt_nodes.specs.declared.fault.TreeFault.{TreeFault}
-use Rattle.bt_nodes.specs.declared.fault.TreeFault.TheVariants.{TooManyNodes, TooDeep, NoChild, Threshold, Count}
+use Rattle.bt_nodes.specs.declared.tree_fault.TreeFault.{TreeFault}
+use Rattle.bt_nodes.specs.declared.tree_fault.TreeFault.TheVariants.{TooManyNodes, TooDeep, NoChild, Threshold, Count}
 use Rattle.bt_nodes.specs.declared.limits.Limit.{Limit}
 use Rattle.bt_nodes.specs.declared.limits.Limit.TheVariants.{Children, Thresholds, Counts}
 

@@ -3,9 +3,9 @@ ghost use Rattle.bt_nodes.specs.Plain.{plain};
 ghost use Rattle.bt_nodes.specs.Sizes.{size, depth, subtree_sizes};
 ghost use Rattle.bt_nodes.specs.Limits.{tree_fault};
 
-use crate::fault::TreeFault;
 use crate::limits::Limit;
 use crate::node::Node;
+use crate::tree_fault::TreeFault;
 use std::alloc::{AllocError, Allocator};
 
 /// A tree within the limits: 1 to 255 nodes, a depth of 1 to 32, a child in each node that lists children, the

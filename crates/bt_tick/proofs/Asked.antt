@@ -7,8 +7,8 @@ use Rattle.bt_nodes.specs.declared.node.Status.{Status}
 use Rattle.bt_nodes.specs.declared.node.Status.TheVariants.{Success, Failure, Running}
 use Rattle.bt_nodes.specs.Plain.{Kind, Seq, Fallback, Plain, Composite, Star, Par, Not, Tries, Ticks, Wait, Move, Does, Forest, none, tree}
 use Rattle.bt_nodes.specs.Sizes.{size, count}
-use Rattle.game_rules.specs.declared.deed.Deed.{Deed}
-use Rattle.game_rules.specs.declared.deed.Deed.TheVariants.{Says, Wants}
+use Rattle.game_rules.specs.declared.leaf_result.LeafResult.{LeafResult}
+use Rattle.game_rules.specs.declared.leaf_result.LeafResult.TheVariants.{Says, Wants}
 use Rattle.game_rules.specs.View.{View}
 use Rattle.game_rules.specs.Tick.{Reply, Gives, Stands, State, Result, gives, on, on_reply, number_of, put, follow, ask, meaning, act, stops, on_kind, tick, tick_line, tick_star, tick_all}
 use Rattle.bt_tick.specs.Children.{from_child, child_number}
@@ -48,7 +48,7 @@ module _ (ps : List ℕ) where
   kind_carries Seq r f g cf cg = on_carries r f g (gives Running) cf cg (gives_carries Running)
   kind_carries Fallback r f g cf cg = on_carries r g f (gives Running) cg cf (gives_carries Running)
 
-  act_carries : (d : Deed) → Prefixes (act d)
+  act_carries : (d : LeafResult) → Prefixes (act d)
   act_carries (Says b) s = if_carries b (gives Success) (gives Failure) s refl refl
   act_carries (Wants i) s = refl
 

@@ -9,11 +9,11 @@ use Rattle.bt_nodes.specs.declared.node.Status.{Status}
 use Rattle.bt_nodes.specs.declared.node.Status.TheVariants.{Success, Failure, Running}
 use Rattle.bt_nodes.specs.Plain.{Plain, Kind, Composite, Not, Tries, Ticks, Wait, Does, Forest, plain}
 use Rattle.bt_nodes.specs.Sizes.{size}
-use Rattle.game_rules.specs.declared.deed.Deed.{Deed}
-use Rattle.game_rules.specs.declared.deed.Deed.TheVariants.{Says}
+use Rattle.game_rules.specs.declared.leaf_result.LeafResult.{LeafResult}
+use Rattle.game_rules.specs.declared.leaf_result.LeafResult.TheVariants.{Says}
 use Rattle.game_rules.specs.View.{View}
 use Rattle.game_rules.specs.Tick.{State, gives, put, want, number_of, test, meaning, act, tick}
-use Rattle.bt_tick.specs.Deeds.{deed_of}
+use Rattle.bt_tick.specs.LeafResults.{deed_of}
 use Rattle.bt_tick.specs.Suspended.{Open, go_on, close_at, unwind}
 use Rattle.bt_tick.specs.Places.{Sits, Nested}
 use Rattle.bt_tick.specs.Machine.{opens, with_parts}
@@ -77,11 +77,11 @@ module _ (v : View) (p : Plain) (n : ℕ) (s : State) where
         ∙ ticks_as (Ticks k c) is
 
 -- a leaf that comes to this
-pub acts_alone : (v : View) (p : Plain) (d : Deed) → deed_of v p ≡ Some d → size p ≡ 1
+pub acts_alone : (v : View) (p : Plain) (d : LeafResult) → deed_of v p ≡ Some d → size p ≡ 1
 acts_alone v (Does leaf) d e = refl
 acts_alone v _ d e = absurd (cc)
 
-pub acts : (v : View) (p : Plain) (n : ℕ) (s : State) (d : Deed) → deed_of v p ≡ Some d → act d s ≡ tick v p n s
+pub acts : (v : View) (p : Plain) (n : ℕ) (s : State) (d : LeafResult) → deed_of v p ≡ Some d → act d s ≡ tick v p n s
 acts v (Does leaf) n s d e =
     let is : d ≡ meaning leaf v = cc in
     ap (λ x. act x s) is

@@ -4,7 +4,7 @@ pub mod Asked
 pub mod Forests
 pub mod Nests
 pub mod Leaving
-pub mod Handing
+pub mod ChildStatus
 pub mod Pars
 pub mod Numbers
 pub mod SmallNumbers

@@ -11,7 +11,7 @@ use Rattle.bt_tick.specs.Kinds.{HasList, IsPar}
 use Rattle.bt_tick.specs.Suspended.{Open, go_on, close, close_at, won_by, lost_by, with_status}
 use Rattle.bt_tick.specs.Places.{Resting, limit_of, weight_of}
 use Rattle.bt_tick.specs.Machine.{rest_of}
-use Rattle.bt_tick.proofs.Handing.{rested}
+use Rattle.bt_tick.proofs.ChildStatus.{rested}
 use Rattle.bt_tick.proofs.Nests.{begun, entered_keeps, entered_nested, entered_falls}
 
 -- a par lists its children

@@ -1,5 +1,5 @@
 pub mod Children
-pub mod Deeds
+pub mod LeafResults
 pub mod Kinds
 pub mod Suspended
 pub mod Places

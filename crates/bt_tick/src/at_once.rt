@@ -10,12 +10,12 @@ ghost use Rattle.bt_tick.specs.Machine.{whole_of, KeepsLeft};
 ghost use Rattle.bt_tick.specs.Views.{view_of, IsInWorld, IsNearestIn};
 
 use crate::ascend::opposite;
-use crate::deed::{deed, status_of};
+use crate::leaf_result::{leaf_result, status_of};
 use crate::machine::Machine;
 use crate::nearest::Nearest;
 use crate::view::View;
 use bt_nodes::{Node, Status};
-use game_rules::Deed;
+use game_rules::LeafResult;
 use std::alloc::Allocator;
 
 impl<'t, T: Allocator, A: Allocator> Machine<'t, T, A> {
@@ -42,8 +42,8 @@ impl<'t, T: Allocator, A: Allocator> Machine<'t, T, A> {
         if let Node::Wait(most) = node {
             return Some(self.wait(number, *most));
         }
-        match deed(view, nearest, node) {
-            Some(Deed::Says(holds)) => Some(status_of(holds)),
+        match leaf_result(view, nearest, node) {
+            Some(LeafResult::Says(holds)) => Some(status_of(holds)),
             _ => None,
         }
     }

@@ -5,7 +5,7 @@ ghost use Rattle.bt_nodes.specs.Plain.{plain};
 ghost use Rattle.bt_nodes.specs.Sizes.{size};
 ghost use Rattle.game_rules.specs.Tick.{tick};
 ghost use Rattle.bt_tick.specs.Kinds.{IsPar, is_move};
-ghost use Rattle.bt_tick.specs.Deeds.{deed_of};
+ghost use Rattle.bt_tick.specs.LeafResults.{deed_of};
 ghost use Rattle.bt_tick.specs.Places.{Sits, Nested, weight_all};
 ghost use Rattle.bt_tick.specs.Machine.{opens, Keeps, whole_of, Placed, weight};
 ghost use Rattle.bt_tick.specs.Views.{view_of, IsInWorld};

@@ -3,11 +3,10 @@
 
 mod ascend;
 mod at_once;
-mod deed;
 mod descend;
-mod fault;
 mod fits;
 mod frames;
+mod leaf_result;
 mod machine;
 mod memory;
 mod nearest;
@@ -16,11 +15,12 @@ mod passing;
 mod pending;
 mod run;
 mod tick;
+mod tick_fault;
 mod view;
 mod waits;
 
-pub use fault::TickFault;
 pub use memory::Memory;
 pub use run::{begin, resume};
 pub use tick::{Outcome, Pending};
+pub use tick_fault::TickFault;
 pub use view::View;

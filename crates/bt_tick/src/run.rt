@@ -9,16 +9,16 @@ ghost use Rattle.bt_tick.specs.Views.{view_of, IsInWorld};
 ghost use Rattle.bt_tick.specs.Machine.{Placed, with_parts};
 ghost use Rattle.bt_tick.specs.Outcome.{means, place_of, tree_of, machine_left, ComesTo, IsOutcome, IsOfTree};
 
-use crate::deed::{deed, status_of};
-use crate::fault::TickFault;
+use crate::leaf_result::{leaf_result, status_of};
 use crate::machine::{Machine, Mode};
 use crate::memory::Memory;
 use crate::nearest::Nearest;
 use crate::tick::{Outcome, Pending};
+use crate::tick_fault::TickFault;
 use crate::view::View;
 use bt_nodes::{Node, Status, Tree};
 use fiber_stack::{Frame, Stack};
-use game_rules::Deed;
+use game_rules::LeafResult;
 use grid_world::{Answer, Intent};
 use std::alloc::{AllocError, Allocator};
 
@@ -94,11 +94,11 @@ fn run<'t, T: Allocator, A: Allocator + Clone>(
                         },
                     });
                 }
-                if let Some(deed) = deed(view, &mut nearest, node) {
+                if let Some(leaf_result) = leaf_result(view, &mut nearest, node) {
                     let after = number + 1;
-                    match deed {
-                        Deed::Says(holds) => mode = Mode::Up(status_of(holds), after),
-                        Deed::Wants(intent) => {
+                    match leaf_result {
+                        LeafResult::Says(holds) => mode = Mode::Up(status_of(holds), after),
+                        LeafResult::Wants(intent) => {
                             machine.want(intent)?;
                             mode = Mode::Up(Status::Running, after);
                         }

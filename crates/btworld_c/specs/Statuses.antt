@@ -7,8 +7,8 @@ use Rattle.level_text.specs.Levels.{spelled}
 use Rattle.level_text.specs.Scripts.{script_of}
 use Rattle.level_text.specs.declared.script_file.ScriptFault.{ScriptFault}
 use Rattle.level_text.specs.declared.script_file.ScriptFault.TheVariants.{OutOfMemory, Line, Order}
-use Rattle.log_text.specs.declared.fault.LogFault.{LogFault}
-use Rattle.log_text.specs.declared.fault.LogFault.TheVariants as logs
+use Rattle.log_text.specs.declared.log_fault.LogFault.{LogFault}
+use Rattle.log_text.specs.declared.log_fault.LogFault.TheVariants as logs
 use Rattle.stepping.specs.declared.load_fault.LoadFault.{LoadFault}
 use Rattle.stepping.specs.declared.load_fault.LoadFault.TheVariants as loads
 
@@ -107,7 +107,7 @@ level_status (no_tree agent) = 23
 level_status (no_place name) = 24
 level_status (no_agent name) = 25
 
--- none for want of memory
+-- none when out of memory
 abbrev pub fault_status : Option Fault → ℕ
 fault_status None = no_memory
 fault_status (Some fault) = level_status fault
@@ -116,7 +116,7 @@ abbrev pub spelled_status : Result Parts Fault → ℕ
 spelled_status (Ok level) = done
 spelled_status (Err fault) = level_status fault
 
--- want of memory, or what bytes come to as a level
+-- out of memory, or what bytes come to as a level
 abbrev pub IsLevelStatus : List ℕ → ℕ → Type 0
 IsLevelStatus bytes status = (status ≡ no_memory) ⊎ (status ≡ spelled_status (spelled bytes))
 
@@ -133,7 +133,7 @@ session_status (Err fault) script = level_status fault
 session_status (Ok level) (Err fault) = script_status fault
 session_status (Ok level) (Ok changes) = done
 
--- want of memory, or what bytes come to as a level and a script
+-- out of memory, or what bytes come to as a level and a script
 abbrev pub IsSessionStatus : (level script : List ℕ) → ℕ → Type 0
 IsSessionStatus level script status = (status ≡ no_memory) ⊎ (status ≡ session_status (spelled level) (script_of script))
 
@@ -165,6 +165,6 @@ load_status loads.Text = 64
 load_status loads.Level = 65
 load_status loads.World = 66
 
--- why a text is not loaded, but for want of memory
+-- why a text is not loaded, unless out of memory
 abbrev pub IsStateFault : ℕ → Type 0
 IsStateFault status = (status ≡ 64) ⊎ ((status ≡ 65) ⊎ (status ≡ 66))

@@ -5,7 +5,7 @@ ghost use Rattle.btworld_c.specs.Statuses.{done, closed, short, IsLookStatus};
 ghost use Rattle.btworld_c.specs.Agents.{answer_seen, agent_seen, agents_seen, AreAgents, AreTooManyAgents};
 
 use crate::game::{Agent, Game, put, take};
-use crate::reading::status_number;
+use crate::game_reading::status_number;
 use crate::status::{CLOSED, OK, SHORT};
 use std::alloc::Global;
 use stepping::Stepping;

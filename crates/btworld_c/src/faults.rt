@@ -2,15 +2,15 @@
 ghost use Rattle.std.specs.Prelude.{◌≡◌, ◌≢◌, ◌⊎◌, List, ℕ, IsOk, IfSome, IfNone};
 ghost use Rattle.level_text.specs.Levels.{spelled};
 ghost use Rattle.level_text.specs.Scripts.{script_of};
-ghost use Rattle.words.specs.declared.program_fault.Fault.TheVariants.{OutOfMemory};
+ghost use Rattle.command_line.specs.declared.program_fault.Fault.TheVariants.{OutOfMemory};
 ghost use Rattle.btworld_c.specs.Buffers.{IsFilled, IsShort};
 ghost use Rattle.btworld_c.specs.Statuses.{done, short, no_memory};
 
 use crate::buffer::fill;
 use crate::status::NO_MEMORY;
+use command_line::Fault;
 use level_text::{read_level, read_script};
 use std::alloc::Global;
-use words::Fault;
 
 // None where the bytes spell a level and a script.
 fn first_fault(alloc: Global, level: &[u8], script: &[u8]) -> Option<Fault>

@@ -95,7 +95,7 @@ pub(crate) fn step_held(alloc: Global, held: &mut Stepping, mask: u32) -> u32
 }
 
 /// The next frame, in which the signals are on whose bits are: bit 0 is `a`, and bits above 25 count nothing. A closed
-/// handle answers 2; 7 comes after 2^32 - 1 frames. Where the status is not 0 no frame is stepped: after want of memory some
+/// handle answers 2; 7 comes after 2^32 - 1 frames. Where the status is not 0 no frame is stepped: after running out of memory some
 /// signals may be turned for the next frame, which the next step turns as it wants.
 #[unsafe(no_mangle)]
 pub extern "C" fn btworld_step(alloc: Global, game: &mut Game, mask: u32) -> u32

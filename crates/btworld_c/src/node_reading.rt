@@ -5,7 +5,7 @@ ghost use Rattle.btworld_c.specs.Readings.{AreAnswers, AreAnswersTooLong, IsBeyo
 
 use crate::buffer::fill;
 use crate::game::{Game, read};
-use crate::reading::status_number;
+use crate::game_reading::status_number;
 use crate::status::{CLOSED, NO_AGENT, NO_MEMORY};
 use bt_nodes::Status;
 use std::alloc::{AllocError, Global};

@@ -2,9 +2,9 @@
 #![tactic(auto)]
 
 mod numbers;
-mod reading;
+mod read_whole;
 mod writing;
 
 pub use numbers::{push_hex, push_number};
-pub use reading::{ReadFault, read_whole};
+pub use read_whole::{ReadFault, read_whole};
 pub use writing::{WriteFault, write_whole};

@@ -9,14 +9,14 @@ use Rattle.game_session.specs.Parts.{Parts}
 use Rattle.game_session.specs.Faults.{Fault as LevelFault}
 use Rattle.level_text.specs.Games.{spelled_game}
 use Rattle.level_text.specs.Levels.{spelled}
-use Rattle.words.specs.declared.request.Words.{Words}
-use Rattle.words.specs.declared.request.Words.TheVariants.{Piped, Play, Replay, Check, Explain, Digest, State, Why, Complete, Record}
+use Rattle.command_line.specs.declared.request.Words.{Words}
+use Rattle.command_line.specs.declared.request.Words.TheVariants.{Piped, Play, Replay, Check, Explain, Digest, State, Why, Complete, Record}
 use Rattle.clap.specs.Words.{Row, Text}
-use Rattle.words.specs.Program.{IsReading, Enters, IsOptional, AsksToPlay, AsksToReplay, AsksToCheck, AsksToExplain, AsksToDigest, AsksForState, AsksWhy, AsksToComplete, AsksToRecord}
-use Rattle.words.proofs.Asked.{read_as_play, read_as_replay, read_as_check, read_as_explain, read_as_digest, read_as_state, read_as_why, read_as_complete, read_as_record}
-use Rattle.words.specs.declared.program_fault.Fault.{Fault}
-use Rattle.words.specs.Faults.{status_in}
-use Rattle.words.proofs.Statuses.{ok_at_zero}
+use Rattle.command_line.specs.Program.{IsReading, Enters, IsOptional, AsksToPlay, AsksToReplay, AsksToCheck, AsksToExplain, AsksToDigest, AsksForState, AsksWhy, AsksToComplete, AsksToRecord}
+use Rattle.command_line.proofs.Asked.{read_as_play, read_as_replay, read_as_check, read_as_explain, read_as_digest, read_as_state, read_as_why, read_as_complete, read_as_record}
+use Rattle.command_line.specs.declared.program_fault.Fault.{Fault}
+use Rattle.command_line.specs.Faults.{status_in}
+use Rattle.command_line.proofs.Statuses.{ok_at_zero}
 use Rattle.commands.specs.Texts.{check_line, digests_text}
 use Rattle.commands.specs.Why.{why_text, agent_of_letter}
 use Rattle.commands.specs.Written.{WritesSome, WritesPart, CompletesSome, CompletesSomePart, IsScriptOf, path_of}

@@ -13,8 +13,8 @@ use Rattle.level_text.specs.Games.{spelled_game}
 use Rattle.play_run.specs.Plays as plays
 use Rattle.run_shared.specs.Printed.{WrotePart}
 use Rattle.play_run.specs.declared.report.RunReport.{RunReport}
-use Rattle.play_run.specs.declared.fault.PlayFault.{PlayFault}
-use Rattle.play_run.specs.declared.fault.PlayFault.TheVariants.{Level, Script, Run}
+use Rattle.play_run.specs.declared.play_fault.PlayFault.{PlayFault}
+use Rattle.play_run.specs.declared.play_fault.PlayFault.TheVariants.{Level, Script, Run}
 use Rattle.commands.specs.Faults.{IsPlayFault}
 
 pub whole_text : (old new : Option (List ℕ)) (game : Option Game) (n : Numbers) (r : RunReport) → IsSomeAnd game (λ g. plays.IsPlayed old new g n r)

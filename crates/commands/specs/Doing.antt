@@ -6,10 +6,10 @@ use Rattle.byte_streams.specs.Streams.{AppendsPart}
 use Rattle.game_rules.specs.Text.{texts}
 use Rattle.level_text.specs.Games.{spelled_game}
 use Rattle.level_text.specs.Levels.{spelled}
-use Rattle.words.specs.Program.{IsReading, IsNoHelp, IsAskedFor, program}
-use Rattle.words.specs.declared.fault.WordsFault.{WordsFault}
-use Rattle.words.specs.declared.request.Words.{Words}
-use Rattle.words.specs.declared.request.Words.TheVariants.{Piped, Play, Replay, Check, Explain, Digest, State, Why, Complete, Record}
+use Rattle.command_line.specs.Program.{IsReading, IsNoHelp, IsAskedFor, program}
+use Rattle.command_line.specs.declared.words_fault.WordsFault.{WordsFault}
+use Rattle.command_line.specs.declared.request.Words.{Words}
+use Rattle.command_line.specs.declared.request.Words.TheVariants.{Piped, Play, Replay, Check, Explain, Digest, State, Why, Complete, Record}
 use Rattle.commands.specs.Texts.{check_line, digests_text}
 use Rattle.commands.specs.Why.{why_text, agent_of_letter}
 use Rattle.commands.specs.Written.{WritesSome, WritesPart, CompletesSome, CompletesSomePart, path_of}

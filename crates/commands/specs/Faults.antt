@@ -4,12 +4,12 @@ use Rattle.level_text.specs.Games.{spelled_game}
 use Rattle.level_text.specs.Levels.{spelled, IsFaultOf}
 use Rattle.run_shared.specs.declared.fault.Cause.{Cause}
 use Rattle.run_shared.specs.declared.fault.Cause.TheVariants as causes
-use Rattle.play_run.specs.declared.fault.PlayFault.{PlayFault}
-use Rattle.play_run.specs.declared.fault.PlayFault.TheVariants.{Level, Script, Run}
-use Rattle.words.specs.declared.program_fault.Fault.{Fault}
-use Rattle.words.specs.declared.program_fault.Fault.TheVariants.{Write, Spawn, GateClosed, Stranger, OutOfMemory}
-use Rattle.words.specs.Faults.{IsOfLevel, IsOfScript}
-use Rattle.words.specs.Sessions.{IsLevelFault, IsFirstOfScript}
+use Rattle.play_run.specs.declared.play_fault.PlayFault.{PlayFault}
+use Rattle.play_run.specs.declared.play_fault.PlayFault.TheVariants.{Level, Script, Run}
+use Rattle.command_line.specs.declared.program_fault.Fault.{Fault}
+use Rattle.command_line.specs.declared.program_fault.Fault.TheVariants.{Write, Spawn, GateClosed, Stranger, OutOfMemory}
+use Rattle.command_line.specs.Faults.{IsOfLevel, IsOfScript}
+use Rattle.command_line.specs.Sessions.{IsLevelFault, IsFirstOfScript}
 
 abbrev pub IsOfCause : Cause → Fault → Type 0
 IsOfCause causes.OutOfMemory fault = fault ≡ OutOfMemory
@@ -28,6 +28,6 @@ IsPlayFault level script (Level f) = IsFaultOf (spelled level) f
 IsPlayFault level script (Script f) = IsFirstOfScript level script f
 IsPlayFault level script (Run f) = IsSome (spelled_game level script)
 
--- the level's fault, or a write that failed, or want of memory
+-- the level's fault, or a write that failed, or out of memory
 abbrev pub IsCheckFault : List ℕ → Fault → Type 0
 IsCheckFault level fault = IsLevelFault level fault ⊎ (IsOk (spelled level) × ((fault ≡ Write) ⊎ (fault ≡ OutOfMemory)))

@@ -6,9 +6,9 @@ use Rattle.level_text.specs.Arguments.{mark_of}
 use Rattle.level_text.specs.Games.{spelled_game}
 use Rattle.stepping.specs.Played.{statuses_at}
 use Rattle.tick_text.specs.Text.{tick_text}
-use Rattle.words.specs.declared.program_fault.Fault.{Fault}
-use Rattle.words.specs.declared.program_fault.Fault.TheVariants.{NoSuchAgent, OutOfMemory}
-use Rattle.words.specs.Sessions.{IsSessionFault}
+use Rattle.command_line.specs.declared.program_fault.Fault.{Fault}
+use Rattle.command_line.specs.declared.program_fault.Fault.TheVariants.{NoSuchAgent, OutOfMemory}
+use Rattle.command_line.specs.Sessions.{IsSessionFault}
 
 -- what is told of the agent's tick in the frame; there is none in frame 0
 abbrev pub why_text : Game → ℕ → ℕ → List ℕ
@@ -24,7 +24,7 @@ agent_of_letter letter = unwrap_or (mark_of 65 90 letter) 26
 abbrev pub HasAgent : ℕ → Game → Type 0
 HasAgent a g = a < length g.trees
 
--- a fault of level or script, want of memory, or no agent of the game has the letter
+-- a fault of level or script, out of memory, or no agent of the game has the letter
 abbrev pub IsUntold : (level script letter : List ℕ) → Fault → Type 0
 IsUntold level script letter fault =
     IsSessionFault level script fault

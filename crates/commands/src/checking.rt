@@ -8,12 +8,12 @@ ghost use Rattle.commands.specs.Faults.{IsCheckFault};
 ghost use Rattle.commands.specs.Texts.{check_line};
 
 use byte_streams::push_number;
+use command_line::{Fault, put, read_file};
 use game_session::Level;
 use level_text::read_level;
 use std::alloc::{AllocError, Global};
 use std::io::Write;
 use std::rt::Files;
-use words::{Fault, put, read_file};
 
 // The line that tells of a level.
 fn check_line(alloc: Global, level: &Level) -> Result<Vec<u8>, AllocError>

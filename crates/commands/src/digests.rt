@@ -7,16 +7,16 @@ ghost use Rattle.commands.specs.Texts.{digest_line, digest_lines, digests_head, 
 ghost use Rattle.commands.specs.Written.{WritesSome, WritesPart, path_of};
 ghost use Rattle.game_rules.specs.Game.{Game};
 ghost use Rattle.level_text.specs.Games.{spelled_game};
-ghost use Rattle.words.specs.Sessions.{IsSessionFault};
+ghost use Rattle.command_line.specs.Sessions.{IsSessionFault};
 
 use crate::named_line::push_named_line;
 use crate::opening::{open, step};
 use byte_streams::{push_hex, push_number};
+use command_line::{Fault, put, read_file, read_optional_file};
 use std::alloc::{AllocError, Global};
 use std::io::Write;
 use std::rt::Files;
 use stepping::Stepping;
-use words::{Fault, put, read_file, read_optional_file};
 
 fn push_head(text: &mut Vec<u8>, level: u64, script: u64) -> Result<(), AllocError>
     ensures { OnOk result (text.new.items ≡ text.old.items ++ digests_head level script) }
@@ -65,7 +65,7 @@ fn digests(alloc: Global, level: &[u8], script: &[u8], frames: u32) -> Result<Ve
 #[tactic(auto, using(crate::proofs::Compared::appended, crate::proofs::Compared::appended_part, crate::proofs::Compared::untouched))]
 /// Prints the digests of the level and the script that the bytes spell, and then that of the state after each frame of their
 /// game, as `btworld_digest` has it for a caller who hands in the script's signals. The level is read before the script; a
-/// fault of either, and want of memory, come before anything is written.
+/// fault of either, and out of memory, come before anything is written.
 pub fn digest_bytes<W: Write>(
     alloc: Global,
     level: &[u8],

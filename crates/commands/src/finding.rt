@@ -3,9 +3,9 @@ ghost use Rattle.std.specs.Prelude.{◌≡◌, ◌⊎◌, ◌++◌, List, ℕ, O
 ghost use Rattle.commands.specs.Explaining.{IsTold};
 
 use byte_streams::push_number;
+use command_line::Fault;
 use fault_reasons::{EventReason, Reason, push_reason};
 use std::alloc::{AllocError, Global};
-use words::Fault;
 
 /// A file, by the name that its places begin with.
 #[derive(Clone, Copy)]
@@ -14,7 +14,7 @@ pub struct NamedBytes<'f> {
     pub bytes: &'f [u8],
 }
 
-/// A fault, and what is told of it, which is empty for want of memory.
+/// A fault, and what is told of it, which is empty when out of memory.
 #[derive(Drop)]
 pub(crate) struct Finding {
     pub(crate) fault: Fault,

@@ -1,8 +1,8 @@
 // What a person at a terminal is told beside the line of a refused file.
+use command_line::{Words, read_words, refuse_optional_overwriting};
 use std::alloc::Global;
 use std::io::Write;
 use std::rt::Files;
-use words::{Words, read_words, refuse_optional_overwriting};
 
 fn say<E: Write>(err: &mut E, level: &String, script: &Option<String>) {
     let _ = match script {

@@ -22,6 +22,7 @@ mod states;
 mod why;
 
 pub use checking::check_bytes;
+pub use command_line::{Fault, Words, WordsFault, read_words, refuse_unread_words, words_given};
 pub use completing::complete_bytes;
 pub use digests::digest_bytes;
 pub use explaining::explain_bytes;
@@ -35,4 +36,3 @@ pub use recording::record_session;
 pub use replaying::replay_bytes;
 pub use states::state_bytes;
 pub use why::why_bytes;
-pub use words::{Fault, Words, WordsFault, read_words, refuse_unread_words, words_given};

@@ -4,12 +4,12 @@ ghost use Rattle.commands.specs.Opening.{IsSteppedTo};
 ghost use Rattle.game_rules.specs.Game.{Game};
 ghost use Rattle.level_text.specs.Games.{spelled_game};
 ghost use Rattle.stepping.specs.LevelDigest.{level_digest_of, script_digest_of};
-ghost use Rattle.words.specs.Sessions.{IsSessionFault};
+ghost use Rattle.command_line.specs.Sessions.{IsSessionFault};
 
+use command_line::Fault;
 use level_text::{read_level, read_script};
 use std::alloc::Global;
 use stepping::{Stepping, level_digest, script_digest, step_by_script};
-use words::Fault;
 
 /// A game before its first frame, and the digests of its level and its script.
 #[derive(Drop)]

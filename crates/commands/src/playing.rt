@@ -9,11 +9,12 @@ ghost use Rattle.commands.specs.Faults.{IsPlayFault};
 ghost use Rattle.job_core.specs.Core.{IsComplete};
 ghost use Rattle.level_text.specs.Games.{spelled_game};
 ghost use Rattle.task_board.specs.Setups.{setup_for};
-ghost use Rattle.words.specs.Faults.{status_of};
+ghost use Rattle.command_line.specs.Faults.{status_of};
 
 use crate::few_frames::few_frames;
 use crate::run_fault::play_fault;
 use byte_streams::{ReadFault, read_whole};
+use command_line::{Fault, read_file, read_optional_file, refuse_optional_overwriting, write_file};
 use job_core::names::Event;
 use job_scheduler::Settings;
 use log_text::write_log;
@@ -24,7 +25,6 @@ use std::rt::Files;
 use std::sync::Wait;
 use std::thread::Threads;
 use std::time::Clock;
-use words::{Fault, read_file, read_optional_file, refuse_optional_overwriting, write_file};
 
 /// Writes the frames of the game that the level's and the script's bytes spell, and gives the events of the run.
 ///

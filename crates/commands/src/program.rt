@@ -9,7 +9,7 @@ ghost use Rattle.commands.specs.Texts.{digests_text};
 ghost use Rattle.commands.specs.Why.{why_text, agent_of_letter};
 ghost use Rattle.commands.specs.Written.{WritesSome, WritesPart, CompletesSome, CompletesSomePart};
 ghost use Rattle.stepping.specs.StateText.{scripted_state_text};
-ghost use Rattle.words.specs.Program.{AsksToPlay, AsksToReplay, AsksToCheck, AsksToExplain, AsksToDigest, AsksForState, AsksWhy, AsksToComplete, AsksToRecord};
+ghost use Rattle.command_line.specs.Program.{AsksToPlay, AsksToReplay, AsksToCheck, AsksToExplain, AsksToDigest, AsksForState, AsksWhy, AsksToComplete, AsksToRecord};
 
 use crate::checking::check_file;
 use crate::completing::complete_files;
@@ -20,13 +20,13 @@ use crate::recording::record_files;
 use crate::replaying::replay_files;
 use crate::states::state_files;
 use crate::why::why_files;
+use command_line::{Fault, Words, end_with, read_words, refuse_words};
 use std::alloc::Global;
 use std::io::{Read, Write};
 use std::rt::Files;
 use std::sync::Wait;
 use std::thread::Threads;
 use std::time::Clock;
-use words::{Fault, Words, end_with, read_words, refuse_words};
 
 /// Does what words ask for that name a level's file, but for a reason.
 fn act_on_files<H: Files + Threads + Wait + Clock + Sync, W: Write>(
@@ -111,7 +111,7 @@ fn act<H: Files + Threads + Wait + Clock + Sync, W: Write, E: Write>(
 }
 
 /// Does what the words after the program's name ask for, and gives the status with which the program ends: 0 done,
-/// 1 a file or a write failed, 2 refused words, level, script or log, 3 want of memory or the run failed otherwise. A
+/// 1 a file or a write failed, 2 refused words, level, script or log, 3 out of memory or the run failed otherwise. A
 /// fault is one line on `err`.
 ///
 /// No words: the level comes from `input`, and three of its frames are written to `out`. Of words that name files the

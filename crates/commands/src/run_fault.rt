@@ -1,8 +1,8 @@
 // What is said of a run that failed.
 ghost use Rattle.commands.specs.Faults.{IsOfCause, IsOfPlay};
 
+use command_line::Fault;
 use play_run::{Cause, PlayFault};
-use words::Fault;
 
 /// The fault of a run by its cause.
 pub(crate) fn cause_fault(cause: Cause) -> Fault

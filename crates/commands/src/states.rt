@@ -5,13 +5,13 @@ ghost use Rattle.byte_streams.specs.Streams.{AppendsPart};
 ghost use Rattle.commands.specs.Written.{WritesSome, WritesPart, path_of};
 ghost use Rattle.level_text.specs.Games.{spelled_game};
 ghost use Rattle.stepping.specs.StateText.{scripted_state_text};
-ghost use Rattle.words.specs.Sessions.{IsSessionFault};
+ghost use Rattle.command_line.specs.Sessions.{IsSessionFault};
 
 use crate::opening::{open, step_all};
+use command_line::{Fault, put, read_file, read_optional_file};
 use std::alloc::Global;
 use std::io::Write;
 use std::rt::Files;
-use words::{Fault, put, read_file, read_optional_file};
 
 fn state(alloc: Global, level: &[u8], script: &[u8], frame: u32) -> Result<Vec<u8>, Fault>
     ensures ok { IfOk result (λ text. IsSomeAnd (spelled_game level.now script.now) (λ g. text.items ≡ scripted_state_text g frame)) }

@@ -7,12 +7,12 @@ ghost use Rattle.commands.specs.Written.{WritesSome, WritesPart, path_of};
 ghost use Rattle.level_text.specs.Games.{spelled_game};
 
 use crate::opening::{open, step_all};
+use command_line::{Fault, put, read_file, read_optional_file};
 use level_text::mark_in;
 use std::alloc::Global;
 use std::io::Write;
 use std::rt::Files;
 use tick_text::next_tick_text;
-use words::{Fault, put, read_file, read_optional_file};
 
 fn why(
     alloc: Global,

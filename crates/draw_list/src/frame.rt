@@ -5,7 +5,7 @@ ghost use Rattle.draw_list.specs.Bands.{bands_of, gap_of};
 
 use crate::band::Band;
 use crate::draw::draw_bands;
-use crate::fault::DrawFault;
+use crate::draw_fault::DrawFault;
 use crate::gap::first_gap;
 use crate::lines::{push_agent_lines, push_frame_line, push_rows};
 use bt_nodes::Status;

@@ -3,7 +3,7 @@
 
 mod band;
 mod draw;
-mod fault;
+mod draw_fault;
 mod frame;
 mod gap;
 mod item;
@@ -11,7 +11,7 @@ mod lines;
 
 pub use band::{BAND_ROWS, Band, Rows};
 pub use draw::draw_band;
-pub use fault::DrawFault;
+pub use draw_fault::DrawFault;
 pub use frame::{draw_frame, frame_text};
 pub use gap::band_count;
 pub use item::DrawItem;

@@ -28,7 +28,7 @@ reason_text r = decimal r.line ++ column_text r.column ++ pointer_text (string_b
 
 -- ---- of which fault
 
--- a level's is of a value in it, or of a byte; want of memory has none
+-- a level's is of a value in it, or of a byte; out of memory has none
 abbrev pub IsOfLevel : LevelFault → Reason → Type 0
 IsOfLevel fault reason = IsSome (fault_view fault) × IsSome reason.column
 

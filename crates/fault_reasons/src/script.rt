@@ -40,7 +40,7 @@ fn reason_at(alloc: Global, n: u64, words: String) -> Reason
 }
 
 /// In which line of a script's bytes the fault lies for which `read_script` refuses them, and why it is one; refused where that is
-/// want of memory.
+/// out of memory.
 pub fn script_reason(alloc: Global, bytes: &[u8], fault: ScriptFault) -> Result<Reason, AllocError>
     ensures { IfOk result (IsOfScript fault) }
 {

@@ -1,4 +1,4 @@
-pub mod Boarding
+pub mod BoardEvents
 pub mod Going
 pub mod Refusing
 pub mod Taking

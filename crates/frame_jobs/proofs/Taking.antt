@@ -11,14 +11,14 @@ use Rattle.board_model.proofs.Priorities.{new_is_first, ready_is_first, resume_i
 use Rattle.job_scheduler.specs.Logged.{Logged, setup_of, kept}
 use Rattle.job_scheduler.specs.Looks.{Always, IsGivenTo}
 use Rattle.job_scheduler.specs.declared.next.Next.TheVariants as next
-use Rattle.job_queues.specs.declared.place.Place.{Place}
+use Rattle.job_queues.specs.declared.queue_index.QueueIndex.{QueueIndex}
 use Rattle.frame_jobs.specs.Boards.{FrameBoard, SomebodyStarts, NobodyStarts}
 
 module _ (v : Logged) (some : 0 < v.numbers.slots) where
   pub new_first : (j : JobName) → ((q : ℕ → ℕ → ℕ) → IsLegalList (setup_of v q) v.events → Some (New j) ≡ given (kept v q)) → Always v (λ s st. GoesFirst s st j)
   new_first j picked q l = (new_is_first (setup_of v q) v.events j some l (sym (picked q l))).1
 
-  pub ready_first : (w fiber : ℕ) (held : Held) (place : Place) → Always v (IsGivenTo w (Ok (Some (next.Resume fiber held place))))
+  pub ready_first : (w fiber : ℕ) (held : Held) (place : QueueIndex) → Always v (IsGivenTo w (Ok (Some (next.Resume fiber held place))))
       → ((q : ℕ → ℕ → ℕ) → IsLegalList (setup_of v q) v.events → Some (Ready fiber) ≡ given (kept v q))
       → ((q : ℕ → ℕ → ℕ) → IsLegalList (setup_of v q) v.events → first_place (holds held.job) (kept v q).seats.jobs ≡ fiber)
       → Always v (λ s st. GoesFirst s st held.job)

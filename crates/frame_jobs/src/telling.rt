@@ -91,7 +91,7 @@ impl FrameJobs {
         ensures refused { IfErr result (IsShowRefused self.old) }
         ensures unchanged { OnErr result (self.new ≡ self.old) }
     {
-        let frame = self.jobs.to_show()?;
+        let frame = self.jobs.to_emit()?;
         let Ok(()) = self.jobs.emit(frame) else {
             return Err(BoardFault::OutOfMemory);
         };

@@ -10,7 +10,7 @@ use Rattle.grid_world.proofs.cell.Intent.TheSendSync.{the_send as intent_send, t
 use Rattle.grid_world.proofs.place.Place.TheSendSync.{the_send as place_send, the_sync as place_sync}
 use Rattle.bt_tick.proofs.memory.Memory.TheSendSync.{the_send as memory_send, the_sync as memory_sync}
 use Rattle.frame_state.proofs.kept_memory.KeptMemory.TheSendSync.{the_send as kept_send, the_sync as kept_sync}
-use Rattle.frame_parts.proofs.kept_distances.KeptDistances.TheSendSync.{the_send as kept_distances_send}
+use Rattle.frame_parts.proofs.distance_field.DistanceField.TheSendSync.{the_send as kept_distances_send}
 use Rattle.frame_state.proofs.Crossing.{session, frame_start_send, frame_start_sync, way, thought, turn, band_out, band_mark, draw_task, logic_task}
 use Rattle.std.specs.contracts.alloc.Global as Global
 use Rattle.std_heap.specs.contracts.GlobalAllocator.TheImpl.{ghosts}

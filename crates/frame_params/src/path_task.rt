@@ -4,7 +4,7 @@ ghost use Rattle.frame_state.specs.Contents.{signals_in, way_in};
 ghost use Rattle.frame_parts.specs.Distances.{IsUnderIf};
 
 use crate::parked::{Parked, ParkedTick};
-use frame_state::{FrameParams, FrameStart, KeptDistances, Way};
+use frame_state::{DistanceField, FrameParams, FrameStart, Way};
 use grid_world::{Answer, Place};
 use job_core::names::JobName;
 use std::alloc::{AllocError, Allocator, Global};
@@ -19,7 +19,7 @@ pub struct PathTask<'t> {
     question: u32,
     place: Place,
     // The distances to the place, where a search of the frame found them.
-    found: Option<KeptDistances>,
+    found: Option<DistanceField>,
 }
 
 impl<'t> Model for PathTask<'t> {
@@ -116,7 +116,7 @@ impl<'t> PathTask<'t> {
         &self,
         alloc: Global,
         scratch: A,
-    ) -> Result<(Answer, Option<KeptDistances>), AllocError>
+    ) -> Result<(Answer, Option<DistanceField>), AllocError>
         ensures way { IfOk result (λ parts. parts.0 ≡ way_in self.now.game self.now.frame self.now.agent self.now.question) }
         ensures found { IfOk result (λ parts. IsUnderIf self.now.game.world (signals_in self.now.game self.now.frame) parts.1) }
     {

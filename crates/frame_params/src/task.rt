@@ -54,7 +54,7 @@ impl<'t> Task<'t> {
         }
     }
 
-    /// Does the work. The only fault is want of memory; the task is as it was, and may be worked again.
+    /// Does the work. The only fault is out of memory; the task is as it was, and may be worked again.
     pub fn work(&self, alloc: Global) -> Result<Step<'t>, AllocError>
         ensures step { IfOk result (λ step. IsStepOf self.now step) }
         ensures begins { IsBeginning self.now → IsOk result }

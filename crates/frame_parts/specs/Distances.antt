@@ -12,14 +12,14 @@ pub record DistancesOf : Type 0 where
   pub place : ℕ
 
 -- those to some places
-pub record KnownOf : Type 0 where
+pub record DistanceCacheOf : Type 0 where
   pub ground : Grid
   pub signals : List Bool
 
 abbrev pub distances_of : Grid → List Bool → ℕ → DistancesOf
 distances_of g on place = record { ground = g; signals = on; place = place }
 
-abbrev pub known_of : Grid → List Bool → KnownOf
+abbrev pub known_of : Grid → List Bool → DistanceCacheOf
 known_of g on = record { ground = g; signals = on }
 
 -- each of these is on the ground and under the signals
@@ -53,6 +53,6 @@ distances_code =
     code_by (Grid × (List Bool × ℕ)) (coded× ground_code (coded× (coded_list coded_bool) coded_ℕ)) (λ d. (d.ground, (d.signals, d.place)))
     (λ p. record { ground = p.0; signals = p.1.0; place = p.1.1 }) (λ _. refl)
 
-abbrev pub known_code : Coded KnownOf
-known_code =
+abbrev pub distance_cache_code : Coded DistanceCacheOf
+distance_cache_code =
     code_by (Grid × List Bool) (coded× ground_code (coded_list coded_bool)) (λ k. (k.ground, k.signals)) (λ p. record { ground = p.0; signals = p.1 }) (λ _. refl)

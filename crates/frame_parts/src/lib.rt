@@ -3,14 +3,14 @@
 //! it, and so does a game that is stepped.
 #![tactic(auto)]
 
-mod kept_distances;
-mod known;
+mod distance_cache;
+mod distance_field;
 mod memories;
 mod ticking;
 mod turning;
 
-pub use kept_distances::KeptDistances;
-pub use known::{Known, shared, to_place};
+pub use distance_cache::{DistanceCache, shared, to_place};
+pub use distance_field::DistanceField;
 pub use memories::zero_memories;
 pub use ticking::{begun, cell_on, gone_on};
 pub use turning::{resolve_in_place, resolved};

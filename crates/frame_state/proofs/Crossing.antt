@@ -11,8 +11,8 @@ use Rattle.grid_world.proofs.signal.Signals.TheSendSync.{the_send as signals_sen
 use Rattle.game_session.proofs.script.Script.TheSendSync.{the_send as script_send, the_sync as script_sync}
 use Rattle.bt_tick.proofs.memory.Memory.TheSendSync.{the_send as memory_send, the_sync as memory_sync}
 use Rattle.frame_state.proofs.kept_memory.KeptMemory.TheSendSync.{the_send as kept_send, the_sync as kept_sync}
-use Rattle.frame_parts.proofs.kept_distances.KeptDistances.TheSendSync.{the_send as kept_distances_send, the_sync as kept_distances_sync}
-use Rattle.frame_parts.proofs.known.Known.TheSendSync.{the_send as known_send, the_sync as known_sync}
+use Rattle.frame_parts.proofs.distance_field.DistanceField.TheSendSync.{the_send as kept_distances_send, the_sync as kept_distances_sync}
+use Rattle.frame_parts.proofs.distance_cache.DistanceCache.TheSendSync.{the_send as known_send, the_sync as known_sync}
 use Rattle.game_session.specs.contracts.session.Session as Session
 use Rattle.frame_state.specs.contracts.frame_start.FrameStart as FrameStart
 use Rattle.frame_state.specs.contracts.gathering.Gathering as Gathering

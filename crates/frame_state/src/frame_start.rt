@@ -7,7 +7,7 @@ ghost use Rattle.frame_state.specs.Contents.{signals_in, world_after, memory_bef
 use crate::kept_memory::KeptMemory;
 use crate::turn::Turn;
 use bt_tick::Memory;
-use frame_parts::{KeptDistances, Known, cell_on, zero_memories};
+use frame_parts::{DistanceCache, DistanceField, cell_on, zero_memories};
 use game_session::Session;
 use grid_world::{Answer, Place, Signals, World};
 use std::alloc::{AllocError, Allocator, Global};
@@ -23,7 +23,7 @@ pub struct FrameStart<'t> {
     world: Arc<World>,
     memories: Arc<Vec<KeptMemory>>,
     // What was found under these signals before the frame.
-    known: Known,
+    known: DistanceCache,
 }
 
 impl<'t> Drop for FrameStart<'t> {
@@ -81,7 +81,7 @@ impl<'t> FrameStart<'t> {
             session,
             frame: 1,
             signals,
-            known: Known::none(alloc, Arc::try_clone(&world)?, signals)?,
+            known: DistanceCache::none(alloc, Arc::try_clone(&world)?, signals)?,
             world,
             memories: Arc::new(alloc, memories)?,
         })
@@ -146,14 +146,14 @@ impl<'t> FrameStart<'t> {
     }
 
     // The distances that were found under these signals before the frame.
-    pub(crate) fn known(&self) -> &Known
+    pub(crate) fn known(&self) -> &DistanceCache
         ensures { result.now ≡ known_of self.now.game.world (signals_in self.now.game self.now.frame) }
     {
         &self.known
     }
 
     /// An agent's way to the place of these distances.
-    pub fn way_by(&self, distances: &KeptDistances, place: Place, agent: u32) -> Answer
+    pub fn way_by(&self, distances: &DistanceField, place: Place, agent: u32) -> Answer
         requires there { agent < length self.now.game.trees }
         requires place { IsGivenIf self.now.game.world (signals_in self.now.game self.now.frame) place (Some distances.now) }
         ensures { result ≡ way_to_in self.now.game self.now.frame agent place }
@@ -170,7 +170,7 @@ impl<'t> FrameStart<'t> {
         scratch: A,
         place: Place,
         agent: u32,
-    ) -> Result<(Answer, Option<KeptDistances>), AllocError>
+    ) -> Result<(Answer, Option<DistanceField>), AllocError>
         requires { agent < length self.now.game.trees }
         ensures way { IfOk result (λ parts. parts.0 ≡ way_to_in self.now.game self.now.frame agent place) }
         ensures found { IfOk result (λ parts. IsUnderIf self.now.game.world (signals_in self.now.game self.now.frame) parts.1) }

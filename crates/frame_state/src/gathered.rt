@@ -10,7 +10,7 @@ use crate::kept_memory::KeptMemory;
 use crate::thought::Thought;
 use crate::turn::{Turn, Turned};
 use bt_nodes::Status;
-use frame_parts::{KeptDistances, resolved, shared};
+use frame_parts::{DistanceField, resolved, shared};
 use grid_world::Intent;
 use std::alloc::{AllocError, Global};
 use std::marker::Model;
@@ -24,7 +24,7 @@ pub(crate) struct Gathered<'t> {
     statuses: Arc<Vec<Status>>,
     memories: Arc<Vec<KeptMemory>>,
     // The distances that were found in the frame.
-    found: Vec<KeptDistances>,
+    found: Vec<DistanceField>,
 }
 
 impl<'t> Model for Gathered<'t> {
@@ -81,7 +81,7 @@ impl<'t> Gathered<'t> {
         alloc: Global,
         start: &Arc<FrameStart<'t>>,
         thoughts: &[Thought<'t>],
-        found: &[KeptDistances],
+        found: &[DistanceField],
     ) -> Result<Gathered<'t>, AllocError>
         requires thoughts { AreOfAllAgents (arc_value start.now) thoughts.now }
         requires found { AllUnder (arc_value start.now).game.world (signals_in (arc_value start.now).game (arc_value start.now).frame) found.now }

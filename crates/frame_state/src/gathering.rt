@@ -1,14 +1,14 @@
 ghost use Rattle.std.specs.Prelude.{◌≡◌, ◌≤◌, [], IfOk, box_value, vec_capacity};
 
 use crate::thought::Thought;
-use frame_parts::KeptDistances;
+use frame_parts::DistanceField;
 use std::alloc::{AllocError, Global};
 
 /// What is gathered in a frame for its logic: the thoughts of its agents, by agent number, and the distances that were found.
 #[derive(Drop)]
 pub struct Gathering<'t> {
     pub thoughts: Vec<Thought<'t>>,
-    pub found: Vec<KeptDistances>,
+    pub found: Vec<DistanceField>,
 }
 
 impl<'t> Gathering<'t> {

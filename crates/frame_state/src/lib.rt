@@ -24,7 +24,7 @@ mod way;
 pub use band_mark::BandMark;
 pub use band_out::BandOut;
 pub use draw_task::DrawTask;
-pub use frame_parts::KeptDistances;
+pub use frame_parts::DistanceField;
 pub use frame_start::FrameStart;
 pub use gathering::Gathering;
 pub use kept_memory::KeptMemory;

@@ -6,7 +6,7 @@ ghost use Rattle.frame_parts.specs.Distances.{IsGivenIf, IsUnder, AllUnder};
 use crate::frame_start::FrameStart;
 use crate::turn::Turn;
 use crate::way::Way;
-use frame_parts::{KeptDistances, shared, to_place};
+use frame_parts::{DistanceField, shared, to_place};
 use game_session::Session;
 use grid_world::Place;
 use std::alloc::{AllocError, Global};
@@ -21,7 +21,7 @@ const PLACES: usize = 10;
 struct Params<'t> {
     start: Arc<FrameStart<'t>>,
     // To a place once at most; there is room for those to all places.
-    found: Vec<KeptDistances>,
+    found: Vec<DistanceField>,
 }
 
 impl<'t> Model for Params<'t> {
@@ -74,21 +74,21 @@ impl<'t> Params<'t> {
     }
 
     // The distances that were found in the frame, by the one that was found first.
-    fn found(&self) -> &[KeptDistances]
+    fn found(&self) -> &[DistanceField]
         ensures { AllUnder self.now.game.world (signals_in self.now.game self.now.frame) result.now }
     {
         &self.found
     }
 
     // Those to a place, where they were found.
-    fn to(&self, place: Place) -> Option<&KeptDistances>
+    fn to(&self, place: Place) -> Option<&DistanceField>
         ensures { IfSome result (λ d. d.now ≡ distances_of self.now.game.world (signals_in self.now.game self.now.frame) place) }
     {
         to_place(&self.found, self.start.signals(), place)
     }
 
     // Keeps these, where none to their place are kept.
-    fn learn(&mut self, found: KeptDistances)
+    fn learn(&mut self, found: DistanceField)
         requires { IsUnder self.old.game.world (signals_in self.old.game self.old.frame) found }
         ensures { self.new ≡ self.old }
     {
@@ -167,7 +167,7 @@ impl<'t> FrameParams<'t> {
     }
 
     /// The distances that were found in the frame, once more; nothing is copied.
-    pub fn found(&self, alloc: Global) -> Result<Vec<KeptDistances>, AllocError>
+    pub fn found(&self, alloc: Global) -> Result<Vec<DistanceField>, AllocError>
         ensures { IfOk result (λ found. AllUnder self.now.game.world (signals_in self.now.game self.now.frame) found.items) }
     {
         Ok(shared(alloc, self.params.found())?)
@@ -175,7 +175,7 @@ impl<'t> FrameParams<'t> {
 
     /// The distances to a place that a search of the frame found once more, where one did by now; nothing is copied. They
     /// save a search and change no way, so the contract lets None come always.
-    pub fn known_to(&self, place: Place) -> Result<Option<KeptDistances>, AllocError>
+    pub fn known_to(&self, place: Place) -> Result<Option<DistanceField>, AllocError>
         ensures { IfOk result (IsGivenIf self.now.game.world (signals_in self.now.game self.now.frame) place) }
     {
         match self.params.to(place) {

@@ -6,7 +6,7 @@ use crate::next_frame::NextFrame;
 use crate::turned_world::TurnedWorld;
 use bt_nodes::Status;
 use draw_list::band_count;
-use frame_parts::Known;
+use frame_parts::DistanceCache;
 use game_session::Session;
 use grid_world::World;
 use job_core::names::JobName;
@@ -24,7 +24,7 @@ pub(crate) struct Turned<'t> {
     pub(crate) memories: Arc<Vec<KeptMemory>>,
     pub(crate) statuses: Arc<Vec<Status>>,
     // What was found under the signals of the frame.
-    pub(crate) known: Known,
+    pub(crate) known: DistanceCache,
     // Made with the turn, so that whoever keeps the turn makes nothing.
     pub(crate) next: Option<NextFrame<'t>>,
 }

@@ -3,7 +3,7 @@ ghost use Rattle.frame_state.specs.Contents.{signals_in, way_in};
 ghost use Rattle.frame_parts.specs.Distances.{IsUnderIf};
 ghost use Rattle.frame_state.specs.Thoughts.{IsWayOf};
 
-use frame_parts::KeptDistances;
+use frame_parts::DistanceField;
 use game_session::Session;
 use grid_world::Answer;
 use job_core::names::JobName;
@@ -18,7 +18,7 @@ pub struct Way<'t> {
     question: u32,
     answer: Answer,
     // The distances that its search found; they are under the signals of the frame.
-    found: Option<KeptDistances>,
+    found: Option<DistanceField>,
 }
 
 impl<'t> Model for Way<'t> {
@@ -46,7 +46,7 @@ impl<'t> Way<'t> {
         agent: u32,
         question: u32,
         answer: Answer,
-        found: Option<KeptDistances>,
+        found: Option<DistanceField>,
     ) -> Way<'t>
         requires way { IsWayOf session.now frame agent question answer }
         requires found { IsUnderIf session.now.world (signals_in session.now frame) found }
@@ -95,7 +95,7 @@ impl<'t> Way<'t> {
     }
 
     // The distances that its search found, if they weren't taken out yet.
-    pub(crate) fn take_found(&mut self) -> Option<KeptDistances>
+    pub(crate) fn take_found(&mut self) -> Option<DistanceField>
         ensures found { IsUnderIf self.old.game.world (signals_in self.old.game self.old.frame) result }
         ensures way { self.new ≡ self.old }
     {

@@ -9,7 +9,7 @@ use Rattle.grid_world.specs.MapFaults.{map_fault}
 use Rattle.grid_world.specs.declared.fault.MapFault.{MapFault}
 use Rattle.grid_world.specs.declared.fault.MapFault.TheVariants.{OutOfMemory, Size, Char, Letters}
 use Rattle.bt_nodes.specs.Limits.{tree_fault}
-use Rattle.bt_nodes.specs.declared.fault.TreeFault.{TreeFault}
+use Rattle.bt_nodes.specs.declared.tree_fault.TreeFault.{TreeFault}
 use Rattle.game_session.specs.Parts.{Parts, NamedPlain}
 use Rattle.game_session.specs.Places.{places, has_place}
 use Rattle.game_session.specs.Agents.{agents, has_agent}
@@ -27,7 +27,7 @@ pub data Fault : Type 0 where
   no_place : List ℕ → Fault
   no_agent : List ℕ → Fault
 
--- want of memory is no fault of a level
+-- out of memory is no fault of a level
 abbrev pub fault_of_map : MapFault → Option Fault
 fault_of_map OutOfMemory = None
 fault_of_map Size = Some map_size

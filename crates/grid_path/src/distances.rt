@@ -5,8 +5,8 @@ ghost use Rattle.grid_world.specs.Way.{way};
 ghost use Rattle.grid_world.specs.World.{point};
 ghost use Rattle.std.specs.Prelude.{◌≡◌, ◌+◌, ◌*◌, ◌↔◌, Bool, List, true, IfOk, None, length};
 
-use crate::fault::PathFault;
 use crate::marks::{measure, nearest};
+use crate::path_fault::PathFault;
 use crate::question::number_of;
 use crate::table::open_cells;
 use grid_world::{Answer, Place, Signals, World};

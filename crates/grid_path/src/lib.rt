@@ -3,13 +3,13 @@
 
 mod around;
 mod distances;
-mod fault;
 mod marks;
+mod path_fault;
 mod question;
 mod search;
 mod table;
 
 pub use distances::Distances;
-pub use fault::PathFault;
 pub use grid_world::Answer;
+pub use path_fault::PathFault;
 pub use question::ask;

@@ -4,7 +4,7 @@ ghost use Rattle.grid_world.specs.Way.{way};
 ghost use Rattle.grid_world.specs.World.{point};
 ghost use Rattle.std.specs.Prelude.{◌≡◌, ◌<◌, ◌↔◌, ◌⊎◌, true, false, IfOk, Some, None};
 
-use crate::fault::PathFault;
+use crate::path_fault::PathFault;
 use crate::search::search;
 use crate::table::open_cells;
 use grid_world::{Answer, Place, Signals, World};

@@ -8,7 +8,7 @@ ghost use Rattle.job_scheduler.specs.declared.board_fault.BoardFault.TheVariants
 ghost use Rattle.task_board.specs.Boards.{setup_in, state_in};
 ghost use Rattle.job_board.specs.Playing.{Playing, IsOwn, IsApplyRefused, IsEnabled, IsStuck};
 
-/// What `enabled` gave is refused by `apply` for want of memory alone.
+/// What `enabled` gave is refused by `apply` only when out of memory.
 pub fn what_is_enabled_is_applied()
     ensures { (b : Playing) (e : Event) (fault : BoardFault) → IsEnabled b e → IsApplyRefused b e fault → fault ≡ OutOfMemory }
 {}

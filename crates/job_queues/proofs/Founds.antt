@@ -9,7 +9,7 @@ use Rattle.board_model.specs.Board.{Queues}
 use Rattle.board_model.specs.Pick.{lane}
 use Rattle.job_queues.specs.declared.pick.Pick.{Pick}
 use Rattle.job_queues.specs.declared.pick.Pick.TheVariants.{Ready, New}
-use Rattle.job_queues.specs.declared.place.Place.{Place}
+use Rattle.job_queues.specs.declared.queue_index.QueueIndex.{QueueIndex}
 use Rattle.job_queues.specs.Names.{picked}
 use Rattle.job_queues.specs.Lanes.{IsPlaceOf}
 use Rattle.job_queues.specs.Picks.{IsAt, IsFirstAt, IsFirstIn}
@@ -43,7 +43,7 @@ module _ (q : Queues) (i : ℕ) where
   at_low (New job) n m h = (n, m, h)
 
 -- what stands at a place is there
-pub there_at : {X : Type 0} (p : X → Bool) (t : Three X) (place : Place) → IsFirstAt p t place → has p (all t) ≡ true
+pub there_at : {X : Type 0} (p : X → Bool) (t : Three X) (place : QueueIndex) → IsFirstAt p t place → has p (all t) ≡ true
 there_at p t place h = go place.priority h
   where
     go : (priority : Priority) → IsFirstIn p t priority place.index → has p (all t) ≡ true

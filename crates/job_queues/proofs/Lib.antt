@@ -1,4 +1,4 @@
-pub mod Lines
+pub mod Fifos
 pub mod Places
 pub mod Threes
 pub mod Picks

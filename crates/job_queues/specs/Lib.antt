@@ -1,6 +1,6 @@
 pub mod Names
 pub mod Waiting
-pub mod Lines
+pub mod Fifos
 pub mod Places
 pub mod Lanes
 pub mod Pool

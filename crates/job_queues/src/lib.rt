@@ -2,14 +2,14 @@
 #![tactic(auto)]
 
 mod fiber;
+mod fifo;
 mod found;
 mod free;
-mod lane;
-mod line;
 mod pick;
-mod place;
 mod pool;
 mod priority;
+mod priority_queue;
+mod queue_index;
 mod queues;
 
 pub use fiber::Fiber;
@@ -17,7 +17,7 @@ pub use found::Found;
 pub use free::size_of;
 pub use job_core::names::{JobName, Priority, Size};
 pub use pick::Pick;
-pub use place::Place;
 pub use pool::{FiberPool, NoFiber, NotTaken};
 pub use priority::{is_same, job_priority};
+pub use queue_index::QueueIndex;
 pub use queues::{QueueFault, Queues};

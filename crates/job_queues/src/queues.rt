@@ -11,10 +11,10 @@ ghost use Rattle.job_queues.specs.Picks.{after_pick, IsAt, IsFirstOf};
 use super::fiber::Fiber;
 use super::found::Found;
 use super::free::Free;
-use super::lane::Lane;
 use super::pick::Pick;
-use super::place::Place;
 use super::priority::job_priority;
+use super::priority_queue::PriorityQueue;
+use super::queue_index::QueueIndex;
 use job_core::names::{JobName, Priority};
 use std::alloc::{AllocError, Global};
 use std::marker::Model;
@@ -31,9 +31,9 @@ pub enum QueueFault {
 #[derive(Drop)]
 pub struct Queues {
     fibers: u32,
-    low: Lane,
-    normal: Lane,
-    high: Lane,
+    low: PriorityQueue,
+    normal: PriorityQueue,
+    high: PriorityQueue,
 }
 
 impl Model for Queues {
@@ -66,9 +66,9 @@ impl Queues {
         ensures { IfOk result (λ q. q ≡ empty fibers) }
     {
         Ok(Queues {
-            high: Lane::new(alloc, fibers)?,
-            normal: Lane::new(alloc, fibers)?,
-            low: Lane::new(alloc, fibers)?,
+            high: PriorityQueue::new(alloc, fibers)?,
+            normal: PriorityQueue::new(alloc, fibers)?,
+            low: PriorityQueue::new(alloc, fibers)?,
             fibers,
         })
     }
@@ -88,7 +88,7 @@ impl Queues {
         if let Some((pick, index)) = self.high.find(free) {
             return Some(Found {
                 pick,
-                place: Place {
+                place: QueueIndex {
                     priority: Priority::High,
                     index,
                 },
@@ -97,7 +97,7 @@ impl Queues {
         if let Some((pick, index)) = self.normal.find(free) {
             return Some(Found {
                 pick,
-                place: Place {
+                place: QueueIndex {
                     priority: Priority::Normal,
                     index,
                 },
@@ -108,7 +108,7 @@ impl Queues {
         };
         Some(Found {
             pick,
-            place: Place {
+            place: QueueIndex {
                 priority: Priority::Low,
                 index,
             },
@@ -126,17 +126,17 @@ impl Queues {
 
     /// Where a new job's first entry stands, of the highest priority that has one.
     #[inline(always)]
-    pub fn find_job(&self, job: JobName) -> Option<Place>
+    pub fn find_job(&self, job: JobName) -> Option<QueueIndex>
         ensures { IsFirstOf (same job) self.now.queues.fresh result }
     {
         if let Some(index) = self.high.find_job(job) {
-            return Some(Place {
+            return Some(QueueIndex {
                 priority: Priority::High,
                 index,
             });
         }
         if let Some(index) = self.normal.find_job(job) {
-            return Some(Place {
+            return Some(QueueIndex {
                 priority: Priority::Normal,
                 index,
             });
@@ -144,7 +144,7 @@ impl Queues {
         let Some(index) = self.low.find_job(job) else {
             return None;
         };
-        Some(Place {
+        Some(QueueIndex {
             priority: Priority::Low,
             index,
         })
@@ -152,17 +152,17 @@ impl Queues {
 
     /// Where a ready fiber's first entry stands, of the highest priority that has one.
     #[inline(always)]
-    pub fn find_ready(&self, fiber: Fiber) -> Option<Place>
+    pub fn find_ready(&self, fiber: Fiber) -> Option<QueueIndex>
         ensures { IsFirstOf (λ other. fiber == other) self.now.queues.ready result }
     {
         if let Some(index) = self.high.find_ready(fiber) {
-            return Some(Place {
+            return Some(QueueIndex {
                 priority: Priority::High,
                 index,
             });
         }
         if let Some(index) = self.normal.find_ready(fiber) {
-            return Some(Place {
+            return Some(QueueIndex {
                 priority: Priority::Normal,
                 index,
             });
@@ -170,7 +170,7 @@ impl Queues {
         let Some(index) = self.low.find_ready(fiber) else {
             return None;
         };
-        Some(Place {
+        Some(QueueIndex {
             priority: Priority::Low,
             index,
         })

@@ -4,7 +4,7 @@ ghost use Rattle.job_core.specs.Core.{Thinks, Shown};
 ghost use Rattle.board_model.specs.Board.{has_key, first_row, raise, wait};
 ghost use Rattle.counters.specs.Keys.{counter_of};
 
-use super::fault::OutOfMemory;
+use super::out_of_memory::OutOfMemory;
 use counters::{BoardCounters, CounterKey};
 use job_queues::Fiber;
 

@@ -4,12 +4,12 @@
 
 mod board_fault;
 mod counting;
-mod fault;
 mod held;
 mod job_table;
 mod jobs;
 mod looks;
 mod next;
+mod out_of_memory;
 mod readers;
 mod scheduler;
 mod settings;
@@ -21,12 +21,12 @@ mod worker_table;
 
 pub use board_fault::BoardFault;
 pub use counters::CounterKey;
-pub use fault::OutOfMemory;
 pub use held::Held;
 pub use job_core::names::{Event, JobName};
-pub use job_queues::{Fiber, Pick, Place};
+pub use job_queues::{Fiber, Pick, QueueIndex};
 pub use jobs::JobLog;
 pub use next::Next;
+pub use out_of_memory::OutOfMemory;
 pub use scheduler::Scheduler;
 pub use settings::{Settings, SettingsFault};
 pub use wide_settings::WideSettings;

@@ -12,7 +12,7 @@ use super::held::Held;
 use super::jobs::JobLog;
 use super::next::Next;
 use job_core::names::{Event, JobName};
-use job_queues::{Fiber, Found, Pick, Place};
+use job_queues::{Fiber, Found, Pick, QueueIndex};
 
 // What may happen next. None of these takes memory.
 impl JobLog {
@@ -83,7 +83,7 @@ impl JobLog {
     }
 
     /// Where a job is queued that a worker may start; None where it may not.
-    pub fn may_start(&self, worker: u32, job: JobName) -> Option<Place>
+    pub fn may_start(&self, worker: u32, job: JobName) -> Option<QueueIndex>
         ensures some { IfSome result (λ place. Always self.now (λ s st. IsLegal s st (Event.Start worker job))) }
         ensures place { IfSome result (λ place. (questions : ℕ → ℕ → ℕ) → IsFirstAt (same job) (kept self.now questions).queues.fresh place) }
         ensures none { result ≡ None → Always self.now (λ s st. IsLegal s st (Event.Start worker job) → ⊥) }
@@ -102,7 +102,7 @@ impl JobLog {
 
     /// The fiber on which a worker may go on with this job, how far the job has come, and where the fiber is ready; None where
     /// the worker may not.
-    pub fn may_resume(&self, worker: u32, job: JobName) -> Option<(Fiber, Held, Place)>
+    pub fn may_resume(&self, worker: u32, job: JobName) -> Option<(Fiber, Held, QueueIndex)>
         ensures some { IfSome result (λ next. Always self.now (λ s st. IsLegal s st (Event.Resume worker job) × (st.phase job ≡ Waits next.1.step) × (next.1.worker ≡ None))) }
         ensures holder { IfSome result (λ next. (questions : ℕ → ℕ → ℕ) → first_place (holds job) (kept self.now questions).seats.jobs ≡ next.0) }
         ensures place { IfSome result (λ next. (questions : ℕ → ℕ → ℕ) → IsFirstAt (λ other. next.0 == other) (kept self.now questions).queues.ready next.2) }
@@ -124,7 +124,7 @@ impl JobLog {
     }
 
     /// The frame that is shown next.
-    pub fn to_show(&self) -> Result<u32, BoardFault>
+    pub fn to_emit(&self) -> Result<u32, BoardFault>
         ensures { Always self.now (IsToShow result) }
     {
         if self.scheduler.is_stopped() {

@@ -12,7 +12,7 @@ use super::held::Held;
 use super::scheduler::Scheduler;
 use counters::CounterKey;
 use job_core::names::JobName;
-use job_queues::{Fiber, Found, Pick, Place, Priority, Size, size_of};
+use job_queues::{Fiber, Found, Pick, Priority, QueueIndex, Size, size_of};
 
 // What a board asks its scheduler before it does an event. None of these takes memory.
 impl Scheduler {
@@ -80,14 +80,14 @@ impl Scheduler {
     }
 
     /// Where a job is queued, if it is. Takes time linear in the number of queued jobs.
-    pub fn find_job(&self, job: JobName) -> Option<Place>
+    pub fn find_job(&self, job: JobName) -> Option<QueueIndex>
         ensures { IsFirstOf (same job) self.now.queues.fresh result }
     {
         self.queues.find_job(job)
     }
 
     /// Where a fiber is ready to go on, if it is. Takes time linear in the number of ready fibers.
-    pub fn find_ready(&self, fiber: Fiber) -> Option<Place>
+    pub fn find_ready(&self, fiber: Fiber) -> Option<QueueIndex>
         ensures { IsFirstOf (λ other. fiber == other) self.now.queues.ready result }
     {
         self.queues.find_ready(fiber)

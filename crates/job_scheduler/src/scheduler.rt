@@ -9,16 +9,16 @@ ghost use Rattle.job_scheduler.specs.Opening.{opened};
 ghost use Rattle.job_scheduler.specs.Seats.{holding, left_by, less_one};
 
 use super::counting::{raise, raise_awaited, raise_frame, without_frame};
-use super::fault::OutOfMemory;
 use super::held::Held;
 use super::job_table::JobTable;
+use super::out_of_memory::OutOfMemory;
 use super::slot_table::SlotTable;
 use super::waking::{ready_at_once, wake};
 use super::wide_settings::WideSettings;
 use super::worker_table::WorkerTable;
 use counters::{BoardCounters, CounterKey};
 use job_core::names::{Event, JobName};
-use job_queues::{Fiber, FiberPool, Found, Pick, Place, Queues, size_of};
+use job_queues::{Fiber, FiberPool, Found, Pick, QueueIndex, Queues, size_of};
 use std::alloc::Global;
 use std::marker::Model;
 
@@ -140,7 +140,7 @@ impl Scheduler {
 
     /// A worker starts a job whose first entry stands at this place, on the lowest free fiber of the job's size.
     #[inline(always)]
-    pub fn start(&mut self, worker: u32, job: JobName, place: Place)
+    pub fn start(&mut self, worker: u32, job: JobName, place: QueueIndex)
         requires place { IsFirstAt (same job) self.old.queues.fresh place }
         requires free { 0 < tally not (taken_of self.old.seats (size_of job)) }
         requires worker { worker < length self.old.seats.workers }
@@ -167,7 +167,7 @@ impl Scheduler {
 
     /// A worker goes on with a fiber whose first entry stands at this place.
     #[inline(always)]
-    pub fn resume(&mut self, worker: u32, fiber: Fiber, place: Place)
+    pub fn resume(&mut self, worker: u32, fiber: Fiber, place: QueueIndex)
         requires place { IsFirstAt (λ other. fiber == other) self.old.queues.ready place }
         requires held { IsSome (at self.old.seats.jobs fiber) }
         requires fiber { fiber < length self.old.seats.jobs }

@@ -38,7 +38,7 @@ spelled bytes = of_json (json_of bytes)
 
 -- ---- faults
 
--- the fault that an answer names; none for want of memory
+-- the fault that an answer names; none when out of memory
 abbrev pub fault_view : LevelFault → Option Fault
 fault_view OutOfMemory = None
 fault_view Json = Some json
@@ -56,7 +56,7 @@ abbrev pub Names : {V : Type 0} → Option Fault → Result V Fault → Type 0
 Names None right = Unit {0}
 Names (Some fault) right = right ≡ Err fault
 
--- want of memory, or the right fault
+-- out of memory, or the right fault
 abbrev pub IsFaultOf : {V : Type 0} → Result V Fault → LevelFault → Type 0
 IsFaultOf right e = Names (fault_view e) right
 
@@ -64,6 +64,6 @@ abbrev pub NamesFirst : Option Fault → Option Fault → Type 0
 NamesFirst None first = Unit {0}
 NamesFirst (Some fault) first = first ≡ Some fault
 
--- want of memory, or the first fault of some kinds
+-- out of memory, or the first fault of some kinds
 abbrev pub IsFirstOf : Option Fault → LevelFault → Type 0
 IsFirstOf first e = NamesFirst (fault_view e) first

@@ -16,8 +16,8 @@ use Rattle.run_shared.specs.Printed.{WrotePart}
 use Rattle.play_run.specs.Reports.{AreStepsOf, AreBandsOf}
 use Rattle.play_run.specs.declared.report.RunReport.{RunReport}
 use Rattle.play_run.specs.Once.{RunsEachJobOnce}
-use Rattle.play_run.specs.declared.fault.PlayFault.{PlayFault}
-use Rattle.play_run.specs.declared.fault.PlayFault.TheVariants.{Level, Script, Run}
+use Rattle.play_run.specs.declared.play_fault.PlayFault.{PlayFault}
+use Rattle.play_run.specs.declared.play_fault.PlayFault.TheVariants.{Level, Script, Run}
 
 -- All frames are written and nothing else, by a complete list of events, and the report counts them.
 pub record IsPlayed (old new : Option (List ℕ)) (g : Game) (n : Numbers) (r : RunReport) : Type 0 where

@@ -5,7 +5,7 @@ ghost use Rattle.log_text.specs.Text.{events_text};
 ghost use Rattle.run_printer.specs.Journals.{TakesPart};
 ghost use Rattle.play_run.specs.Plays.{IsPlayed, IsPlayFault};
 
-use crate::fault::PlayFault;
+use crate::play_fault::PlayFault;
 use crate::report::RunReport;
 use crate::whole_run::run_journalled;
 use game_session::Session;

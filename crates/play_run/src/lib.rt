@@ -3,17 +3,17 @@
 
 mod bytes;
 mod counted;
-mod fault;
 mod log_journal;
 mod opening;
+mod play_fault;
 mod report;
 mod whole_run;
 mod workers;
 
 pub use band_mail::{BandMail, Putter, Taker};
 pub use bytes::{run_bytes, run_bytes_journalled};
-pub use fault::PlayFault;
 pub use log_journal::LogJournal;
+pub use play_fault::PlayFault;
 pub use report::RunReport;
 pub use run_printer::{Journal, JournalFault, NoJournal};
 pub use run_shared::{Cause, RunFault};

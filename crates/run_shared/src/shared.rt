@@ -2,8 +2,8 @@ ghost use Rattle.std.specs.Prelude.{◌≡◌, length, vec_len};
 ghost use Rattle.band_mail.specs.Mails.{ArePuttersOf, IsAllDelivered, put_by};
 
 use crate::board::SharedBoard;
-use crate::hold::Hold;
 use crate::ledger::RunLedger;
+use crate::locked_board::LockedBoard;
 use crate::run_band::RunBand;
 use band_mail::{BandMail, Putter, Taker};
 use draw_list::Band;
@@ -55,8 +55,8 @@ impl<'t, L: RunLedger, M: Ledger, D: Ledger> Shared<'t, L, M, D> {
     }
 
     /// Takes the board's lock, for one event or one look.
-    pub fn lock<R: Wait>(&self, rt: &R) -> Hold<'_, 't, L, M, D> {
-        Hold::new(lock_soon(rt, &self.board))
+    pub fn lock<R: Wait>(&self, rt: &R) -> LockedBoard<'_, 't, L, M, D> {
+        LockedBoard::new(lock_soon(rt, &self.board))
     }
 
     /// Stops the board, so that all threads end.

@@ -57,8 +57,8 @@ impl<'h, 't, L: RunLedger, M: Ledger, D: Ledger, G: Gate, R: Wait> Worker<'h, 't
     {
         // Who is awake stands in other cache lines, so that is read with the lock free.
         let asks = !self.shared.wakeups.are_enough();
-        let hold = self.shared.lock(self.rt);
-        match hold.take(self.number, asks, lease, share) {
+        let board = self.shared.lock(self.rt);
+        match board.take(self.number, asks, lease, share) {
             Ok(given) => Ok(given),
             Err(fault) => Err(cause_of(fault)),
         }
@@ -246,8 +246,8 @@ impl<'h, 't, L: RunLedger, M: Ledger, D: Ledger, G: Gate, R: Wait> Worker<'h, 't
         ensures drawn { OnOk result (draws.new.amount ≡ draws.old.amount + draws_ended told.entry) }
     {
         let ended = draws_in(&told);
-        let hold = self.shared.lock(self.rt);
-        match hold.hand_in(self.number, told, share, draws) {
+        let board = self.shared.lock(self.rt);
+        match board.hand_in(self.number, told, share, draws) {
             Ok(HandedIn { shows, retired }) => {
                 if shows {
                     self.shared.wakeups.printer.call_one();

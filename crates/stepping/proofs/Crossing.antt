@@ -6,7 +6,7 @@ use Rattle.grid_world.proofs.world.World.TheSendSync.{the_send as world_send, th
 use Rattle.grid_world.proofs.signal.Signals.TheSendSync.{the_send as signals_send, the_sync as signals_sync}
 use Rattle.game_session.proofs.script.Script.TheSendSync.{the_send as script_send, the_sync as script_sync}
 use Rattle.bt_tick.proofs.memory.Memory.TheSendSync.{the_send as memory_send, the_sync as memory_sync}
-use Rattle.frame_parts.proofs.known.Known.TheSendSync.{the_send as known_send, the_sync as known_sync}
+use Rattle.frame_parts.proofs.distance_cache.DistanceCache.TheSendSync.{the_send as known_send, the_sync as known_sync}
 use Rattle.game_session.specs.contracts.level.Level as Level
 use Rattle.stepping.specs.contracts.played.Stepping as Stepping
 

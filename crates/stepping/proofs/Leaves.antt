@@ -8,8 +8,8 @@ use Rattle.bt_nodes.specs.Heads.{is_leaf}
 use Rattle.bt_nodes.specs.Plain.{Plain, Does, Move, plain}
 use Rattle.bt_nodes.specs.declared.node.Node.{Node, the_lemmas}
 use Rattle.bt_nodes.specs.declared.node.Node as node
-use Rattle.game_rules.specs.declared.deed.Deed.{Deed}
-use Rattle.game_rules.specs.declared.deed.Deed.TheVariants.{Says, Wants}
+use Rattle.game_rules.specs.declared.leaf_result.LeafResult.{LeafResult}
+use Rattle.game_rules.specs.declared.leaf_result.LeafResult.TheVariants.{Says, Wants}
 use Rattle.game_rules.specs.View.{View}
 use Rattle.game_rules.specs.Tick.{Gives, State, Result, gives, want, meaning, act, tick}
 use Rattle.game_rules.specs.Thought.{first_want, ticked}
@@ -30,7 +30,7 @@ wants one t s st i none e is =
     let is_one : one ≡ i = sym (is ∙ ap (λ l. first_want (l ++ one ∷ [])) none) in
     ap (λ j. gives Running (want j s)) is_one ∙ ap (λ x. gives x (wanting x i s)) is_st
 
-plainly : (d : Deed) → Plainly (act d)
+plainly : (d : LeafResult) → Plainly (act d)
 plainly (Says true) = stays Success (λ i s. refl)
 plainly (Says false) = stays Failure (λ i s. refl)
 plainly (Wants i) = wants i

@@ -7,14 +7,14 @@ ghost use Rattle.game_rules.specs.Thought.{all_ways};
 
 use bt_nodes::Tree;
 use bt_tick::{Memory, Outcome, View};
-use frame_parts::{Known, begun, cell_on, gone_on};
+use frame_parts::{DistanceCache, begun, cell_on, gone_on};
 use grid_world::Answer;
 use std::alloc::{AllocError, Global};
 
 /// The answers to all path questions of an agent's tick.
 pub(crate) fn all_answers(
     alloc: Global,
-    known: &Known,
+    known: &DistanceCache,
     view: &View,
     tree: &Tree<Global>,
     memory: &Memory,

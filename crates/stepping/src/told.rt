@@ -10,7 +10,7 @@ use crate::observer::Observer;
 use crate::progress::Progress;
 use bt_nodes::{Status, Tree};
 use bt_tick::{Memory, View};
-use frame_parts::Known;
+use frame_parts::DistanceCache;
 use std::alloc::{AllocError, Global};
 
 /// What each node of an agent's tree answers in its tick, in preorder; `None` for a node that is not ticked. Distances that are
@@ -18,7 +18,7 @@ use std::alloc::{AllocError, Global};
 /// each action and each condition that is ticked.
 pub(crate) fn node_answers(
     alloc: Global,
-    known: &Known,
+    known: &DistanceCache,
     view: &View,
     tree: &Tree<Global>,
     memory: &Memory,

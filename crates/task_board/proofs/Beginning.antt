@@ -7,7 +7,7 @@ use Rattle.job_scheduler.specs.declared.board_fault.BoardFault.{BoardFault}
 use Rattle.job_scheduler.specs.declared.board_fault.BoardFault.TheVariants.{Stopped, NoWorker, Busy, NotRunning, WrongResult, Illegal, OutOfMemory}
 use Rattle.task_board.specs.Boards.{Played, setup_in, state_in, IsBeginning, IsRefused, NoOther}
 use Rattle.task_board.specs.HandedIn.{IsBeginRefused}
-use Rattle.task_board.proofs.Boarding.{runs_one, spread_legal}
+use Rattle.task_board.proofs.BoardEvents.{runs_one, spread_legal}
 
 -- where no Logic is at its start, neither is legal
 pub neither_begins : (b : Played) (w : ℕ) (fault : BoardFault) → IsRefused b w NoOther (Spread w) fault → IsRefused b w NoOther (Hold w) fault → IsBeginRefused b w fault

@@ -20,7 +20,7 @@ use Rattle.task_board.specs.FrameStore.{FrameStoreOf}
 use Rattle.task_board.specs.Boards.{Played, setup_in, state_in, pick_in, Happens, IsBoard, IsTaken, IsTakeRefused}
 use Rattle.task_board.specs.Found.{IsFound, event_of, job_next, step_next}
 use Rattle.task_board.specs.Given.{MayBeTakenUp}
-use Rattle.task_board.proofs.Boarding.{known, known_of, seen_as, starts, resumes}
+use Rattle.task_board.proofs.BoardEvents.{known, known_of, seen_as, starts, resumes}
 
 module _ (g : Game) (jobs : Logged) (frame_store : FrameStoreOf) (k : IsBoard (seen_as g jobs) jobs frame_store) where
   -- what is picked goes first

@@ -16,7 +16,7 @@ use Rattle.frame_state.specs.Contents.{bands_in}
 use Rattle.frame_params.specs.Tasks.{job_of, IsTaskAt}
 use Rattle.frame_params.specs.declared.task.Task.{Task}
 use Rattle.board_model.specs.Stored.{stored_after}
-use Rattle.job_queues.specs.declared.place.Place.{Place}
+use Rattle.job_queues.specs.declared.queue_index.QueueIndex.{QueueIndex}
 use Rattle.job_queues.specs.Picks.{IsFirstAt}
 use Rattle.job_scheduler.specs.Numbers.{Numbers, IsWithinLimits}
 use Rattle.job_scheduler.specs.Logged.{Logged, setup_of}
@@ -90,13 +90,13 @@ IsTaken old new w None =
 IsTaken old new w (Some task) = Starts old new w task ⊎ Resumes old new w task
 
 -- a job that may start, and one that may go on: what a board found before it takes it
-pub record IsStart (b : Played) (w : ℕ) (j : JobName) (place : Place) : Type 0 where
+pub record IsStart (b : Played) (w : ℕ) (j : JobName) (place : QueueIndex) : Type 0 where
   pub legal : IsLegal (setup_in b) (state_in b) (Start w j)
   pub first : GoesFirst (setup_in b) (state_in b) j
   pub picked : pick_in b ≡ Some (New j)
   pub queued : IsFirstAt (same j) (kept_in b).queues.fresh place
 
-pub record IsResume (b : Played) (w fiber : ℕ) (held : Held) (place : Place) : Type 0 where
+pub record IsResume (b : Played) (w fiber : ℕ) (held : Held) (place : QueueIndex) : Type 0 where
   pub legal : IsLegal (setup_in b) (state_in b) (Resume w held.job)
   pub stands : (state_in b).phase held.job ≡ Waits held.step
   pub first : GoesFirst (setup_in b) (state_in b) held.job

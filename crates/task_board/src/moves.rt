@@ -14,7 +14,7 @@ use super::board::TaskBoard;
 use frame_params::{Lease, LogicTask, Task};
 use job_core::names::JobName;
 use job_queues::is_same;
-use job_scheduler::{Fiber, Held, OutOfMemory, Place};
+use job_scheduler::{Fiber, Held, OutOfMemory, QueueIndex};
 
 // What is done for a given event, where it is legal.
 impl<'t> TaskBoard<'t> {
@@ -33,7 +33,7 @@ impl<'t> TaskBoard<'t> {
     }
 
     /// Where a job is queued that a worker may start; None where it may not.
-    pub fn may_start(&self, worker: u32, job: JobName) -> Option<Place>
+    pub fn may_start(&self, worker: u32, job: JobName) -> Option<QueueIndex>
         ensures some { IfSome result (λ place. IsLegal (setup_in self.now) (state_in self.now) (Start worker job)) }
         ensures place { IfSome result (IsFirstAt (same job) (kept_in self.now).queues.fresh) }
         ensures none { result ≡ None → IsLegal (setup_in self.now) (state_in self.now) (Start worker job) → ⊥ }
@@ -46,7 +46,7 @@ impl<'t> TaskBoard<'t> {
 
     /// The fiber on which a worker may go on with this job, how far the job has come, and where the fiber is ready; None where
     /// the worker may not.
-    pub fn may_resume(&self, worker: u32, job: JobName) -> Option<(Fiber, Held, Place)>
+    pub fn may_resume(&self, worker: u32, job: JobName) -> Option<(Fiber, Held, QueueIndex)>
         ensures some { IfSome result (λ next. IsLegal (setup_in self.now) (state_in self.now) (Resume worker job)) }
         ensures stands { IfSome result (λ next. (state_in self.now).phase job ≡ Waits next.1.step) }
         ensures holder { IfSome result (λ next. first_place (holds job) (kept_in self.now).seats.jobs ≡ next.0) }
@@ -82,11 +82,11 @@ impl<'t> TaskBoard<'t> {
     }
 
     /// The frame that can be shown, if one can.
-    pub fn to_show(&self) -> Option<u32>
+    pub fn to_emit(&self) -> Option<u32>
         ensures some { IfSome result (λ frame. IsLegal (setup_in self.now) (state_in self.now) (Emit frame)) }
         ensures none { result ≡ None → NothingToShow self.now }
     {
-        match self.jobs.to_show() {
+        match self.jobs.to_emit() {
             Ok(frame) => Some(frame),
             Err(_) => None,
         }
@@ -94,7 +94,7 @@ impl<'t> TaskBoard<'t> {
 
     /// A worker starts a job that is queued at this place.
     #[inline(always)]
-    pub fn begin(&mut self, worker: u32, job: JobName, place: Place) -> Result<(), OutOfMemory>
+    pub fn begin(&mut self, worker: u32, job: JobName, place: QueueIndex) -> Result<(), OutOfMemory>
         requires legal { IsLegal (setup_in self.old) (state_in self.old) (Start worker job) }
         requires place { IsFirstAt (same job) (kept_in self.old).queues.fresh place }
         ensures ok { OnOk result (Happens self.old self.new (Start worker job)) }
@@ -113,7 +113,7 @@ impl<'t> TaskBoard<'t> {
         worker: u32,
         fiber: Fiber,
         frame: u32,
-        place: Place,
+        place: QueueIndex,
     ) -> Result<LogicTask<'t>, OutOfMemory>
         requires legal { IsLegal (setup_in self.old) (state_in self.old) (Resume worker (Logic frame)) }
         requires holder { first_place (holds (Logic frame)) (kept_in self.old).seats.jobs ≡ fiber }
@@ -141,7 +141,7 @@ impl<'t> TaskBoard<'t> {
         worker: u32,
         fiber: Fiber,
         job: JobName,
-        place: Place,
+        place: QueueIndex,
     ) -> Result<(), OutOfMemory>
         requires legal { IsLegal (setup_in self.old) (state_in self.old) (Resume worker job) }
         requires holder { first_place (holds job) (kept_in self.old).seats.jobs ≡ fiber }

@@ -189,7 +189,7 @@ impl<'t> TaskBoard<'t> {
         ensures refused { IfErr result (IsEmitRefused self.old) }
         ensures unchanged { OnErr result (self.new ≡ self.old) }
     {
-        let frame = self.jobs.to_show()?;
+        let frame = self.jobs.to_emit()?;
         let Ok(()) = self.jobs.emit(frame) else {
             return Err(BoardFault::OutOfMemory);
         };

@@ -5,14 +5,14 @@ mod arrows;
 mod emits;
 mod lanes;
 mod parts;
-mod reading;
 mod slice;
 pub mod slice_laws;
 mod slices;
 mod span;
 mod whole;
+mod worker_slices;
 
-pub use reading::{begun_at, slices_of};
 pub use slice::Slice;
 pub use span::FrameSpan;
 pub use whole::trace;
+pub use worker_slices::{begun_at, slices_of};

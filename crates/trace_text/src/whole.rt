@@ -4,10 +4,10 @@ ghost use Rattle.trace_text.specs.Trace.{lanes_text, slices_text, emits_from, tr
 
 use crate::emits::push_emits;
 use crate::lanes::push_lanes;
-use crate::reading::slices_of;
 use crate::slice::Slice;
 use crate::slices::push_slices;
 use crate::span::FrameSpan;
+use crate::worker_slices::slices_of;
 use job_core::names::Event;
 use job_scheduler::Settings;
 use std::alloc::{AllocError, Global};

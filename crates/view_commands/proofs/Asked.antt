@@ -1,8 +1,8 @@
 -- Words that are taken for one command, and the frames that they name.
 use Rattle.std.proofs.Common.{◌≡◌, ◌<◌, ◌∙◌, ℕ, List, sym, ap, subst, length, codes, arith}
 use Rattle.clap.specs.Words.{Row, Text, first_of}
-use Rattle.words.specs.Program.{IsNumber}
-use Rattle.words.proofs.Asked.{name_in, rows_in}
+use Rattle.command_line.specs.Program.{IsNumber}
+use Rattle.command_line.proofs.Asked.{name_in, rows_in}
 use Rattle.trace_text.specs.declared.span.FrameSpan.{FrameSpan}
 use Rattle.view_commands.specs.declared.request.ViewWords.{ViewWords}
 use Rattle.view_commands.specs.declared.request.ViewWords.TheVariants.{Trace, Page}

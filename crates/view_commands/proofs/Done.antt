@@ -3,9 +3,9 @@ use Rattle.std.proofs.Common.{◌≡◌, ℕ, List, Option}
 use Rattle.std.specs.Prelude.{⊤, Result, Ok, Err, OnOk, OnErr}
 use Rattle.clap.specs.Words.{Text}
 use Rattle.trace_text.specs.declared.span.FrameSpan.{FrameSpan}
-use Rattle.words.specs.declared.program_fault.Fault.{Fault}
-use Rattle.words.specs.Faults.{status_in}
-use Rattle.words.proofs.Statuses.{ok_at_zero}
+use Rattle.command_line.specs.declared.program_fault.Fault.{Fault}
+use Rattle.command_line.specs.Faults.{status_in}
+use Rattle.command_line.proofs.Statuses.{ok_at_zero}
 use Rattle.view_commands.specs.declared.request.ViewWords.{ViewWords}
 use Rattle.view_commands.specs.declared.request.ViewWords.TheVariants.{Trace, Page}
 use Rattle.view_commands.specs.Doing.{IsDone, IsPartDone, TracesSome, TracesSomePart}

@@ -17,8 +17,8 @@ use Rattle.page_text.specs.Frames.{frames_to}
 use Rattle.page_text.specs.declared.filmed.Filmed.{Filmed}
 use Rattle.page_text.specs.Filming.{IsFilmOf}
 use Rattle.page_text.specs.Pages.{page_of}
-use Rattle.words.specs.declared.program_fault.Fault.{Fault}
-use Rattle.words.specs.declared.program_fault.Fault.TheVariants.{Incomplete}
+use Rattle.command_line.specs.declared.program_fault.Fault.{Fault}
+use Rattle.command_line.specs.declared.program_fault.Fault.TheVariants.{Incomplete}
 use Rattle.level_text.specs.Games.{spelled_game}
 use Rattle.view_commands.specs.Paging.{IsDoneLog, IsPageFault, IsShort, IsShowingFault, IsWhole, Pages, PagesPart, PagesSome, PagesSomePart, Sources, page_for}
 

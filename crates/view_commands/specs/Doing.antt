@@ -7,9 +7,9 @@ use Rattle.job_scheduler.specs.Numbers.{Numbers}
 use Rattle.log_text.specs.Readings.{IsLog}
 use Rattle.trace_text.specs.declared.span.FrameSpan.{FrameSpan}
 use Rattle.trace_text.specs.Trace.{trace_of}
-use Rattle.words.specs.declared.program_fault.Fault.{Fault}
-use Rattle.words.specs.declared.program_fault.Fault.TheVariants.{Write}
-use Rattle.words.specs.Faults.{IsReadingFault}
+use Rattle.command_line.specs.declared.program_fault.Fault.{Fault}
+use Rattle.command_line.specs.declared.program_fault.Fault.TheVariants.{Write}
+use Rattle.command_line.specs.Faults.{IsReadingFault}
 use Rattle.view_commands.specs.Paging.{PagesSome, PagesSomePart}
 use Rattle.view_commands.specs.declared.request.ViewWords.{ViewWords}
 use Rattle.view_commands.specs.declared.request.ViewWords.TheVariants.{Trace, Page}

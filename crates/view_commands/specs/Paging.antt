@@ -14,9 +14,9 @@ use Rattle.page_text.specs.Films.{film_of}
 use Rattle.page_text.specs.Frames.{frames_to}
 use Rattle.page_text.specs.declared.filmed.Filmed.{Filmed}
 use Rattle.page_text.specs.Pages.{page_of}
-use Rattle.words.specs.declared.program_fault.Fault.{Fault}
-use Rattle.words.specs.declared.program_fault.Fault.TheVariants.{IllegalEvent, Incomplete, OutOfMemory, Write}
-use Rattle.words.specs.Faults.{IsReadingFault}
+use Rattle.command_line.specs.declared.program_fault.Fault.{Fault}
+use Rattle.command_line.specs.declared.program_fault.Fault.TheVariants.{IllegalEvent, Incomplete, OutOfMemory, Write}
+use Rattle.command_line.specs.Faults.{IsReadingFault}
 use Rattle.level_text.specs.Games.{spelled_game}
 
 -- what the files of a level and a script hold, and what the level is called

@@ -4,8 +4,8 @@ use Rattle.clap.specs.Words.{App, IsAmong, Row, Text, fault_of, first_of, new_ap
 use Rattle.clap.specs.declared.error.kind.ErrorKind.TheVariants as kinds
 use Rattle.clap.specs.declared.parser.matches.ArgMatches.{ArgMatches}
 use Rattle.trace_text.specs.declared.span.FrameSpan.{FrameSpan}
-use Rattle.words.specs.declared.fault.WordsFault.{WordsFault}
-use Rattle.words.specs.Program.{default_rule, new_program, path_rule, word_rule, IsAskedOf, IsNumber, IsOptional, IsText}
+use Rattle.command_line.specs.declared.words_fault.WordsFault.{WordsFault}
+use Rattle.command_line.specs.Program.{default_rule, new_program, path_rule, word_rule, IsAskedOf, IsNumber, IsOptional, IsText}
 use Rattle.view_commands.specs.declared.request.ViewWords.{ViewWords}
 use Rattle.view_commands.specs.declared.request.ViewWords.TheVariants.{Trace, Page}
 

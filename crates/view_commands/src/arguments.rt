@@ -1,12 +1,12 @@
 // The viewer's words, as clap is told of them.
 ghost use Rattle.std.specs.Prelude.{◌≡◌, codes, IfOk};
 ghost use Rattle.clap.specs.Words.{app_of};
-ghost use Rattle.words.specs.Program.{new_program};
+ghost use Rattle.command_line.specs.Program.{new_program};
 ghost use Rattle.view_commands.specs.Program.{program};
 
 use clap::Command;
+use command_line::{Argument, Form, Subcommand, new_program, with_subcommands};
 use std::alloc::{AllocError, Global};
-use words::{Argument, Form, Subcommand, new_program, with_subcommands};
 
 const ABOUT: &str =
     "Shows runs of btworld: their frames, and what their workers did, event by event.";

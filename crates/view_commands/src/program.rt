@@ -6,13 +6,13 @@ ghost use Rattle.view_commands.specs.Paging.{PagesSome, PagesSomePart};
 ghost use Rattle.view_commands.specs.Program.{AreRefused, AsksForPage, AsksToTrace};
 
 use crate::paging::page_files;
-use crate::reading::read_view_words;
+use crate::read_view_words::read_view_words;
 use crate::request::ViewWords;
 use crate::tracing::trace_file;
+use command_line::{Fault, end_with, refuse_words};
 use std::alloc::Global;
 use std::io::Write;
 use std::rt::Files;
-use words::{Fault, end_with, refuse_words};
 
 /// Does what words ask for.
 fn act<H: Files, W: Write>(rt: &H, alloc: Global, view: ViewWords, out: &mut W) -> Result<(), Fault>
@@ -31,7 +31,7 @@ fn act<H: Files, W: Write>(rt: &H, alloc: Global, view: ViewWords, out: &mut W) 
 }
 
 /// Does what the words after the viewer's name ask for, and gives the status with which the program ends: 0 done, 1 a file
-/// or a write failed, 2 refused words, level, script or log, 3 want of memory. A fault is one line on `err`.
+/// or a write failed, 2 refused words, level, script or log, 3 out of memory. A fault is one line on `err`.
 ///
 /// The clauses say that there is a log of which the text is the trace, and that there are a level, a script and a log of
 /// which it is the page; that these are what the files hold is tested.

@@ -2,12 +2,12 @@
 ghost use Rattle.std.specs.Prelude.{IfErr, OnOk, OnErr};
 ghost use Rattle.view_commands.specs.Doing.{Traces, TracesPart, IsTraceFault, TracesSome, TracesSomePart};
 
+use command_line::{Fault, put, read_file};
 use log_text::read_log;
 use std::alloc::Global;
 use std::io::Write;
 use std::rt::Files;
 use trace_text::{FrameSpan, trace};
-use words::{Fault, put, read_file};
 
 /// Writes the events of a log's bytes in Chrome's trace format, as far as they are of these frames, and flushes once.
 ///

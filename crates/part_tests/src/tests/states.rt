@@ -1,5 +1,5 @@
 // The state of a stepped game as text, written and loaded, and digests of its level and its script. What is expected comes from
-// scripts/plain_player.
+// scripts/runs/plain_player.py.
 use game_session::Script;
 use level_text::{read_level, read_script};
 use std::alloc::Global;

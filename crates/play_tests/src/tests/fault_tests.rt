@@ -1,6 +1,6 @@
 // What no clause says: the texts of the faults that no case of the program meets.
+use command_line::Fault;
 use std::test::Fail;
-use words::Fault;
 
 #[test]
 fn faults_of_a_run_have_their_texts(rt: HostRuntime) -> Result<(), Fail> {

@@ -1,7 +1,7 @@
 // What no clause says: that right words are taken, and words that lack a number are refused.
+use command_line::{Words, WordsFault, read_words};
 use std::alloc::Global;
 use task_board::Settings;
-use words::{Words, WordsFault, read_words};
 
 fn read(alloc: Global, words: &[&str]) -> Option<Result<Words, WordsFault>> {
     let mut texts = Vec::new(alloc);

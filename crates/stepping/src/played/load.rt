@@ -18,7 +18,7 @@ use crate::state_lines::{Crew, Told, read_state};
 use crate::state_words::Head;
 use crate::turns::turn_all;
 use bt_tick::Memory;
-use frame_parts::Known;
+use frame_parts::DistanceCache;
 use game_rules::Change;
 use game_session::{Level, Script};
 use grid_world::Signals;
@@ -134,7 +134,7 @@ fn placed(alloc: Global, level: Level, script: Script, told: Told) -> Result<Ste
         statuses: answers,
         drawn: shown,
         signals: next,
-        known: Known::none(alloc, ground, shown)?,
+        known: DistanceCache::none(alloc, ground, shown)?,
     })
 }
 

@@ -1,11 +1,11 @@
 use Rattle.std.proofs.Common.{refl, ap, sym, subst, ◌∙◌, arith, []}
 use Rattle.std.specs.Prelude.{◌≡◌, Some}
 use Rattle.bt_nodes.specs.Plain.{plain}
-use Rattle.game_rules.specs.declared.deed.Deed.TheVariants.{Says, Wants}
+use Rattle.game_rules.specs.declared.leaf_result.LeafResult.TheVariants.{Says, Wants}
 use Rattle.game_rules.specs.Tick.{gives}
 use Rattle.bt_tick.specs.Suspended.{unwind}
 use Rattle.bt_tick.specs.Views.{view_of}
-use Rattle.bt_tick.specs.Deeds.{deed_of}
+use Rattle.bt_tick.specs.LeafResults.{deed_of}
 use Rattle.bt_tick.specs.Machine.{opens, with_parts, whole_of, Placed}
 use Rattle.bt_tick.specs.declared.machine.Mode.TheVariants.{Down}
 use Rattle.bt_tick.specs.Outcome.{fresh, machine_left}
@@ -19,7 +19,7 @@ overflow_add-after g c = omega (arith, down_within c.loop-mode.machine c.loop-mo
 pub loop-mode-preserved-in_default-node : goal.loop-mode-preserved-in_default-node
 loop-mode-preserved-in_default-node g c = record {
   placed = c.in_ok-mode-in-Down-2.ensures.placed;
-  nearest = c.deed.ensures.nearest;
+  nearest = c.leaf_result.ensures.nearest;
   tree = c.in_ok-mode-in-Down-2.ensures.tree ∙ c.loop-mode.invariant.tree;
   keeps = λ more.
       c.in_ok-mode-in-Down-2.ensures.keeps (fresh [] [] more)
@@ -69,11 +69,11 @@ loop-mode-preserved-in-Says g c =
     let v = view_of c.args.view.now in
     let m = c.loop-mode.machine in
     let p = plain c.in-Down.node.now in
-    let is : deed_of v p ≡ Some (Says c.in-Says.holds) = sym c.deed.ensures.deed ∙ c.in-Some.is ∙ ap Some c.in-Says.is in
+    let is : deed_of v p ≡ Some (Says c.in-Says.holds) = sym c.leaf_result.ensures.leaf_result ∙ c.in-Some.is ∙ ap Some c.in-Says.is in
     let was : Placed m (Down c.in-Down.node c.in-Down.number) = subst (Placed m) c.in-Down.is c.loop-mode.invariant.placed in
     record {
       placed = placed_by m _ _ m.stack refl refl (answered_nested (whole_of m) _ c.in-Down.number p (opens m.stack) (omega (arith, acts_alone v p (Says c.in-Says.holds) is)) was.nested) tt;
-      nearest = c.deed.ensures.nearest;
+      nearest = c.leaf_result.ensures.nearest;
       tree = c.loop-mode.invariant.tree;
       keeps = λ more.
           ap (unwind v (opens m.stack)) (says v p c.in-Down.number (with_parts m.memory m.wants.items (fresh [] [] more)) c.in-Says.holds c.status_of.result is c.status_of.ensures)
@@ -87,11 +87,11 @@ loop-mode-preserved-in-Wants g c =
     let new = c.want.new.self in
     let p = plain c.in-Down.node.now in
     let i = c.in-Wants.intent in
-    let is : deed_of v p ≡ Some (Wants i) = sym c.deed.ensures.deed ∙ c.in-Some.is ∙ ap Some c.in-Wants.is in
+    let is : deed_of v p ≡ Some (Wants i) = sym c.leaf_result.ensures.leaf_result ∙ c.in-Some.is ∙ ap Some c.in-Wants.is in
     let was : Placed m (Down c.in-Down.node c.in-Down.number) = subst (Placed m) c.in-Down.is c.loop-mode.invariant.placed in
     record {
       placed = placed_by m new _ m.stack c.in_ok-want-in-Wants.ensures.tree c.in_ok-want-in-Wants.ensures.stack (answered_nested (whole_of m) _ c.in-Down.number p (opens m.stack) (omega (arith, acts_alone v p (Wants i) is)) was.nested) tt;
-      nearest = c.deed.ensures.nearest;
+      nearest = c.leaf_result.ensures.nearest;
       tree = c.in_ok-want-in-Wants.ensures.tree ∙ c.loop-mode.invariant.tree;
       keeps = λ more.
           wanted_keeps m new i c.in_ok-want-in-Wants.ensures.stack c.in_ok-want-in-Wants.ensures.memory c.in_ok-want-in-Wants.ensures.wants v (fresh [] [] more)

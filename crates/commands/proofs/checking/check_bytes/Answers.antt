@@ -1,5 +1,5 @@
 use Rattle.std.proofs.Common.{◌∙◌}
-use Rattle.words.proofs.Statuses.{on_err_map}
+use Rattle.command_line.proofs.Statuses.{on_err_map}
 use Rattle.commands.proofs.Compared.{line_part}
 use Rattle.commands.proofs.checking.check_bytes.Goals as goal
 

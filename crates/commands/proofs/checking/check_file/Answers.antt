@@ -1,4 +1,4 @@
-use Rattle.words.proofs.Statuses.{on_err, on_err_map}
+use Rattle.command_line.proofs.Statuses.{on_err, on_err_map}
 use Rattle.commands.proofs.Doing.{checked_part}
 use Rattle.commands.proofs.Written.{on_ok_map}
 use Rattle.commands.proofs.checking.check_file.Goals as goal

@@ -1,4 +1,4 @@
-use Rattle.words.proofs.Statuses.{on_err}
+use Rattle.command_line.proofs.Statuses.{on_err}
 use Rattle.commands.proofs.Doing.{played_part, plays_part}
 use Rattle.commands.proofs.Written.{is_script}
 use Rattle.commands.proofs.playing.play_files.Goals as goal

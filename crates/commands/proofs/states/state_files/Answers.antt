@@ -1,4 +1,4 @@
-use Rattle.words.proofs.Statuses.{on_err_map}
+use Rattle.command_line.proofs.Statuses.{on_err_map}
 use Rattle.stepping.specs.StateText.{scripted_state_text}
 use Rattle.commands.proofs.Written.{on_ok_map, some_part, is_script}
 use Rattle.commands.proofs.states.state_files.Goals as goal

@@ -1,4 +1,4 @@
-use Rattle.words.proofs.Statuses.{on_err_map}
+use Rattle.command_line.proofs.Statuses.{on_err_map}
 use Rattle.std.proofs.Common.{List, ℕ, subst}
 use Rattle.std.specs.Prelude.{IsSomeAnd, MatchOption, string_bytes}
 use Rattle.std.specs.Io.KnownBytes.{Appends, Keeps}

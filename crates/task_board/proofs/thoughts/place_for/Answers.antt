@@ -1,6 +1,6 @@
 use Rattle.std.proofs.Common.{◌≡◌, ◌-◌, ◌≤◌, suc, false, not, nat_lt, drop, sym, subst, arith}
 use Rattle.board_model.specs.Lists.{has}
-use Rattle.task_board.proofs.Parting.{none_earlier, place_behind}
+use Rattle.task_board.proofs.PartOrder.{none_earlier, place_behind}
 use Rattle.task_board.proofs.thoughts.place_for.Goals as goal
 
 pub returns-then-other-agent : goal.returns-then-other-agent

@@ -1,5 +1,5 @@
 use Rattle.std.proofs.Common.{◌∙◌, inl, inr, refl}
-use Rattle.words.proofs.Statuses.{on_err}
+use Rattle.command_line.proofs.Statuses.{on_err}
 use Rattle.view_commands.specs.Paging.{sources_of}
 use Rattle.view_commands.proofs.Paged.{all_page, first_page, said, whole_page}
 use Rattle.view_commands.proofs.Traced.{on_ok_map}

@@ -1,4 +1,4 @@
-use Rattle.words.proofs.Statuses.{on_err_map}
+use Rattle.command_line.proofs.Statuses.{on_err_map}
 use Rattle.view_commands.specs.Paging.{sources_of}
 use Rattle.view_commands.proofs.Paged.{page_of_some}
 use Rattle.view_commands.proofs.paging.page_files.Goals as goal

@@ -1,5 +1,5 @@
 use Rattle.std.proofs.Common.{◌∙◌}
-use Rattle.words.proofs.Statuses.{on_err_map}
+use Rattle.command_line.proofs.Statuses.{on_err_map}
 use Rattle.view_commands.proofs.Traced.{on_ok_map, whole_text, first_text}
 use Rattle.view_commands.proofs.tracing.trace_bytes.Goals as goal
 

@@ -14,7 +14,7 @@ use Rattle.bt_tick.proofs.Nests.{closed_at}
 use Rattle.bt_tick.proofs.Leaving.{none_left}
 use Rattle.bt_tick.proofs.Numbers.{star_wrote, tries_wrote, ticks_wrote, tries_lost, ticks_lost, end_star}
 use Rattle.bt_tick.proofs.SmallNumbers.{small}
-use Rattle.bt_tick.proofs.Handing.{line_goes, line_stops, star_goes, star_stops, star_runs, tries_passes, ticks_ends, closes, closes_at, rested, only_closed, handed}
+use Rattle.bt_tick.proofs.ChildStatus.{line_goes, line_stops, star_goes, star_stops, star_runs, tries_passes, ticks_ends, closes, closes_at, rested, only_closed, handed}
 use Rattle.bt_tick.proofs.machine.Machine.ascend.Goals as goal
 
 pub advance-requires : goal.advance-requires

@@ -3,7 +3,7 @@ use Rattle.job_core.specs.declared.names.JobName.TheVariants.{Think}
 use Rattle.job_core.specs.declared.names.Event.TheVariants.{Ask}
 use Rattle.frame_jobs.specs.Boards.{MayHappen}
 use Rattle.frame_jobs.specs.contracts.board.FrameJobs.{the_view}
-use Rattle.frame_jobs.proofs.Boarding.{asks, asks_next, after_of, happens, runs, held_job, held_step}
+use Rattle.frame_jobs.proofs.BoardEvents.{asks, asks_next, after_of, happens, runs, held_job, held_step}
 use Rattle.frame_jobs.proofs.Refusing.{runs_now}
 use Rattle.frame_jobs.proofs.board.FrameJobs.ask.Goals as goal
 

@@ -4,7 +4,7 @@ use Rattle.job_core.specs.declared.names.Event.TheVariants.{Finish}
 use Rattle.job_scheduler.proofs.Tests.{is_not}
 use Rattle.frame_jobs.specs.Boards.{MayHappen, IsTurned}
 use Rattle.frame_jobs.specs.contracts.board.FrameJobs.{the_view}
-use Rattle.frame_jobs.proofs.Boarding.{finishes, next_of, after_of, happens}
+use Rattle.frame_jobs.proofs.BoardEvents.{finishes, next_of, after_of, happens}
 use Rattle.frame_jobs.proofs.Refusing.{runs_now, ends_none}
 use Rattle.frame_jobs.proofs.board.FrameJobs.finish.Goals as goal
 

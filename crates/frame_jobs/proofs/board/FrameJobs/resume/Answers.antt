@@ -1,6 +1,6 @@
 use Rattle.job_core.specs.declared.names.Event.TheVariants.{Resume}
 use Rattle.frame_jobs.specs.contracts.board.FrameJobs.{the_view}
-use Rattle.frame_jobs.proofs.Boarding.{always, after_of}
+use Rattle.frame_jobs.proofs.BoardEvents.{always, after_of}
 use Rattle.frame_jobs.proofs.board.FrameJobs.resume.Goals as goal
 
 pub invariant_of-self-2 : goal.invariant_of-self-2

@@ -3,7 +3,7 @@ use Rattle.job_core.specs.declared.names.JobName.TheVariants.{Logic}
 use Rattle.job_core.specs.declared.names.Event.TheVariants.{Spread, Hold}
 use Rattle.job_scheduler.proofs.Tests.{is_above}
 use Rattle.frame_jobs.specs.contracts.board.FrameJobs.{the_view}
-use Rattle.frame_jobs.proofs.Boarding.{spreads, waits, after_of, held_job, held_step}
+use Rattle.frame_jobs.proofs.BoardEvents.{spreads, waits, after_of, held_job, held_step}
 use Rattle.frame_jobs.proofs.board.FrameJobs.spread.Goals as goal
 
 pub invariant_of-self-then-has_slot : goal.invariant_of-self-then-has_slot

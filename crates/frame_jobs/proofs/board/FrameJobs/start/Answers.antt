@@ -1,6 +1,6 @@
 use Rattle.job_core.specs.declared.names.Event.TheVariants.{Start}
 use Rattle.frame_jobs.specs.contracts.board.FrameJobs.{the_view}
-use Rattle.frame_jobs.proofs.Boarding.{always, next_of, after_of}
+use Rattle.frame_jobs.proofs.BoardEvents.{always, next_of, after_of}
 use Rattle.frame_jobs.proofs.board.FrameJobs.start.Goals as goal
 
 pub start-requires : goal.start-requires

@@ -1,7 +1,7 @@
 use Rattle.std.proofs.Common.{sym, ◌∙◌}
 use Rattle.job_core.specs.declared.names.Event.TheVariants.{Stop}
 use Rattle.frame_jobs.specs.contracts.board.FrameJobs.{the_view}
-use Rattle.frame_jobs.proofs.Boarding.{always, after_of}
+use Rattle.frame_jobs.proofs.BoardEvents.{always, after_of}
 use Rattle.frame_jobs.proofs.board.FrameJobs.stop.Goals as goal
 
 pub invariant_of-self : goal.invariant_of-self

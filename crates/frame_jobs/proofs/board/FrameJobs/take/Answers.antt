@@ -9,7 +9,7 @@ use Rattle.job_scheduler.specs.declared.next.Next.{Next}
 use Rattle.job_scheduler.specs.Looks.{Always, IsGivenTo, IsPlace, as_pick}
 use Rattle.frame_jobs.specs.Boards.{MayHappen}
 use Rattle.frame_jobs.specs.contracts.board.FrameJobs.{the_view}
-use Rattle.frame_jobs.proofs.Boarding.{always, after_of}
+use Rattle.frame_jobs.proofs.BoardEvents.{always, after_of}
 use Rattle.frame_jobs.proofs.Refusing.{not_given}
 use Rattle.frame_jobs.proofs.Taking.{new_first, ready_first}
 use Rattle.frame_jobs.proofs.board.FrameJobs.take.Goals as goal

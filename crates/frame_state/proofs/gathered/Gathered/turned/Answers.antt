@@ -7,7 +7,7 @@ use Rattle.game_rules.specs.Game.{Game}
 use Rattle.frame_state.specs.declared.kept_memory.KeptMemory.{KeptMemory}
 use Rattle.frame_state.specs.Names.{FrameOf}
 use Rattle.frame_state.specs.Contents.{statuses_in, IsAfter}
-use Rattle.frame_parts.specs.Distances.{KnownOf}
+use Rattle.frame_parts.specs.Distances.{DistanceCacheOf}
 use Rattle.frame_state.specs.Logic.{AreGathered}
 use Rattle.frame_state.proofs.Turning.{an_intent_each, is_after}
 use Rattle.frame_state.proofs.gathered.Gathered.turned.Goals as goal
@@ -40,7 +40,7 @@ invariant_of-result c =
       later,
       subst (λ (v : Vec KeptMemory Global). IsAfter p.game p.frame (arc_value c.in_ok-new.field-0) v.items) (sym c.in_ok-try_clone.ensures) after,
       ap (λ (v : Vec Status Global). v.items) c.in_ok-try_clone-2.ensures ∙ are.statuses_are,
-      ap (λ (k : KnownOf). k.ground) (c.in_ok-known.ensures ∙ c.known.ensures),
+      ap (λ (k : DistanceCacheOf). k.ground) (c.in_ok-known.ensures ∙ c.known.ensures),
       tt,
     ) in
     subst

@@ -2,7 +2,7 @@ use Rattle.std.proofs.Common.{None, is_some}
 use Rattle.std.proofs.lemmas.List.{map-set}
 use Rattle.std.proofs.lemmas.Result.{err_from_is_err_and}
 use Rattle.job_board.proofs.Staying.{has_place, works_after}
-use Rattle.task_board.proofs.Handing.{handed_by}
+use Rattle.task_board.proofs.OwnEvents.{handed_by}
 use Rattle.job_board.proofs.board.Board.hand_in.Goals as goal
 
 pub returns-in_err-hand_in-clause-refused : goal.returns-in_err-hand_in-clause-refused

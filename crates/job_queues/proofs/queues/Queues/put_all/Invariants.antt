@@ -2,7 +2,7 @@ use Rattle.std.proofs.Common.{◌≡◌, ◌+◌, ◌-◌, ◌≤◌, ℕ, List,
 use Rattle.job_core.specs.declared.names.JobName.{JobName}
 use Rattle.board_model.specs.Board.{put_all}
 use Rattle.job_queues.specs.Waiting.{BoundedQueues, with_fresh}
-use Rattle.job_queues.specs.declared.lane.Lane.{Lane}
+use Rattle.job_queues.specs.declared.priority_queue.PriorityQueue.{PriorityQueue}
 use Rattle.job_queues.specs.contracts.queues.Queues.{the_view}
 use Rattle.job_queues.proofs.queues.Queues.put_all.Given as goal
 
@@ -11,7 +11,7 @@ abbrev pub with_all : BoundedQueues → List JobName → BoundedQueues
 with_all q jobs = with_fresh q (put_all q.queues.fresh jobs)
 
 -- room for so many new jobs, and for each ready fiber
-pub record HasRoom (fibers more : ℕ) (lane : Lane) : Type 0 where
+pub record HasRoom (fibers more : ℕ) (lane : PriorityQueue) : Type 0 where
   pub fresh : lane.fresh.used + more ≤ lane.fresh.room
   pub ready : fibers ≤ lane.ready.room
 

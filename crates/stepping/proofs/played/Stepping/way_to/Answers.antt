@@ -2,7 +2,7 @@ use Rattle.std.proofs.Common.{◌∙◌, ap, ℕ}
 use Rattle.grid_world.specs.Grid.{Point}
 use Rattle.grid_world.specs.Way.{way}
 use Rattle.grid_world.specs.World.{point}
-use Rattle.frame_parts.specs.Distances.{KnownOf}
+use Rattle.frame_parts.specs.Distances.{DistanceCacheOf}
 use Rattle.game_rules.proofs.Ground.{way_stays, map_stays}
 use Rattle.stepping.specs.Played.{Played, way_under}
 use Rattle.stepping.proofs.GroundUnder.{ground_under}
@@ -23,6 +23,6 @@ returns c =
     c.in_ok-answer.ensures.way
     ∙ way_stays c.in_ok-known.known.ground x.world (ground_under _ c.in_ok-known.known x.known c.args.signals c.in_ok-known.ensures c.self.invariant.1 x.world c.self.invariant.0.ground)
     c.in_ok-known.known.signals at place
-    ∙ ap (λ (k : KnownOf). way x.world k.signals at place) c.in_ok-known.ensures
+    ∙ ap (λ (k : DistanceCacheOf). way x.world k.signals at place) c.in_ok-known.ensures
     ∙ ap (λ (q : Point). way x.world c.args.signals q place) c.cell_on-cell.ensures.cell
     ∙ ap (λ (p : Played). way_under p c.args.signals a place) c.self.view_is

@@ -5,7 +5,7 @@ use Rattle.job_scheduler.specs.declared.board_fault.BoardFault.TheVariants.{Wron
 use Rattle.job_core.specs.Core.{Runs}
 use Rattle.task_board.specs.Boards.{Played, IsRefused, state_in}
 use Rattle.task_board.specs.Parked.{IsOtherParked}
-use Rattle.task_board.proofs.Boarding.{known, not_running, other_result, ask_legal, ask_full, seen_as}
+use Rattle.task_board.proofs.BoardEvents.{known, not_running, other_result, ask_legal, ask_full, seen_as}
 use Rattle.task_board.proofs.board.TaskBoard.ask_own.Goals as goal
 
 pub returns-in-Err-clause-refused : goal.returns-in-Err-clause-refused

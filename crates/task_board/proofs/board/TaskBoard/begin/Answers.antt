@@ -1,6 +1,6 @@
 use Rattle.std.proofs.Common.{refl}
 use Rattle.job_core.specs.declared.names.Event.TheVariants.{Start}
-use Rattle.task_board.proofs.Boarding.{next_from, kept_after, happens}
+use Rattle.task_board.proofs.BoardEvents.{next_from, kept_after, happens}
 use Rattle.task_board.proofs.board.TaskBoard.begin.Goals as goal
 
 pub start-requires : goal.start-requires

@@ -4,7 +4,7 @@ use Rattle.job_core.specs.Core.{IsLegalList}
 use Rattle.job_core.specs.declared.names.Event.TheVariants.{Spread, Hold}
 use Rattle.job_scheduler.proofs.Tests.{is_above}
 use Rattle.task_board.specs.Boards.{Played, setup_in, state_in}
-use Rattle.task_board.proofs.Boarding.{known, spread_needs, hold_needs, spread_refused}
+use Rattle.task_board.proofs.BoardEvents.{known, spread_needs, hold_needs, spread_refused}
 use Rattle.task_board.proofs.Beginning.{neither_begins, spread_begins}
 use Rattle.task_board.proofs.board.TaskBoard.begin_frame.Goals as goal
 

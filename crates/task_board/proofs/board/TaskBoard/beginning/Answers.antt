@@ -5,7 +5,7 @@ use Rattle.job_core.specs.declared.names.JobName.TheVariants.{Logic}
 use Rattle.job_core.specs.Core.{Runs}
 use Rattle.job_scheduler.specs.Looks.{IsRunning}
 use Rattle.task_board.specs.Boards.{state_in}
-use Rattle.task_board.proofs.Boarding.{known, not_running, not_a_logic, not_at_start, seen_as}
+use Rattle.task_board.proofs.BoardEvents.{known, not_running, not_a_logic, not_at_start, seen_as}
 use Rattle.task_board.specs.Boards.{NoOther}
 use Rattle.task_board.proofs.board.TaskBoard.beginning.Goals as goal
 

@@ -5,7 +5,7 @@ use Rattle.job_scheduler.specs.Looks.{IsToShow}
 use Rattle.job_scheduler.specs.declared.board_fault.BoardFault.TheVariants.{OutOfMemory}
 use Rattle.task_board.specs.FrameStore.{FrameStoreOf}
 use Rattle.task_board.specs.Boards.{IsEmitRefused, IsShown, state_in}
-use Rattle.task_board.proofs.Boarding.{there_for, known, next, kept_after, happens, seen_as, emit_refused}
+use Rattle.task_board.proofs.BoardEvents.{there_for, known, next, kept_after, happens, seen_as, emit_refused}
 use Rattle.task_board.proofs.board.TaskBoard.emit.Goals as goal
 
 pub returns-in_err-frame-clause-refused : goal.returns-in_err-frame-clause-refused

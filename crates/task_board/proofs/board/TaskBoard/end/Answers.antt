@@ -3,8 +3,8 @@ use Rattle.job_core.specs.declared.names.Event.TheVariants.{Finish}
 use Rattle.task_board.specs.Boards.{Played, setup_in, state_in}
 use Rattle.task_board.specs.FrameStore.{FrameStoreOf}
 use Rattle.task_board.specs.Dones.{job_done}
-use Rattle.task_board.proofs.Handed.{before_last, wanted}
-use Rattle.task_board.proofs.Boarding.{job_running, there_for, next, kept_after, happens, seen_as}
+use Rattle.task_board.proofs.PlacesOfResults.{before_last, wanted}
+use Rattle.task_board.proofs.BoardEvents.{job_running, there_for, next, kept_after, happens, seen_as}
 use Rattle.task_board.proofs.board.TaskBoard.end.Goals as goal
 
 pub next_of-requires : goal.next_of-requires

@@ -4,7 +4,7 @@ use Rattle.job_scheduler.specs.Looks.{IsRunning}
 use Rattle.job_scheduler.specs.declared.board_fault.BoardFault.TheVariants.{WrongResult}
 use Rattle.task_board.specs.Boards.{Played, IsRefused}
 use Rattle.task_board.specs.Dones.{IsOtherDone}
-use Rattle.task_board.proofs.Boarding.{known, not_running, other_result, seen_as}
+use Rattle.task_board.proofs.BoardEvents.{known, not_running, other_result, seen_as}
 use Rattle.task_board.proofs.board.TaskBoard.finish.Goals as goal
 
 pub returns-in-Err-clause-refused : goal.returns-in-Err-clause-refused

@@ -1,7 +1,7 @@
 use Rattle.std.proofs.Common.{◌≡◌, refl, ap, ◌∙◌, arith}
 use Rattle.job_scheduler.proofs.Tests.{is_not}
 use Rattle.job_scheduler.specs.Numbers.{Numbers}
-use Rattle.task_board.proofs.Idling.{busy_more}
+use Rattle.task_board.proofs.IdleWorkers.{busy_more}
 use Rattle.task_board.proofs.board.TaskBoard.first_idle.Goals as goal
 
 pub returns-then-is_idle-clause-idle : goal.returns-then-is_idle-clause-idle

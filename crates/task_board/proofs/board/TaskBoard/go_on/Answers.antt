@@ -1,6 +1,6 @@
 use Rattle.job_core.specs.declared.names.Event.TheVariants.{Resume}
 use Rattle.task_board.specs.Boards.{state_in}
-use Rattle.task_board.proofs.Boarding.{next_at, kept_after, happens, seen_as}
+use Rattle.task_board.proofs.BoardEvents.{next_at, kept_after, happens, seen_as}
 use Rattle.task_board.proofs.board.TaskBoard.go_on.Goals as goal
 
 pub resume-requires : goal.resume-requires

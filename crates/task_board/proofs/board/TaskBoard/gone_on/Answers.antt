@@ -4,7 +4,7 @@ use Rattle.job_core.specs.Core.{Waits}
 use Rattle.board_model.specs.Lists.{first_place}
 use Rattle.board_model.specs.Board.{Held, core_of, holds}
 use Rattle.task_board.specs.Boards.{IsResume, setup_in, state_in}
-use Rattle.task_board.proofs.Boarding.{task_there}
+use Rattle.task_board.proofs.BoardEvents.{task_there}
 use Rattle.task_board.proofs.board.TaskBoard.gone_on.Goals as goal
 
 pub turn-requires-clause-spread : goal.turn-requires-clause-spread

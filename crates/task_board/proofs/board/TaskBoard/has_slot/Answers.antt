@@ -1,6 +1,6 @@
 use Rattle.std.proofs.Common.{◌≤◌, ◌+◌}
 use Rattle.std.specs.Prelude.{◌↔◌, IsTrue}
-use Rattle.task_board.proofs.Boarding.{known}
+use Rattle.task_board.proofs.BoardEvents.{known}
 use Rattle.task_board.proofs.board.TaskBoard.has_slot.Goals as goal
 
 pub returns : goal.returns

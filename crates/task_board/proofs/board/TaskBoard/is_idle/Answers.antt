@@ -1,8 +1,8 @@
 use Rattle.std.proofs.Common.{Ok, Err}
 use Rattle.job_scheduler.proofs.Tests.{passes, fails}
 use Rattle.job_scheduler.specs.Looks.{IsRunning}
-use Rattle.task_board.proofs.Boarding.{known, seen_as}
-use Rattle.task_board.proofs.Idling.{is_idle}
+use Rattle.task_board.proofs.BoardEvents.{known, seen_as}
+use Rattle.task_board.proofs.IdleWorkers.{is_idle}
 use Rattle.task_board.proofs.board.TaskBoard.is_idle.Goals as goal
 
 pub returns-in-Ok : goal.returns-in-Ok

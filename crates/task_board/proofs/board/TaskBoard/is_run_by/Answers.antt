@@ -2,7 +2,7 @@ use Rattle.std.proofs.Common.{◌≡◌, Ok, Err, sym, ap, ◌∙◌}
 use Rattle.board_model.specs.Board.{Held}
 use Rattle.job_scheduler.specs.Looks.{IsRunning}
 use Rattle.task_board.specs.Boards.{state_in}
-use Rattle.task_board.proofs.Boarding.{known, not_run, runs_one, same_is, same_not, seen_as}
+use Rattle.task_board.proofs.BoardEvents.{known, not_run, runs_one, same_is, same_not, seen_as}
 use Rattle.task_board.proofs.board.TaskBoard.is_run_by.Goals as goal
 
 pub returns-in-Err-clause-other : goal.returns-in-Err-clause-other

@@ -8,7 +8,7 @@ use Rattle.job_scheduler.specs.Looks.{IsRunning}
 use Rattle.job_scheduler.specs.declared.board_fault.BoardFault.TheVariants.{WrongResult, Illegal, OutOfMemory}
 use Rattle.task_board.specs.Boards.{Played, IsRefused, setup_in, state_in}
 use Rattle.task_board.specs.Dones.{game_done, IsOtherDone}
-use Rattle.task_board.proofs.Boarding.{known, not_running, other_result, finish_legal, finish_full, finish_refused, seen_as}
+use Rattle.task_board.proofs.BoardEvents.{known, not_running, other_result, finish_legal, finish_full, finish_refused, seen_as}
 use Rattle.task_board.proofs.board.TaskBoard.may_end.Goals as goal
 
 pub returns-in_err-held-clause-refused : goal.returns-in_err-held-clause-refused

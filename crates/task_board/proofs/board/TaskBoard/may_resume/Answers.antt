@@ -5,7 +5,7 @@ use Rattle.board_model.specs.Lists.{first_place}
 use Rattle.board_model.specs.Board.{holds}
 use Rattle.job_queues.specs.Picks.{IsFirstAt}
 use Rattle.job_scheduler.specs.Logged.{kept}
-use Rattle.task_board.proofs.Boarding.{known, known_of}
+use Rattle.task_board.proofs.BoardEvents.{known, known_of}
 use Rattle.task_board.proofs.board.TaskBoard.may_resume.Goals as goal
 
 pub returns-in_default-clause-none : goal.returns-in_default-clause-none

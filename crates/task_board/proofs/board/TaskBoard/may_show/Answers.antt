@@ -5,4 +5,4 @@ pub returns-in-Some : goal.returns-in-Some
 returns-in-Some c = passes _ (c.in-Some.field-0, c.in-Some.ensures.some)
 
 pub returns-in-None : goal.returns-in-None
-returns-in-None c = fails _ (λ p. c.to_show.ensures.none c.in-None.is p.0 p.1)
+returns-in-None c = fails _ (λ p. c.to_emit.ensures.none c.in-None.is p.0 p.1)

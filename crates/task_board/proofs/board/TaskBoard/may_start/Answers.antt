@@ -2,7 +2,7 @@ use Rattle.job_core.specs.declared.names.Event.TheVariants.{Start}
 use Rattle.job_core.specs.Core.{IsLegal, same}
 use Rattle.job_queues.specs.Picks.{IsFirstAt}
 use Rattle.job_scheduler.specs.Logged.{kept}
-use Rattle.task_board.proofs.Boarding.{known, known_of}
+use Rattle.task_board.proofs.BoardEvents.{known, known_of}
 use Rattle.task_board.proofs.board.TaskBoard.may_start.Goals as goal
 
 pub returns-in_default-clause-none : goal.returns-in_default-clause-none

@@ -3,8 +3,8 @@ use Rattle.job_scheduler.proofs.Tests.{passes, fails}
 use Rattle.board_model.specs.Pick.{given}
 use Rattle.job_queues.specs.Names.{picked}
 use Rattle.job_scheduler.specs.Logged.{kept}
-use Rattle.task_board.proofs.Boarding.{known, known_of, seen_as}
-use Rattle.task_board.proofs.Idling.{nobody_given}
+use Rattle.task_board.proofs.BoardEvents.{known, known_of, seen_as}
+use Rattle.task_board.proofs.IdleWorkers.{nobody_given}
 use Rattle.task_board.proofs.board.TaskBoard.may_take.Goals as goal
 
 pub returns-then-is_stopped-clause-test : goal.returns-then-is_stopped-clause-test

@@ -10,9 +10,9 @@ use Rattle.job_scheduler.specs.Looks.{Always, IsGivenTo, IsPlace, as_pick}
 use Rattle.job_scheduler.specs.declared.next.Next.TheVariants as next
 use Rattle.task_board.specs.Boards.{setup_in, state_in, pick_in}
 use Rattle.task_board.specs.Given.{NobodyStarts}
-use Rattle.task_board.proofs.Boarding.{known, known_of, seen_as}
+use Rattle.task_board.proofs.BoardEvents.{known, known_of, seen_as}
 use Rattle.task_board.proofs.Finding.{new_first, ready_first}
-use Rattle.task_board.proofs.Idling.{not_refused, nobody_starts}
+use Rattle.task_board.proofs.IdleWorkers.{not_refused, nobody_starts}
 use Rattle.task_board.proofs.board.TaskBoard.next_given.Goals as goal
 
 pub returns-in_default-given-clause-none : goal.returns-in_default-given-clause-none

@@ -5,10 +5,10 @@ use Rattle.game_jobs.specs.Instance.{tree_of}
 use Rattle.job_core.specs.declared.names.JobName.TheVariants.{Think}
 use Rattle.job_core.specs.declared.names.Event.TheVariants.{Ask}
 use Rattle.task_board.specs.Boards.{Played, state_in}
-use Rattle.task_board.proofs.Boarding.{an_agent, there_for, few_questions, next_asked, kept_after, happens, seen_as}
+use Rattle.task_board.proofs.BoardEvents.{an_agent, there_for, few_questions, next_asked, kept_after, happens, seen_as}
 use Rattle.job_core.specs.Core.{step_of}
 use Rattle.task_board.specs.FrameStore.{FrameStoreOf}
-use Rattle.task_board.proofs.Handed.{parked_stores}
+use Rattle.task_board.proofs.PlacesOfResults.{parked_stores}
 use Rattle.task_board.proofs.board.TaskBoard.park.Goals as goal
 
 pub tree_of-requires : goal.tree_of-requires

@@ -2,7 +2,7 @@ use Rattle.std.proofs.Common.{refl, subst, inl}
 use Rattle.frame_params.specs.Tasks.{IsTaskAt}
 use Rattle.task_board.specs.FrameStore.{FrameStoreOf}
 use Rattle.task_board.specs.Boards.{Played}
-use Rattle.task_board.proofs.Boarding.{task_there}
+use Rattle.task_board.proofs.BoardEvents.{task_there}
 use Rattle.task_board.proofs.board.TaskBoard.started.Goals as goal
 
 pub task-requires-clause-parts : goal.task-requires-clause-parts

@@ -1,7 +1,7 @@
 use Rattle.std.proofs.Common.{◌≡◌, refl, sym, ◌∙◌, subst, inl, inr}
 use Rattle.job_core.specs.declared.names.Event.TheVariants.{Stop}
 use Rattle.task_board.specs.Boards.{IsStopped}
-use Rattle.task_board.proofs.Boarding.{known, next, kept_after, happens, seen_as}
+use Rattle.task_board.proofs.BoardEvents.{known, next, kept_after, happens, seen_as}
 use Rattle.task_board.proofs.board.TaskBoard.stop.Goals as goal
 
 pub returns-then-is_stopped : goal.returns-then-is_stopped

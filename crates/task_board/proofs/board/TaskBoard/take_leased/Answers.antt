@@ -3,7 +3,7 @@ use Rattle.job_scheduler.specs.Looks.{Always, IsGivenTo}
 use Rattle.job_scheduler.specs.declared.board_fault.BoardFault.TheVariants.{OutOfMemory}
 use Rattle.task_board.specs.Boards.{IsTaken, IsTakeRefused}
 use Rattle.task_board.specs.Found.{IsFound}
-use Rattle.task_board.proofs.Boarding.{known, idle_or, seen_as}
+use Rattle.task_board.proofs.BoardEvents.{known, idle_or, seen_as}
 use Rattle.task_board.proofs.Finding.{found, want_of_memory, is_taken}
 use Rattle.task_board.proofs.board.TaskBoard.take_leased.Goals as goal
 

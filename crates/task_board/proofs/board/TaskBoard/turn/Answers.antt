@@ -6,7 +6,7 @@ use Rattle.frame_state.specs.Names.{FrameOf, logic_of}
 use Rattle.frame_state.specs.Logic.{IsRoomIn}
 use Rattle.task_board.specs.FrameStore.{FrameStoreOf}
 use Rattle.task_board.specs.Boards.{Played, state_in}
-use Rattle.task_board.proofs.Boarding.{task_there, next_at, kept_after, happens, seen_as}
+use Rattle.task_board.proofs.BoardEvents.{task_there, next_at, kept_after, happens, seen_as}
 use Rattle.task_board.proofs.board.TaskBoard.turn.Goals as goal
 
 pub ready-requires : goal.ready-requires

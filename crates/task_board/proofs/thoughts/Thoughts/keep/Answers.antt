@@ -3,7 +3,7 @@ use Rattle.std.specs.List.{insert, position_or_len}
 use Rattle.frame_state.specs.Names.{PartOf}
 use Rattle.task_board.specs.Parts.{AreInOrder, AreOfGame}
 use Rattle.task_board.specs.FrameStore.{part_name}
-use Rattle.task_board.proofs.Parting.{place_within, of_game_put, put_at, in_order_put}
+use Rattle.task_board.proofs.PartOrder.{place_within, of_game_put, put_at, in_order_put}
 use Rattle.task_board.proofs.thoughts.Thoughts.keep.Goals as goal
 
 pub put_at-requires-clause-place : goal.put_at-requires-clause-place

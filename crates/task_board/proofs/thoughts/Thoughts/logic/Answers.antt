@@ -1,5 +1,5 @@
 use Rattle.std.proofs.Common.{length, ◌∙◌}
-use Rattle.task_board.proofs.Parting.{all_parts}
+use Rattle.task_board.proofs.PartOrder.{all_parts}
 use Rattle.task_board.proofs.thoughts.Thoughts.logic.Goals as goal
 
 pub turn-requires : goal.turn-requires

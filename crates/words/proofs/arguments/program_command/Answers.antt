@@ -1,4 +1,0 @@
-use Rattle.words.proofs.arguments.program_command.Goals as goal
-
-pub returns : goal.returns
-returns c = c.program_of.ensures
