@@ -2,9 +2,9 @@
 #![tactic(auto)]
 
 mod numbers;
-mod read_whole;
+mod whole_reading;
 mod writing;
 
 pub use numbers::{push_hex, push_number};
-pub use read_whole::{ReadFault, read_whole};
+pub use whole_reading::{ReadFault, read_whole};
 pub use writing::{WriteFault, write_whole};

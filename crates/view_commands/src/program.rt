@@ -6,9 +6,9 @@ ghost use Rattle.view_commands.specs.Paging.{PagesSome, PagesSomePart};
 ghost use Rattle.view_commands.specs.Program.{AreRefused, AsksForPage, AsksToTrace};
 
 use crate::paging::page_files;
-use crate::read_view_words::read_view_words;
 use crate::request::ViewWords;
 use crate::tracing::trace_file;
+use crate::view_words_reading::read_view_words;
 use command_line::{Fault, end_with, refuse_words};
 use std::alloc::Global;
 use std::io::Write;

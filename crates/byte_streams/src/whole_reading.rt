@@ -1,5 +1,5 @@
 ghost use Rattle.std.specs.Prelude.{◌≡◌, IfOk, IfSome};
-ghost use Rattle.byte_streams.specs.declared.read_whole.ReadFault.TheVariants.{OutOfMemory};
+ghost use Rattle.byte_streams.specs.declared.whole_reading.ReadFault.TheVariants.{OutOfMemory};
 
 use std::alloc::{AllocError, Global};
 use std::io::Read;

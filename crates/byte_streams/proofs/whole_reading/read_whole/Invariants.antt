@@ -1,5 +1,5 @@
 use Rattle.std.specs.Io.KnownBytes.{Consumes}
-use Rattle.byte_streams.proofs.read_whole.read_whole.Given as goal
+use Rattle.byte_streams.proofs.whole_reading.read_whole.Given as goal
 
 abbrev pub invariant-reads : goal.invariant-reads
 invariant-reads g l = Consumes (g.R.Read.remaining l.initial.input) (g.R.Read.remaining l.input) l.bytes.items

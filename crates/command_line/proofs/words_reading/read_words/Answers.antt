@@ -1,7 +1,7 @@
 use Rattle.std.proofs.Common.{rules}
 use Rattle.command_line.specs.Program.{IsReading, program}
 use Rattle.command_line.proofs.Entered.{read_from, asked_for, has_texts, free}
-use Rattle.command_line.proofs.read_words.read_words.Goals as goal
+use Rattle.command_line.proofs.words_reading.read_words.Goals as goal
 
 pub returns-in-Ok-clause-reading : goal.returns-in-Ok-clause-reading
 returns-in-Ok-clause-reading c = read_from program free IsReading _ _ _ _ c.in_ok-command.ensures c.in-Ok.ensures.matches c.in-Ok.ensures.kinds (has_texts _ (search rules)) c.command_words.ensures.reading

@@ -1,6 +1,6 @@
 use Rattle.std.proofs.Common.{take, arith}
 use Rattle.byte_streams.proofs.Consumed.{reads_on, ends_here}
-use Rattle.byte_streams.proofs.read_whole.read_whole.Goals as goal
+use Rattle.byte_streams.proofs.whole_reading.read_whole.Goals as goal
 
 pub reads-preserved : goal.reads-preserved
 reads-preserved g c =
