@@ -1,11 +1,13 @@
 -- What a status tells of a level.
 use Rattle.std.proofs.Common.{◌≡◌, ◌∙◌, ◌⊎◌, inl, inr, ℕ, Bool, List, Option, Some, None, true, false, sym, ap, arith, Result, Ok, Err}
-use Rattle.std.specs.Prelude.{◌≢◌, [], is_some}
+use Rattle.std.specs.Prelude.{◌≢◌, [], is_some, MatchResult}
 use Rattle.std.proofs.lemmas.Bool.{both_ways}
 use Rattle.game_session.specs.Parts.{Parts}
 use Rattle.game_session.specs.Faults.{Fault}
 use Rattle.level_text.specs.Levels.{spelled, fault_view, Names, IsFaultOf}
 use Rattle.level_text.specs.Scripts.{script_of}
+use Rattle.level_text.specs.Sessions.{IsFaultOfBoth}
+use Rattle.level_text.specs.declared.session_fault.SessionFault.TheVariants as faults
 use Rattle.level_text.specs.declared.level_fault.LevelFault.{LevelFault}
 use Rattle.level_text.specs.declared.script_file.ScriptFault.{ScriptFault}
 use Rattle.level_text.specs.declared.script_file.ScriptFault.TheVariants.{OutOfMemory}
@@ -49,6 +51,17 @@ pub script_told : (level script : List ℕ) (parts : Parts) (fault : ScriptFault
 script_told level script parts fault status spells (inl none) e = inl (e ∙ ap script_status none)
 script_told level script parts fault status spells (inr is) e =
     inr (e ∙ sym (ap (λ r. session_status r (script_of script)) spells ∙ ap (session_status (Ok parts)) is))
+
+first_of_script : (answer : Result Parts Fault) (changes : Result (List Change) ScriptFault) (fault : ScriptFault) (status : ℕ)
+    → MatchResult answer (λ _. (fault ≡ OutOfMemory) ⊎ (changes ≡ Err fault)) (λ _. ⊥) → status ≡ script_status fault
+    → (status ≡ no_memory) ⊎ (status ≡ session_status answer changes)
+first_of_script (Ok parts) changes fault status (inl none) e = inl (e ∙ ap script_status none)
+first_of_script (Ok parts) changes fault status (inr is) e = inr (e ∙ sym (ap (session_status (Ok parts)) is))
+first_of_script (Err f) changes fault status h e = absurd h
+
+pub script_of_both_told : (level script : List ℕ) (fault : ScriptFault) (status : ℕ) → IsFaultOfBoth level script (faults.Script fault)
+    → status ≡ script_status fault → IsSessionStatus level script status
+script_of_both_told level script fault status is e = first_of_script (spelled level) (script_of script) fault status is e
 
 pub both_told : (level script : List ℕ) (parts : Parts) (changes : List Change) (status : ℕ) → spelled level ≡ Ok parts → script_of script ≡ Ok changes
     → status ≡ 0 → IsSessionStatus level script status

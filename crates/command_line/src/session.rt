@@ -4,7 +4,7 @@ ghost use Rattle.level_text.specs.Games.{spelled_game};
 
 use crate::program_fault::Fault;
 use game_session::Session;
-use level_text::{read_level, read_script};
+use level_text::{SessionFault, read_session};
 use std::alloc::Global;
 
 /// The game that a level's and a script's bytes spell; the level is read before the script.
@@ -12,7 +12,9 @@ pub fn session_of(alloc: Global, level: &[u8], script: &[u8]) -> Result<Session,
     ensures game { IfOk result (λ session. spelled_game level.now script.now ≡ Some session) }
     ensures fault { IfErr result (IsSessionFault level.now script.now) }
 {
-    let level = read_level(alloc, level)?;
-    let script = read_script(alloc, script)?;
-    Ok(Session::new(level, script))
+    match read_session(alloc, level, script) {
+        Ok(session) => Ok(session),
+        Err(SessionFault::Level(fault)) => Err(Fault::from(fault)),
+        Err(SessionFault::Script(fault)) => Err(Fault::from(fault)),
+    }
 }

@@ -12,3 +12,4 @@ pub mod Written
 pub mod Marks
 pub mod Begun
 pub mod Games
+pub mod Sessions

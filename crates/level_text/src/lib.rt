@@ -11,6 +11,8 @@ mod nodes;
 mod parts;
 mod read;
 mod script_file;
+mod session_fault;
+mod sessions;
 mod write;
 mod write_nodes;
 
@@ -19,5 +21,7 @@ pub use game_session::{Level, Script, Session};
 pub use level_fault::LevelFault;
 pub use read::{level_of, read_level};
 pub use script_file::{ScriptFault, read_script};
+pub use session_fault::SessionFault;
+pub use sessions::read_session;
 pub use write::write_level;
 pub use write_nodes::{argument_of, head_of};

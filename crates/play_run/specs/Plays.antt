@@ -1,12 +1,11 @@
 -- What comes of playing a game to its end, and of failing to.
-use Rattle.std.specs.Prelude.{◌≡◌, ℕ, ◌*◌, ◌⊎◌, List, Option, Err, MatchResult, IsSomeAnd, count_by, sum}
+use Rattle.std.specs.Prelude.{◌≡◌, ℕ, ◌*◌, List, Option, IsSomeAnd, count_by, sum}
 use Rattle.std.specs.Io.KnownBytes.{Appends, Keeps}
 use Rattle.game_rules.specs.Game.{Game}
 use Rattle.game_rules.specs.Text.{texts}
-use Rattle.level_text.specs.Levels.{spelled, IsFaultOf}
-use Rattle.level_text.specs.Scripts.{script_of}
 use Rattle.level_text.specs.Games.{spelled_game}
-use Rattle.level_text.specs.declared.script_file.ScriptFault.TheVariants.{OutOfMemory}
+use Rattle.level_text.specs.Sessions.{IsFaultOfBoth}
+use Rattle.level_text.specs.declared.session_fault.SessionFault.TheVariants as faults
 use Rattle.job_core.specs.Core.{IsComplete}
 use Rattle.job_scheduler.specs.Numbers.{Numbers}
 use Rattle.frame_state.specs.Contents.{bands_in}
@@ -32,7 +31,6 @@ pub record IsPlayed (old new : Option (List ℕ)) (g : Game) (n : Numbers) (r : 
 
 -- a fault of the level comes before one of the script, and after neither is anything written
 abbrev pub IsPlayFault : (old new : Option (List ℕ)) → (level script : List ℕ) → Numbers → PlayFault → Type 0
-IsPlayFault old new level script n (Level fault) = IsFaultOf (spelled level) fault × Keeps old new
-IsPlayFault old new level script n (Script fault) =
-    MatchResult (spelled level) (λ _. (fault ≡ OutOfMemory) ⊎ (script_of script ≡ Err fault)) (λ _. ⊥) × Keeps old new
+IsPlayFault old new level script n (Level fault) = IsFaultOfBoth level script (faults.Level fault) × Keeps old new
+IsPlayFault old new level script n (Script fault) = IsFaultOfBoth level script (faults.Script fault) × Keeps old new
 IsPlayFault old new level script n (Run fault) = IsSomeAnd (spelled_game level script) (λ g. WrotePart old new g n.frames fault.frames)

@@ -8,8 +8,7 @@ ghost use Rattle.play_run.specs.Plays.{IsPlayed, IsPlayFault};
 use crate::play_fault::PlayFault;
 use crate::report::RunReport;
 use crate::whole_run::run_journalled;
-use game_session::Session;
-use level_text::{read_level, read_script};
+use level_text::{SessionFault, read_session};
 use run_printer::{Journal, NoJournal};
 use run_worker::Gate;
 use std::alloc::Global;
@@ -35,15 +34,11 @@ pub fn run_bytes_journalled<W: Write, J: Journal, G: Gate, R: Threads + Wait + C
     ensures journal { IfOk result (λ r. Appends (J.contents journal.old) (J.contents journal.new) (events_text r.events.items)) }
     ensures part { OnErr result (TakesPart (J.contents journal.old) (J.contents journal.new)) }
 {
-    let level = match read_level(alloc, level) {
-        Ok(level) => level,
-        Err(fault) => return Err(PlayFault::Level(fault)),
+    let session = match read_session(alloc, level, script) {
+        Ok(session) => session,
+        Err(SessionFault::Level(fault)) => return Err(PlayFault::Level(fault)),
+        Err(SessionFault::Script(fault)) => return Err(PlayFault::Script(fault)),
     };
-    let script = match read_script(alloc, script) {
-        Ok(script) => script,
-        Err(fault) => return Err(PlayFault::Script(fault)),
-    };
-    let session = Session::new(level, script);
     match run_journalled(rt, alloc, &session, settings, out, journal, gate) {
         Ok(report) => Ok(report),
         Err(fault) => Err(PlayFault::Run(fault)),
