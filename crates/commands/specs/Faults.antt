@@ -1,7 +1,9 @@
 -- Which fault the program reports.
 use Rattle.std.specs.Prelude.{ℕ, ◌≡◌, ◌⊎◌, List, IsOk, IsSome}
 use Rattle.level_text.specs.Games.{spelled_game}
-use Rattle.level_text.specs.Levels.{spelled, IsFaultOf}
+use Rattle.level_text.specs.Levels.{spelled}
+use Rattle.level_text.specs.Sessions.{IsFaultOfBoth}
+use Rattle.level_text.specs.declared.session_fault.SessionFault.TheVariants as faults
 use Rattle.run_shared.specs.declared.fault.Cause.{Cause}
 use Rattle.run_shared.specs.declared.fault.Cause.TheVariants as causes
 use Rattle.play_run.specs.declared.play_fault.PlayFault.{PlayFault}
@@ -9,7 +11,7 @@ use Rattle.play_run.specs.declared.play_fault.PlayFault.TheVariants.{Level, Scri
 use Rattle.command_line.specs.declared.program_fault.Fault.{Fault}
 use Rattle.command_line.specs.declared.program_fault.Fault.TheVariants.{Write, Spawn, GateClosed, Stranger, OutOfMemory}
 use Rattle.command_line.specs.Faults.{IsOfLevel, IsOfScript}
-use Rattle.command_line.specs.Sessions.{IsLevelFault, IsFirstOfScript}
+use Rattle.command_line.specs.Sessions.{IsLevelFault}
 
 abbrev pub IsOfCause : Cause → Fault → Type 0
 IsOfCause causes.OutOfMemory fault = fault ≡ OutOfMemory
@@ -24,8 +26,8 @@ IsOfPlay (Script f) fault = IsOfScript f fault
 IsOfPlay (Run f) fault = IsOfCause f.cause fault
 
 abbrev pub IsPlayFault : (level script : List ℕ) → PlayFault → Type 0
-IsPlayFault level script (Level f) = IsFaultOf (spelled level) f
-IsPlayFault level script (Script f) = IsFirstOfScript level script f
+IsPlayFault level script (Level f) = IsFaultOfBoth level script (faults.Level f)
+IsPlayFault level script (Script f) = IsFaultOfBoth level script (faults.Script f)
 IsPlayFault level script (Run f) = IsSome (spelled_game level script)
 
 -- the level's fault, or a write that failed, or out of memory
