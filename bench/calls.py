@@ -16,7 +16,7 @@ LEVELS = ("open128", "maze128", "deep", "draw128", "mixed", "tiny")
 CALLS = ("step", "text", "digest", "fork")
 
 
-def spent(command_line):
+def spent(words):
     before = resource.getrusage(resource.RUSAGE_CHILDREN)
     subprocess.run(words, stdout=subprocess.DEVNULL, check=True)
     after = resource.getrusage(resource.RUSAGE_CHILDREN)

@@ -74,7 +74,7 @@ def clause_of(goal):
 def why_wrong(wanted, said, source):
     """Returns why a refusal isn't the one that is wanted, or None."""
     words = wanted.split()
-    if len(command_line) != 2:
+    if len(words) != 2:
         return f"`refused-by: {wanted}` is no function and its clause"
     owner, name, goal = named(said, source)
     *types, function = words[0].split("::")

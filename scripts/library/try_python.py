@@ -168,7 +168,7 @@ def try_editable(python, folder, lib):
     for words in (["."], ["--no-build-isolation", "."], ["-e", "."]):
         need(own, "-m", "pip", "install", "-q", *words, BTWORLD_LIBRARY=str(lib))
         where = need(own, "-c", "import btworld; print(btworld.__file__)", BTWORLD_LIBRARY=str(lib))
-        look((str(PACKAGE) in where) == (words == ["-e", "."]), f"pip install {' '.join(command_line)}: {where}")
+        look((str(PACKAGE) in where) == (words == ["-e", "."]), f"pip install {' '.join(words)}: {where}")
         need(own, "-m", "pip", "uninstall", "-q", "-y", "btworld")
 
 

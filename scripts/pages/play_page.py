@@ -84,7 +84,7 @@ def ran(*words, **how):
     it = subprocess.run([str(word) for word in words], stdin=subprocess.DEVNULL, stdout=subprocess.PIPE, stderr=subprocess.STDOUT, text=True, errors="replace", **how)
     if it.returncode:
         print(it.stdout[-6000:], end="", file=sys.stderr)
-        stop(f"{Path(str(words[0])).name} {words[1] if len(command_line) > 1 else ''}: status {it.returncode}")
+        stop(f"{Path(str(words[0])).name} {words[1] if len(words) > 1 else ''}: status {it.returncode}")
     return it.stdout
 
 
@@ -323,9 +323,9 @@ def main():
     if words == ["--keep-module"]:
         return write(page(module_of((TOP / "play.html").read_text())))
     is_check = words[:1] == ["--check"]
-    if len(command_line) > 2 or (words and not is_check):
+    if len(words) > 2 or (words and not is_check):
         sys.exit(__doc__)
-    program = Path(words[1]).resolve() if len(command_line) > 1 else PROGRAM
+    program = Path(words[1]).resolve() if len(words) > 1 else PROGRAM
     missing = [*what_is_missing(is_check, program)]
     if missing:
         stop(f"missing: {', '.join(missing)}", 2)

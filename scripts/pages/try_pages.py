@@ -24,7 +24,7 @@ def ran(*words):
 
 def main():
     words = sys.argv[1:]
-    if len(command_line) not in (1, 2) or words[0] not in PROGRAMS:
+    if len(words) not in (1, 2) or words[0] not in PROGRAMS:
         sys.exit(__doc__)
     browser = words[0]
     missing = [it for it in ("node", PROGRAMS[browser]) if not shutil.which(it)]

@@ -491,9 +491,9 @@ def read(path):
         return it.read()
 
 
-def main(command_line):
+def main(words):
     options = dict(zip(words[2::2], words[3::2]))
-    if len(command_line) < 2 or words[0] not in ("play", "check", "digest", "state", "why") or len(command_line) % 2:
+    if len(words) < 2 or words[0] not in ("play", "check", "digest", "state", "why") or len(words) % 2:
         sys.exit(__doc__)
     frames = int(options.get("--frames", options.get("--frame", 0)))
     try:

@@ -154,7 +154,7 @@ def may_be(shown, whole, refuse, words):
     return False
 
 
-def workers_of(command_line):
+def workers_of(words):
     return int(words[words.index("--workers") + 1]) if "--workers" in words else 1
 
 
@@ -197,7 +197,7 @@ def try_form(program, folder, ahead, name, words, given, status, out):
                 same += 1
             elif (
                 may_be(shown, whole, refuse, words)
-                and (not shown.err.endswith(b"spawn\n") or spawns == 0 or workers_of(command_line) > 1)
+                and (not shown.err.endswith(b"spawn\n") or spawns == 0 or workers_of(words) > 1)
                 and is_kept(program, folder, made, whole, words)
             ):
                 other += 1

@@ -66,7 +66,7 @@ def main():
         found = shown([given.program, *words], given.seconds, processors[runs % len(processors)], out)
         if found != (status, *wanted):
             wrong += 1
-            print(f"differs: {' '.join(command_line)}: status {found[0]}, {found[2]!r}", flush=True)
+            print(f"differs: {' '.join(words)}: status {found[0]}, {found[2]!r}", flush=True)
 
     for both in given.levels:
         level, _, script = both.partition(":")

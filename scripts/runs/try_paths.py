@@ -93,7 +93,7 @@ class Room:
         words = [NAMES.get(it, out if it == "OUT" else it) for it in form.split()]
         shown = self.run(words, by_launcher, to)
         line = f"words: {output} would overwrite {file}\n"
-        self.note(f"{' '.join(command_line)}, {'scripts/programs/same_file.sh' if by_launcher else 'the program'}", shown == (2, b"", line), shown)
+        self.note(f"{' '.join(words)}, {'scripts/programs/same_file.sh' if by_launcher else 'the program'}", shown == (2, b"", line), shown)
 
 
 def main():
