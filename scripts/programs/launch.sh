@@ -83,9 +83,9 @@ if [ $# -gt 0 ] && program=$(of_other_sources); then
     for word in "$@"; do
         case $before,$word in
             ,*) asked+=("$word") ;;
-            *,--script=* | *,--log=*) asked+=("${word%%=*}=/nowhere/at/all") ;;
+            *,--script=* | *,--live=* | *,--log=*) asked+=("${word%%=*}=/nowhere/at/all") ;;
             *,-*) asked+=("$word") ;;
-            --script,* | --log,*) asked+=(/nowhere/at/all) ;;
+            --script,* | --live,* | --log,*) asked+=(/nowhere/at/all) ;;
             --*=*,* | [!-]*,*) asked+=(/nowhere/at/all) ;;
             *) asked+=("$word") ;;
         esac

@@ -24,13 +24,13 @@ while [ $# -gt 0 ]; do
         case $word in
         --) rest=1; continue ;;
         --log=*) log=${word#*=} ;;
-        --script=*) inputs+=("${word#*=}"); continue ;;
+        --script=* | --live=*) inputs+=("${word#*=}"); continue ;;
         --*=* | --help | -h | --version | -V) continue ;;
-        --log | --script | --*)
+        --log | --script | --live | --*)
             [ $# -gt 0 ] || break
             case $word in
             --log) log=$1 ;;
-            --script) inputs+=("$1") ;;
+            --script | --live) inputs+=("$1") ;;
             esac
             shift
             ;;

@@ -3,7 +3,7 @@
 
     scripts/runs/try_paths.py [PROGRAM]
 
-Of each command every pair is tried of a file that is read (level, script, log) and one that is written (log, journal, whole log, standard
+Of each command every pair is tried of a file that is read (level, script, log, live part) and one that is written (log, journal, whole log, standard
 output), the one named as the other is: by the same name, by another spelling, by a symbolic link, by a hard link, and as /dev/stdout that
 goes there. The first three the program refuses itself; all of them scripts/programs/same_file.sh, which the launcher asks first. A refusal is
 status 2, nothing on standard output, and one line on standard error that names both. Then each command is run with a file of its own to
@@ -32,8 +32,10 @@ TOLD = [
     ("digest LEVEL --frames 2 --script SCRIPT", ("LEVEL", "SCRIPT")),
     ("state LEVEL --frame 2 --script SCRIPT", ("LEVEL", "SCRIPT")),
     ("why LEVEL --frame 2 --agent A --script SCRIPT", ("LEVEL", "SCRIPT")),
+    # btview's: the launcher refuses it before it starts a program
+    ("page LEVEL LOG --script SCRIPT --live LIVE", ("LEVEL", "LOG", "SCRIPT", "LIVE")),
 ]
-NAMES = {"LEVEL": "level.json", "SCRIPT": "a.script", "LOG": "half.log"}
+NAMES = {"LEVEL": "level.json", "SCRIPT": "a.script", "LOG": "half.log", "LIVE": "live.html"}
 # How an output names a file, and whether the program refuses it by itself.
 NAMED = [
     ("the same name", lambda file: file, True),
@@ -52,6 +54,7 @@ class Room:
         self.write("level.json", LEVEL.encode())
         self.write("a.script", SCRIPT.encode())
         self.write("half.log", b"")
+        self.write("live.html", b"<p>\n")
         words = "play level.json --frames 2 --workers 1 --script a.script --log half.log"
         subprocess.run([program, *words.split()], cwd=self.room, check=True, stdout=subprocess.DEVNULL)
         self.write("half.log", b"".join((self.room / "half.log").read_bytes().splitlines(True)[:4]))

@@ -74,6 +74,7 @@ pub fn unrolled(alloc: Global, played: &Played) -> Result<Vec<u8>> {
         played.path.as_bytes(),
         &played.level[..],
         &played.script[..],
+        "".as_bytes(),
     );
     let frames = FrameSpan {
         first: 1,

@@ -35,14 +35,14 @@ pub read_as_trace : (words : List Text) (v : ViewWords) (frames : FrameSpan) (P 
 read_as_trace words (Trace log span) frames P Q reading asks step done =
     subst Q (one_span reading.0 asks.0 span frames (one_row words (codes "trace") reading.0 asks.0 reading.1 asks.1) reading.3 asks.2)
     (step log span done)
-read_as_trace words (Page level log script span) frames P Q reading asks step done =
+read_as_trace words (Page level log script live span) frames P Q reading asks step done =
     absurd (apart 5 4 (one_length words (codes "trace") (codes "page") asks.0 reading.0 asks.1 reading.1) (omega arith))
 
 -- and as a Page
 pub read_as_page : (words : List Text) (v : ViewWords) (frames : FrameSpan) (P : ViewWords → Type 0) (Q : FrameSpan → Type 0) → IsReading words v
-    → AsksForPage words frames → ((level : _) (log : _) (script : _) (span : FrameSpan) → P (Page level log script span) → Q span) → P v → Q frames
+    → AsksForPage words frames → ((level : _) (log : _) (script : _) (live : _) (span : FrameSpan) → P (Page level log script live span) → Q span) → P v → Q frames
 read_as_page words (Trace log span) frames P Q reading asks step done =
     absurd (apart 5 4 (one_length words (codes "trace") (codes "page") reading.0 asks.0 reading.1 asks.1) (omega arith))
-read_as_page words (Page level log script span) frames P Q reading asks step done =
-    subst Q (one_span reading.0 asks.0 span frames (one_row words (codes "page") reading.0 asks.0 reading.1 asks.1) reading.5 asks.2)
-    (step level log script span done)
+read_as_page words (Page level log script live span) frames P Q reading asks step done =
+    subst Q (one_span reading.0 asks.0 span frames (one_row words (codes "page") reading.0 asks.0 reading.1 asks.1) reading.6 asks.2)
+    (step level log script live span done)

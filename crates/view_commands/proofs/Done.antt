@@ -17,7 +17,7 @@ use Rattle.view_commands.proofs.Traced.{traces_some_part}
 
 done_in_part : (old new : Option (List ℕ)) (v : ViewWords) → IsDone old new v → IsPartDone old new v
 done_in_part old new (Trace log frames) h = traces_some_part old new frames h
-done_in_part old new (Page level log script frames) h = pages_some_part old new frames h
+done_in_part old new (Page level log script live frames) h = pages_some_part old new frames h
 
 -- done or not, it is a part
 part_of : (r : Result (⊤) Fault) (old new : Option (List ℕ)) (v : ViewWords) → OnOk r (IsDone old new v) → OnErr r (IsPartDone old new v)
@@ -37,8 +37,8 @@ module _ (old new : Option (List ℕ)) (words : List Text) (v : ViewWords) (r : 
 
   pub paged : (n : ℕ) → AsksForPage words frames → n ≡ 0 → n ≡ status_in r → OnOk r (IsDone old new v) → PagesSome old new frames
   paged n asks zero is done =
-      read_as_page words v frames (IsDone old new) (PagesSome old new) reading asks (λ level log script span h. h) (ok_at_zero r n _ is zero done)
+      read_as_page words v frames (IsDone old new) (PagesSome old new) reading asks (λ level log script live span h. h) (ok_at_zero r n _ is zero done)
 
   pub paged_in_part : AsksForPage words frames → OnOk r (IsDone old new v) → OnErr r (IsPartDone old new v) → PagesSomePart old new frames
   paged_in_part asks done part =
-      read_as_page words v frames (IsPartDone old new) (PagesSomePart old new) reading asks (λ level log script span h. h) (part_of r old new v done part)
+      read_as_page words v frames (IsPartDone old new) (PagesSomePart old new) reading asks (λ level log script live span h. h) (part_of r old new v done part)

@@ -1,5 +1,5 @@
 -- What is written of a level and a log as a page, whole or in part.
-use Rattle.std.proofs.Common.{◌≡◌, ◌≤◌, ◌<◌, ◌∙◌, ◌⊎◌, ℕ, List, [], Option, Some, None, inl, inr, refl, sym, ap, ap₂, subst, length, take, append-nil, arith}
+use Rattle.std.proofs.Common.{◌≡◌, ◌≤◌, ◌<◌, ◌∙◌, ◌⊎◌, ℕ, List, [], Option, Some, None, inl, inr, refl, sym, ap, ap₂, subst, ◌++◌, length, take, append-nil, arith}
 use Rattle.std.specs.Prelude.{⊤, IsSomeAnd, MatchOption, Result, Ok, Err, IfErr}
 use Rattle.std.proofs.lemmas.List.{take_all}
 use Rattle.std.specs.Io.KnownBytes.{Appends, Keeps}
@@ -26,16 +26,16 @@ use Rattle.view_commands.specs.Paging.{IsDoneLog, IsPageFault, IsShort, IsShowin
 
 module _ (g : Game) (log : List ℕ) (settings : Numbers) (events : List Event) (filmed : Filmed) (sources : Sources) (span : FrameSpan)
     (reading : IsLog log settings events) (film : IsFilmOf g settings events filmed) where
-  page_is : page_of sources.name sources.level sources.script settings events filmed.done filmed.shown filmed.film.items span
+  page_is : page_of sources.name sources.level sources.script settings events filmed.done filmed.shown filmed.film.items span ++ sources.live
       ≡ page_for g sources settings events filmed.done span
   page_is =
-      ap₂ (λ shown text. page_of sources.name sources.level sources.script settings events filmed.done shown text span) film.shown
+      ap₂ (λ shown text. page_of sources.name sources.level sources.script settings events filmed.done shown text span ++ sources.live) film.shown
       (film.film ∙ ap (λ n. film_of (frames_to g n)) film.shown)
 
   done_log : IsDoneLog g log settings events filmed.done
   done_log = record { reading = reading; lawful = film.lawful; end = film.end }
 
-  module _ (page : List ℕ) (same : page ≡ page_of sources.name sources.level sources.script settings events filmed.done filmed.shown filmed.film.items span)
+  module _ (page : List ℕ) (same : page ≡ page_of sources.name sources.level sources.script settings events filmed.done filmed.shown filmed.film.items span ++ sources.live)
       (old new : Option (List ℕ)) where
     pub first_page : AppendsPart old new page → PagesPart old new sources span log g
     first_page wrote = inr (settings, events, filmed.done, done_log, subst (AppendsPart old new) (same ∙ page_is) wrote)

@@ -37,9 +37,9 @@ TracesSomePart old new frames = Keeps old new ⊎ ((log : List ℕ) × TracesPar
 -- what the words ask for is done
 abbrev pub IsDone : (old new : Option (List ℕ)) → ViewWords → Type 0
 IsDone old new (Trace log frames) = TracesSome old new frames
-IsDone old new (Page level log script frames) = PagesSome old new frames
+IsDone old new (Page level log script live frames) = PagesSome old new frames
 
 -- or a part of it
 abbrev pub IsPartDone : (old new : Option (List ℕ)) → ViewWords → Type 0
 IsPartDone old new (Trace log frames) = TracesSomePart old new frames
-IsPartDone old new (Page level log script frames) = PagesSomePart old new frames
+IsPartDone old new (Page level log script live frames) = PagesSomePart old new frames

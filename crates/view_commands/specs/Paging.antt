@@ -1,5 +1,5 @@
 -- What is written of a level and a log as a page.
-use Rattle.std.specs.Prelude.{ℕ, ◌≡◌, ◌≤◌, ◌<◌, ◌⊎◌, List, Option, IsSomeAnd, length, take}
+use Rattle.std.specs.Prelude.{ℕ, ◌≡◌, ◌≤◌, ◌<◌, ◌⊎◌, ◌++◌, List, Option, IsSomeAnd, length, take}
 use Rattle.std.specs.Io.KnownBytes.{Appends, Keeps}
 use Rattle.byte_streams.specs.Streams.{AppendsPart}
 use Rattle.game_rules.specs.Game.{Game}
@@ -19,23 +19,25 @@ use Rattle.command_line.specs.declared.program_fault.Fault.TheVariants.{IllegalE
 use Rattle.command_line.specs.Faults.{IsReadingFault}
 use Rattle.level_text.specs.Games.{spelled_game}
 
--- what the files of a level and a script hold, and what the level is called
+-- what the files of a level, a script and a live part hold, and what the level is called
 pub record Sources : Type 0 where
   pub name : List ℕ
   pub level : List ℕ
   pub script : List ℕ
+  pub live : List ℕ
 
-abbrev pub sources_of : (name level script : List ℕ) → Sources
-sources_of name level script = record { name = name; level = level; script = script }
+abbrev pub sources_of : (name level script live : List ℕ) → Sources
+sources_of name level script live = record { name = name; level = level; script = script; live = live }
 
 -- the frames that so many events show, kept as changes
 abbrev pub film_to : Game → List Event → (done : ℕ) → List ℕ
 film_to g events done = film_of (frames_to g (emits (take done events)))
 
--- the page of a game and a list of events, so many of which are done
+-- the page of a game and a list of events, so many of which are done, and behind it the live part as it is
 abbrev pub page_for : Game → Sources → Numbers → List Event → (done : ℕ) → FrameSpan → List ℕ
 page_for g sources settings events done span =
     page_of sources.name sources.level sources.script settings events done (emits (take done events)) (film_to g events done) span
+    ++ sources.live
 
 -- the log's bytes are that of these settings and events, of which so many are legal: all, or those before the first that isn't
 pub record IsDoneLog (g : Game) (log : List ℕ) (settings : Numbers) (events : List Event) (done : ℕ) : Type 0 where

@@ -17,11 +17,13 @@ with_frames a = with_rule (with_rule a (default_rule (codes "from") 1 9999 (code
 abbrev pub trace : App
 trace = with_frames (with_rule (new_app (codes "trace")) (word_rule (codes "log")))
 
--- `page LEVEL LOG [--script FILE] [--from F] [--to T]`
+-- `page LEVEL LOG [--script FILE] [--live FILE] [--from F] [--to T]`
 abbrev pub page : App
 page =
     with_frames
+    (with_rule
     (with_rule (with_rule (with_rule (new_app (codes "page")) (word_rule (codes "level"))) (word_rule (codes "log"))) (path_rule (codes "script")))
+    (path_rule (codes "live")))
 
 -- the viewer with its first command, and with both
 abbrev pub with_trace : App
@@ -58,8 +60,8 @@ AsksForPage words frames = (rows : List Row) × Enters words (codes "page") rows
 -- the subcommand and the entries of clap's reading
 abbrev pub IsReading : List Text → ViewWords → Type 0
 IsReading words (Trace log frames) = (rows : List Row) × Enters words (codes "trace") rows × IsText rows (codes "log") log × AreFrames rows frames
-IsReading words (Page level log script frames) = (rows : List Row) × Enters words (codes "page") rows × IsText rows (codes "level") level
-    × IsText rows (codes "log") log × IsOptional rows (codes "script") script × AreFrames rows frames
+IsReading words (Page level log script live frames) = (rows : List Row) × Enters words (codes "page") rows × IsText rows (codes "level") level
+    × IsText rows (codes "log") log × IsOptional rows (codes "script") script × IsOptional rows (codes "live") live × AreFrames rows frames
 
 -- help or the version is answered only where clap finds that the words ask for it
 abbrev pub IsAskedFor : List Text → WordsFault → Type 0

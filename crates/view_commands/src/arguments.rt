@@ -55,7 +55,7 @@ pub static SUBCOMMANDS: [Subcommand; 2] = [
     Subcommand {
         name: "page",
         about: "Writes a page that shows a run: the map frame by frame, the agents with answer, cell, load and tree, what changed, an overview of all frames, and the jobs around the frame shown, lane by lane. One HTML file, which needs no network; any browser opens it, and ? lists its keys. An incomplete log shows the frames that it has; one with an illegal event those before it, and the event is marked: the page is there then, and status and fault are those of `btworld replay`. All frames are shown; --from and --to say of which the jobs are.",
-        usage: "btview page LEVEL LOG [--script FILE] [--from F] [--to T]",
+        usage: "btview page LEVEL LOG [--script FILE] [--live FILE] [--from F] [--to T]",
         arguments: &[
             Argument {
                 name: "level",
@@ -73,6 +73,12 @@ pub static SUBCOMMANDS: [Subcommand; 2] = [
                 name: "script",
                 value: "FILE",
                 help: "The script with which the run was played",
+                form: Form::Path,
+            },
+            Argument {
+                name: "live",
+                value: "FILE",
+                help: "What is written behind the page, as it is: live.html draws the tree of the chosen agent, with each node's answer",
                 form: Form::Path,
             },
             FROM,

@@ -25,8 +25,9 @@ fn act<H: Files, W: Write>(rt: &H, alloc: Global, view: ViewWords, out: &mut W) 
             level,
             log,
             script,
+            live,
             frames,
-        } => page_files(rt, alloc, level, log, script, frames, out),
+        } => page_files(rt, alloc, level, log, script, live, frames, out),
     }
 }
 

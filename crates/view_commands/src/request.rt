@@ -13,6 +13,7 @@ pub enum ViewWords {
         level: String,
         log: String,
         script: Option<String>,
+        live: Option<String>,
         frames: FrameSpan,
     },
 }

@@ -39,6 +39,7 @@ fn page_words(alloc: Global, matches: &ArgMatches<'_>) -> Result<ViewWords, Word
         level: text_entry(alloc, matches, "level")?,
         log: text_entry(alloc, matches, "log")?,
         script: optional_entry(alloc, matches, "script")?,
+        live: optional_entry(alloc, matches, "live")?,
         frames: frames_entry(alloc, matches)?,
     })
 }

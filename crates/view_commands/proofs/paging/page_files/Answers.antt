@@ -7,5 +7,5 @@ pub returns-clause-part : goal.returns-clause-part
 returns-clause-part g c =
     on_err_map c.page_bytes.result _ _
     (page_of_some (g.W.Write.contents c.args.out.now) (g.W.Write.contents c.page_bytes.new.out)
-    (sources_of c.as_bytes.result.now c.deref.result.now c.deref-2.result.now) c.args.frames c.in_ok-log.log.items)
+    (sources_of c.as_bytes.result.now c.deref.result.now c.deref-2.result.now c.deref-3.result.now) c.args.frames c.in_ok-log.log.items)
     c.page_bytes.ensures.part
