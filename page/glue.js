@@ -11,6 +11,12 @@ const DIRECTIONS = ["north", "east", "south", "west", "here", "no way"];
 const DEEDS = ["stay", "move", "take", "drop", "give"];
 const NOBODY = 255;
 
+// The bytes of a module as it stands in a page: packed, and as letters.
+async function unpacked(letters) {
+  const packed = await fetch(`data:application/gzip;base64,${letters}`);
+  return new Response(packed.body.pipeThrough(new DecompressionStream("gzip"))).arrayBuffer();
+}
+
 class Btworld {
   static async load(bytes) {
     const { instance } = await WebAssembly.instantiate(bytes, {});

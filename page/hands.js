@@ -117,34 +117,13 @@ $("sample").onchange = (event) => {
 $("name").onchange = (event) => change({ name: event.target.value.trim() || "level" }, "name");
 for (const tab of $("panes").children) tab.onclick = () => setPane(tab.dataset.pane);
 
-// the tree: a click chooses a node, its sign of children folds it
-$("whyTree").addEventListener("click", (event) => {
-  const box = event.target.closest(".node");
-  if (!box) return;
-  const n = +box.dataset.node;
-  if (event.target.closest(".more")) setFolded(n, !isFolded(outline.nodes[n]));
-  else chooseNode(state.node == n ? -1 : n);
-});
-// drawn by its ground it moves
-let treeGrip = null;
-$("whyTree").onpointerdown = (event) => {
-  if (event.pointerType == "mouse" && event.button == 0 && !event.target.closest(".node")) treeGrip = { x: event.clientX + $("whyTree").scrollLeft, y: event.clientY + $("whyTree").scrollTop };
-};
-$("whyTree").onpointermove = (event) => {
-  if (!treeGrip || !event.buttons) return void (treeGrip = null);
-  $("whyTree").scrollTo(treeGrip.x - event.clientX, treeGrip.y - event.clientY);
-};
+// the tree's nodes: two clicks go to the text
 $("whyTree").addEventListener("dblclick", (event) => {
   const box = event.target.closest(".node");
   if (!box) return;
   chooseNode(+box.dataset.node);
   goToText();
 });
-$("whyTree").addEventListener("wheel", (event) => {
-  if (!event.ctrlKey) return;
-  event.preventDefault();
-  zoomTree(event.deltaY > 0 ? 1 / 1.1 : 1.1);
-}, { passive: false });
 
 // between tree and text: how much of the side the tree has
 const SHARES = { least: 15, most: 85, first: 58 };
@@ -336,11 +315,6 @@ function laidOut() {
   if (state.film) layAgents();
   fitTree();
   refresh();
-}
-// The chosen node stays in sight.
-function treeLaidOut() {
-  fitTree();
-  if (outline.nodes[state.node]) seeNode(outline.nodes[state.node]);
 }
 
 async function start() {

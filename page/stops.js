@@ -1,5 +1,5 @@
-// Stops: frames at which playing halts, as a node's answer turns to one that is waited for, or what an agent wants comes to nothing; and
-// the search for frames. All of it is looked up in what the nodes answered and in the frames.
+// Stops: frames at which playing halts, as a node's answer turns to one that is waited for, or what an agent wants comes to nothing. They are
+// looked up in what the nodes answered and in the frames.
 
 // A stop is { agent, node, name, answer }, or { agent, node: -1 } where what an agent wants comes to nothing.
 const stopSaid = ({ agent, node, name, answer }) => `${letterOf(agent)}${node < 0 ? " is blocked" : `: ${name} answers ${WORDS[answer]}`}`;
@@ -11,6 +11,22 @@ function toggleStop(stop) {
   else stops.splice(at, 1);
   showStops();
   refresh();
+}
+
+// What stands in the panel of the chosen node of them.
+function putHalts(hands, shown) {
+  const { chosen, node: n } = state;
+  put(hands, "span", "halt at", "soft");
+  const halt = (stop, text, title, name) => {
+    const button = putButton(hands, text, title, () => toggleStop(stop), `halt ${name}`);
+    button.stop = stop;
+    button.setAttribute("aria-label", title);
+    return button;
+  };
+  const halts = WORDS.map((word, answer) => halt({ agent: chosen, node: n, name: shown.name, answer }, word[0], `halt where this node turns to ${word}`, word[0]));
+  // Of a module that tells no intents nothing is known of this.
+  if (world.calls.btworld_intent) halts.push(halt({ agent: chosen, node: -1 }, "blocked", `halt where what ${letterOf(chosen)} wants comes to nothing: its cell and its load stay as they were`, ""));
+  return halts;
 }
 
 // Stops of nodes that the level has no longer go.
@@ -44,40 +60,6 @@ function haltAt(frame, stop) {
   note(`halted in frame ${frame}: ${stopSaid(stop)}`);
 }
 
-// ---- searching, in slices
-
-let search = 0;
-// Shows the next frame, or the last one before it, for which a test holds; says so where there is none.
-async function seekFrame(way, test, none) {
-  const mine = ++search;
-  let frame = shownFrame();
-  for (;;) {
-    const until = performance.now() + SLICE;
-    let found = false;
-    guarded(() => {
-      const { film, total } = state;
-      while (film && !found && performance.now() < until) {
-        frame += way;
-        if (frame < 1 || frame > total) return void (frame = 0);
-        if (frame > film.count) return void (frame -= way);
-        found = Boolean(test(film, frame));
-      }
-    });
-    if (mine != search || !state.film) return null;
-    if (found) {
-      show(frame);
-      return frame;
-    }
-    if (frame < 1) return void note(none);
-    await new Promise((done) => setTimeout(done));
-  }
-}
-
-const seekTurn = (way) => {
-  const { chosen, node } = state;
-  if (chosen >= 0 && node >= 0) seekFrame(way, (film, frame) => film.hasTurned(frame, chosen, node), `no ${way > 0 ? "later" : "earlier"} frame in which this node's answer changes`);
-  else note("choose a node of the tree first");
-};
 const seekStop = () => {
   let stop = null;
   setPlaying(false);

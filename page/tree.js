@@ -9,6 +9,11 @@ const LARGEST = 1.2; // and larger
 const outline = { agent: -1, text: null, nodes: [], letters: "", width: 0, height: 0, zoom: 0, folded: new Set(), quiet: new Set(), quietKey: "" };
 const svg = (kind) => document.createElementNS("http://www.w3.org/2000/svg", kind);
 
+// What the help says of each kind of node.
+const nodeTexts = {};
+for (const row of document.querySelectorAll("#help .nodes tr"))
+  for (const code of row.cells[0].querySelectorAll("code")) nodeTexts[JSON.parse(/"[^"]+"/.exec(code.textContent)[0])] = row.cells[1].textContent;
+
 // A tree as it is written, to see whether it is another one.
 const spellOf = (draft, name) => JSON.stringify(draft.trees[name]);
 
@@ -113,6 +118,12 @@ function fitTree() {
   plane.parentNode.style.height = `${Math.ceil(height * outline.scale)}px`;
 }
 
+// The chosen node stays in sight.
+function treeLaidOut() {
+  fitTree();
+  if (outline.nodes[state.node]) seeNode(outline.nodes[state.node]);
+}
+
 function zoomTree(by) {
   outline.zoom = by == 0 ? 0 : Math.max(.3, Math.min(2.5, outline.scale * by));
   fitTree();
@@ -176,3 +187,28 @@ function stepInTree(way) {
   next.box.focus({ preventScroll: true });
   seeNode(next);
 }
+
+// ---- hands
+
+// A click chooses a node, its sign of children folds it.
+$("whyTree").addEventListener("click", (event) => {
+  const box = event.target.closest(".node");
+  if (!box) return;
+  const n = +box.dataset.node;
+  if (event.target.closest(".more")) setFolded(n, !isFolded(outline.nodes[n]));
+  else chooseNode(state.node == n ? -1 : n);
+});
+// Drawn by its ground it moves.
+let treeGrip = null;
+$("whyTree").onpointerdown = (event) => {
+  if (event.pointerType == "mouse" && event.button == 0 && !event.target.closest(".node")) treeGrip = { x: event.clientX + $("whyTree").scrollLeft, y: event.clientY + $("whyTree").scrollTop };
+};
+$("whyTree").onpointermove = (event) => {
+  if (!treeGrip || !event.buttons) return void (treeGrip = null);
+  $("whyTree").scrollTo(treeGrip.x - event.clientX, treeGrip.y - event.clientY);
+};
+$("whyTree").addEventListener("wheel", (event) => {
+  if (!event.ctrlKey) return;
+  event.preventDefault();
+  zoomTree(event.deltaY > 0 ? 1 / 1.1 : 1.1);
+}, { passive: false });

@@ -61,8 +61,8 @@ function closeWhy() {
   if (row && $("treePanel").querySelector(":focus-visible")) row.letter.focus();
   Object.assign(outline, { agent: -1, text: null, nodes: [], letters: "" });
   state.node = -1;
-  editors.level.pick(null);
-  editors.level.tint(new Map());
+  markText(-1);
+  tintText([]);
   showChosenNode(null);
   sayTick();
 }
@@ -105,11 +105,4 @@ function sayTick() {
   const { agent, nodes } = outline, frame = shownFrame();
   const spoken = () => `${letterOf(agent)}, ${frame > 0 ? `frame ${frame}: ${nodes.map((node) => node.spoken).filter((it) => it).join(", ")}` : "the start"}`;
   sayTick.later = setTimeout(() => { if (!state.isPlaying) $("whySaid").textContent = agent < 0 ? "" : spoken(); }, 250);
-}
-
-// In the level's text the names of the nodes bear the colours of their answers.
-function tintText(answers) {
-  const tints = new Map(), nodes = treeOf(state.draft, state.good.agents[state.chosen]);
-  if (nodes.length == answers.length && shownFrame() > 0) nodes.forEach((node, n) => { if (answers[n] < WORDS.length) tints.set(node.part.items[0].from, WORDS[answers[n]][0]); });
-  editors.level.tint(tints);
 }

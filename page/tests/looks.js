@@ -60,4 +60,4 @@ async function tryLooks(browser, { look, same, address, pause, shot }) {
   await shot("phone_tap");
 }
 
-module.exports = { tryLooks };
+module.exports = { tryLooks, pale };

@@ -1,13 +1,14 @@
 #!/usr/bin/env python3
-"""Builds play.html, one file in which a browser plays levels, of the proved sources of crates/btworld_c and of what page/ holds.
+"""Builds play.html, one file in which a browser plays levels, and live.html, by which a page of `btview page` shows the answers of nodes, of
+the proved sources of crates/btworld_c and of what page/ holds.
 
-    scripts/pages/play_page.py                     builds play.html again
-    scripts/pages/play_page.py --check [PROGRAM]   builds it in a folder of its own, says whether play.html has just these bytes, and plays by
-                                          it in node: the sample levels and 500 small random ones, compared byte for byte with what
+    scripts/pages/play_page.py                     builds both again
+    scripts/pages/play_page.py --check [PROGRAM]   builds them in a folder of its own, says whether those that stand here have just these bytes,
+                                          and plays by play.html in node: the sample levels and 500 small random ones, compared byte for byte with what
                                           btworld writes (PROGRAM, else crates/btworld/out/btworld, which ./prove and rt ci build),
                                           and a module whose memory ends early
     scripts/pages/play_page.py --keep-module       puts page/ around the module of the play.html that stands there: in a second, for work on the
-                                          page itself. Whether that module is of today's sources, --check says
+                                          pages themselves. Whether that module is of today's sources, --check says
 
 The exit status is 0 where all of that is well, 1 where something differs, 2 where something is missing, which a line names. Needed
 are the Rattle kit and wasm-opt (binaryen), for --check node too. Where `rt ci` has just proved the crates below, as in CI, btworld_c is
@@ -40,10 +41,13 @@ from rattle import kit
 PAGE, CRATE = TOP / "page", TOP / "crates/btworld_c"
 TEXTS = TOP / "crates/page_text/src"
 PROGRAM = TOP / "crates/btworld/out/btworld"
-STYLES = "play tree texts lessons".split()
+STYLES = "controls play tree texts lessons".split()
 # What plays and knows texts needs no document: the tests read it too.
 CORE = "glue film json level nodes goals lessons".split()
-SCRIPTS = "state texts show tree trees why node stops signals editors paint files links course hands".split()
+SCRIPTS = "state texts show tree trees why node edits seek stops signals editors paint files links course hands".split()
+# What a page of `btview page` gets behind it.
+LIVE_STYLES = "controls tree live".split()
+LIVE_SCRIPTS = "glue film json level nodes live tree why node seek".split()
 # The level that the page begins with.
 FIRST = "warehouse"
 # How many pages of 65536 bytes the memory has that ends early.
@@ -181,10 +185,6 @@ def shared(name):
     return re.search(r'r#"(.*)"#;\n\Z', (TEXTS / f"{name}.rt").read_text(), re.S)[1]
 
 
-def script(name):
-    return (PAGE / f"{name}.js").read_text()
-
-
 def unmarked(text):
     """A text without the few marks of Markdown that the documents here use."""
     return re.sub(r"\[([^\]]+)\]\([^)]*\)|`([^`]+)`", lambda it: it[1] or it[2], text)
@@ -260,24 +260,33 @@ def block_of(block):
     return f"<p>{rich(block)}</p>"
 
 
-def page(code):
-    """The page of a module."""
-    parts = {
+def filled(template, parts):
+    """The text of a file of page/ with its parts put in. None of them may end the element in which it stands."""
+    for name, text in parts.items():
+        if re.search(r"</(script|style|template)|<!--", text):
+            stop(f"the part {name} of {template} would end its element")
+    return re.sub(r"@([A-Z]+)@", lambda it: parts[it[1]].strip("\n"), (PAGE / template).read_text())
+
+
+def joined(names, suffix):
+    return "\n".join((PAGE / f"{name}.{suffix}").read_text() for name in names)
+
+
+def pages(code):
+    """The texts of both files, of a module."""
+    both = {"NODES": nodes(), "MODULE": base64.b64encode(gzip.compress(code, 9, mtime=0)).decode()}
+    play = {
         "STYLE": shared("style").partition("<style>\n")[2],
-        "CSS": "\n".join((PAGE / f"{name}.css").read_text() for name in STYLES),
-        "NODES": nodes(),
+        "CSS": joined(STYLES, "css"),
         "MANUAL": manual(),
         "SAMPLES": samples(),
-        "MODULE": base64.b64encode(gzip.compress(code, 9, mtime=0)).decode(),
         "MAP": shared("script_map"),
-        "CORE": "\n".join(map(script, CORE)),
+        "CORE": joined(CORE, "js"),
         "AGENTS": shared("script_agents"),
-        "PAGE": "\n".join(map(script, SCRIPTS)),
+        "PAGE": joined(SCRIPTS, "js"),
     }
-    for name, text in parts.items():
-        if re.search(r"</(script|style)|<!--", text):
-            stop(f"the part {name} would end its element")
-    return re.sub(r"@([A-Z]+)@", lambda it: parts[it[1]].strip("\n"), (PAGE / "play.in.html").read_text())
+    live = {"CSS": joined(LIVE_STYLES, "css"), "PAGE": joined(LIVE_SCRIPTS, "js")}
+    return {"play.html": filled("play.in.html", both | play), "live.html": filled("live.in.html", both | live)}
 
 
 # The module in a page, packed and as letters.
@@ -297,31 +306,31 @@ def unpacked(text):
 
 
 def build(room):
-    """Returns the page, and what its module was linked of."""
+    """Returns the pages, and what their module was linked of."""
     made = objects(room)
-    return page(module(room, made)), made
+    return pages(module(room, made)), made
 
 
 def check(program):
     with tempfile.TemporaryDirectory(prefix="play_page-") as it:
         room = Path(it)
-        text, made = build(room)
-        (room / "play.html").write_text(text)
+        texts, made = build(room)
+        (room / "play.html").write_text(texts["play.html"])
         (room / "few.wasm").write_bytes(module(room, made, FEW_PAGES))
-        there = (TOP / "play.html").read_text() if (TOP / "play.html").exists() else ""
-        is_same = unpacked(there) == unpacked(text)
-        say_calls(module_of(text))
-        print("play.html is of these sources" if is_same else "play.html is not of these sources: scripts/pages/play_page.py builds it again", flush=True)
+        others = [name for name, text in texts.items() if not (TOP / name).exists() or unpacked((TOP / name).read_text()) != unpacked(text)]
+        say_calls(module_of(texts["play.html"]))
+        for name in texts:
+            print(f"{name} is not of these sources: scripts/pages/play_page.py builds it again" if name in others else f"{name} is of these sources", flush=True)
         tests = ("compare.js", room / "play.html", TOP, program), ("painting.js", room / "play.html", TOP), ("trees.js", room / "play.html", TOP), ("refused.js", room / "play.html", TOP, room / "few.wasm")
         failed = [name for name, *words in tests if subprocess.run(["node", PAGE / "tests" / name, *words]).returncode]
-    if failed or not is_same:
-        stop(" ".join([*(["other bytes"] if not is_same else []), *failed]))
+    if failed or others:
+        stop(" ".join([*(f"other bytes in {name}" for name in others), *failed]))
 
 
 def main():
     words = sys.argv[1:]
     if words == ["--keep-module"]:
-        return write(page(module_of((TOP / "play.html").read_text())))
+        return write(pages(module_of((TOP / "play.html").read_text())))
     is_check = words[:1] == ["--check"]
     if len(words) > 2 or (words and not is_check):
         sys.exit(__doc__)
@@ -332,14 +341,15 @@ def main():
     if is_check:
         return check(program)
     with tempfile.TemporaryDirectory(prefix="play_page-") as room:
-        text, _ = build(Path(room))
-    write(text)
+        texts, _ = build(Path(room))
+    write(texts)
 
 
-def write(text):
-    (TOP / "play.html").write_text(text)
-    say_calls(module_of(text))
-    print(f"{len(text.encode())} bytes: play.html")
+def write(texts):
+    say_calls(module_of(texts["play.html"]))
+    for name, text in texts.items():
+        (TOP / name).write_text(text)
+        print(f"{len(text.encode())} bytes: {name}")
 
 
 main()
