@@ -31,7 +31,7 @@ class Run:
         log, self.frames, self.page, self.live = (Path(room, f"{level}.{it}") for it in ("log", "frames", "html", "live.html"))
         self.frames.write_bytes(ran("btworld", "play", f"levels/{level}.json", *words, "--frames", FRAMES, "--workers", 4, "--log", log))
         self.page.write_bytes(ran("btview", "page", f"levels/{level}.json", log, *words))
-        self.live.write_bytes(self.page.read_bytes() + (TOP / "live.html").read_bytes())
+        self.live.write_bytes(ran("btview", "page", f"levels/{level}.json", log, *words, "--live", "live.html"))
 
 
 def main():
