@@ -6,7 +6,7 @@ const { pathToFileURL } = require("url");
 const { startBrowser } = require("./browser.js");
 const { pale } = require("./looks.js");
 const [name, play, top, warehouse, courier, shots] = process.argv.slice(2);
-const SHIFT = 8, FRAMES = 70;
+const SHIFT = 8, FRAMES = 70, TURN = "(a, f) => { if (chosen != a) choose(a); show(f); }";
 const addressOf = (file) => pathToFileURL(path.resolve(file)).href;
 // The tree stands, or a line says why it doesn't.
 const ready = "window.btview && (btview.live && (btview.live.state.film?.count === N) || document.getElementById('liveSaid')?.textContent) ? 1 : 0";
@@ -35,6 +35,7 @@ async function main(browser) {
   const shot = async (name) => { if (shots) await browser.shot(path.join(shots, `${name}.png`)); };
   const middle = (selector) => value(`(() => { const box = document.querySelector(${JSON.stringify(selector)}).getBoundingClientRect(); return [box.left + box.width / 2, box.top + box.height / 2]; })()`);
   const click = async (selector) => {
+    await value("Promise.all(document.getAnimations().map((it) => it.finished)).then(() => 0, () => 0)"); // boxes slide to their places
     await value(`document.querySelector(${JSON.stringify(selector)}).scrollIntoView({ block: "nearest" })`);
     await browser.click(...await middle(selector));
   };
@@ -52,7 +53,7 @@ async function main(browser) {
   for (const [level, file, agents] of [["courier", courier, 3], ["warehouse", warehouse, 4]]) {
     await browser.open(addressOf(file), 1280, 800, { ready });
     same(await value("document.getElementById('liveSaid').hidden"), true, `${level}: the frames are those that the core plays`);
-    const is = await value(told(agents, "(a, f) => { if (chosen != a) choose(a); show(f); }")), bad = is.findIndex((it, k) => it != wanted[level][k]);
+    const is = await value(told(agents, TURN)), bad = is.findIndex((it, k) => it != wanted[level][k]);
     look(bad < 0 && is.length == 2 * FRAMES * agents && new Set(is).size > FRAMES, `${level}: ${agents} trees in ${FRAMES} frames, forwards and backwards, are those of play.html${bad < 0 ? "" : `; not ${bad}: ${is[bad]}; but ${wanted[level][bad]}`}`);
   }
 
@@ -147,8 +148,16 @@ async function main(browser) {
   }
   same(await browser.told(), [], "no message on the console");
 
+  // Told of a level with other kinds of nodes than the module plays, the page shows the answers of the level that is played: it knows none.
+  const room = fs.mkdtempSync(path.join(os.tmpdir(), "live-")), page = fs.readFileSync(courier, "utf8"), lie = path.join(room, "lie.html"), other = path.join(room, "other.html"), broken = path.join(room, "broken.html");
+  const KIN = { seq: "fallback", fallback: "seq", "seq*": "fallback*", "fallback*": "seq*", take: "drop", drop: "take", carrying: "item", item: "carrying" };
+  const level = /id="level">([^]*?)<\/script>/.exec(page)[1], answers = (it) => it.split("; ").map((label) => label.split(", ").slice(1).join());
+  fs.writeFileSync(lie, page.replace(level, () => level.replace(/"[a-z]+[*]?"/g, (kind) => (KIN[kind.slice(1, -1)] ? `"${KIN[kind.slice(1, -1)]}"` : kind))).replace("new Film(world, text,", () => `new Film(world, ${JSON.stringify(level)},`));
+  await browser.open(addressOf(lie), 1280, 800, { ready });
+  const lied = await value(told(3, TURN));
+  look(lied.length == wanted.courier.length && lied.every((it, k) => answers(it).join() == answers(wanted.courier[k]).join()) && lied[0] != wanted.courier[0], "told of other kinds of nodes, it shows the answers of those that are played");
+
   // A page whose level isn't that of its frames says so; one whose module is broken has the list of nodes.
-  const room = fs.mkdtempSync(path.join(os.tmpdir(), "live-")), page = fs.readFileSync(courier, "utf8"), other = path.join(room, "other.html"), broken = path.join(room, "broken.html");
   fs.writeFileSync(other, page.replace('["move", "0"]', '["move", "2"]'));
   await browser.open(addressOf(other), 1280, 800, { ready });
   look(/^frame \d+ of this page is not what the core plays/.test(await text("liveSaid")) && await isShown("liveSaid"), `a page of another level says so: ${await text("liveSaid")}`);
