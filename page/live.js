@@ -106,6 +106,7 @@ function handOf({ key, target, ctrlKey, metaKey, altKey }) {
 
 // Before the page's own keys.
 function keyed(event) {
+  if (!(event.target instanceof Element)) return;
   const hand = handOf(event), isPress = event.key === " " && event.target.matches("#treePanel button");
   if (hand || isPress) event.stopImmediatePropagation();
   if (!hand) return;
