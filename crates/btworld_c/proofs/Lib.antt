@@ -6,6 +6,10 @@ pub mod Looks
 pub mod NameLines
 pub mod Intents
 pub mod Actors
+pub mod Picked
+pub mod PartWants
+pub mod NodeWants
+pub mod FirstWant
 pub mod Values
 pub mod HandleValues
 pub mod ScriptText

@@ -13,8 +13,10 @@ use Rattle.bt_nodes.specs.declared.leaf.Leaf.TheVariants.{Carrying}
 use Rattle.bt_nodes.specs.Plain as nodes
 use Rattle.bt_nodes.specs.Plain.{Plain, Forest, Does}
 use Rattle.game_rules.specs.Play.{thoughts_from}
-use Rattle.stepping.specs.Played.{Played, answers_under, bits}
+use Rattle.game_rules.specs.Thought.{Thought, thought}
+use Rattle.stepping.specs.Played.{Played, answers_under, bits, sight}
 use Rattle.btworld_c.specs.Maps.{world_of}
+use Rattle.btworld_c.specs.Wants.{node_at, want_of}
 use Rattle.btworld_c.specs.declared.game.Wish.{Wish}
 
 -- ---- the deed
@@ -99,6 +101,15 @@ pub record IsFirstToWant (acts : List Bool) (answers : List (Option Status)) (n 
 abbrev pub IsWantingNode : List Bool → List (Option Status) → ℕ → Type 0
 IsWantingNode acts answers node = IsFirstToWant acts answers node ⊎ ((node ≡ 4294967295) × ((k : ℕ) → Wants acts answers k → ⊥))
 
+-- what an agent's tick comes to in the next frame, if that has these signals
+abbrev pub thought_under : Played → List Bool → ℕ → Thought
+thought_under p on a =
+    thought (sight p.position.world on a) (slice_index_or p.game.trees a (Does Carrying)) (slice_index_or p.position.memories a [])
+
+-- what a node of its tree wants then
+abbrev pub wanted_by : Played → List Bool → (agent node : ℕ) → Intent
+wanted_by p on a node = want_of (sight p.position.world on a) (node_at (slice_index_or p.game.trees a (Does Carrying)) node)
+
 -- ---- all of it
 
 abbrev pub intent_of : Played → List Bool → ℕ → Intent
@@ -113,6 +124,8 @@ pub record IsWish (p : Played) (on : List Bool) (a : ℕ) (told : Wish) : Type 0
   pub row : told.y ≡ (cell_meant (world_of p) a (intent_of p on a)).y
   pub granted : TellsGranted p on a told.granted
   pub node : IsWantingNode (actors (slice_index_or p.game.trees a (Does Carrying))) (answers_under p on a) told.node
+  -- the intent is what that node wants
+  pub wanted : intent_of p on a ≡ wanted_by p on a told.node
 
 -- what an agent of the held game wants in the next frame with the signals of a mask
 abbrev pub IsIntent : Option Played → (mask agent : ℕ) → Wish → Type 0

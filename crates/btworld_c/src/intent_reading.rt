@@ -9,7 +9,7 @@ ghost use Rattle.bt_nodes.specs.Plain.{plain, plains, Does};
 ghost use Rattle.stepping.specs.Played.{answers_under, bits};
 ghost use Rattle.btworld_c.specs.Statuses.{done, closed, no_memory, beyond_agents, last_frame, IsIntentStatus};
 ghost use Rattle.btworld_c.specs.Readings.{IsBeyondAgents};
-ghost use Rattle.btworld_c.specs.Intents.{intents_under, deed_number, move_number, receiver_number, cell_meant, first_intents, world_by, TellsGranted, acts, actors, actors_in, Wants, IsWantingNode, intent_of, IsWish, IsIntent};
+ghost use Rattle.btworld_c.specs.Intents.{intents_under, deed_number, move_number, receiver_number, cell_meant, first_intents, world_by, TellsGranted, acts, actors, actors_in, Wants, IsWantingNode, intent_of, thought_under, wanted_by, IsWish, IsIntent};
 
 use crate::game::{Game, Wish, read};
 use crate::status::{CLOSED, LAST_FRAME, NO_AGENT, NO_MEMORY, OK};
@@ -237,10 +237,12 @@ fn wanting_node(acts: &[bool], answers: &[Option<Status>]) -> u32
     u32::MAX
 }
 
-// The node of an agent's tree that wants something.
+// The node of an agent's tree that wants something: what it wants is the tick's intent.
+#[tactic(auto, using(crate::proofs::FirstWant::wanted))]
 fn node_of(alloc: Global, held: &Stepping, signals: Signals, agent: u32) -> Result<u32, AllocError>
     requires { agent < length held.now.game.trees }
-    ensures { IfOk result (IsWantingNode (actors (slice_index_or held.now.game.trees agent (Does Carrying))) (answers_under held.now signals agent)) }
+    ensures wanted { IfOk result (λ node. (thought_under held.now signals agent).intent ≡ wanted_by held.now signals agent node) }
+    ensures node { IfOk result (IsWantingNode (actors (slice_index_or held.now.game.trees agent (Does Carrying))) (answers_under held.now signals agent)) }
 {
     let tree = held.level().tree_of(agent);
     let _ = tree.size();

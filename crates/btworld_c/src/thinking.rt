@@ -96,6 +96,7 @@ pub(crate) fn intents(
 ) -> Result<Vec<Intent>, AllocError>
     ensures intents { IfOk result (λ intents. intents.items ≡ intents_under held.now signals) }
     ensures many { IfOk result (λ intents. length intents.items ≡ length held.now.position.world.agents) }
+    ensures one_each { length held.now.position.memories ≡ length held.now.game.trees }
 {
     let _ = held.memories();
     let count = held.world().agents().len();
