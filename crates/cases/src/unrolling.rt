@@ -6,7 +6,7 @@ use std::alloc::Global;
 use std::io::Write;
 use std::str::Lines;
 use trace_text::FrameSpan;
-use view_commands::page_bytes;
+use view_commands::{PageSources, page_bytes};
 
 /// What the page's element that begins so holds: it ends at the first `<`.
 fn held<'a>(page: &'a str, begin: &str) -> Option<&'a str> {
@@ -70,12 +70,12 @@ fn text_of(alloc: Global, film: &str, played: &Played) -> Result<Vec<u8>> {
 /// The text of the frames in the page of a sample.
 pub fn unrolled(alloc: Global, played: &Played) -> Result<Vec<u8>> {
     let mut out = Output::new(alloc);
-    let sources = (
-        played.path.as_bytes(),
-        &played.level[..],
-        &played.script[..],
-        "".as_bytes(),
-    );
+    let sources = PageSources {
+        name: played.path.as_bytes(),
+        level: &played.level,
+        script: &played.script,
+        live: b"",
+    };
     let frames = FrameSpan {
         first: 1,
         last: 9999,

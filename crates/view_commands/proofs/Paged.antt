@@ -20,11 +20,11 @@ use Rattle.page_text.specs.Pages.{page_of}
 use Rattle.command_line.specs.declared.program_fault.Fault.{Fault}
 use Rattle.command_line.specs.declared.program_fault.Fault.TheVariants.{Incomplete}
 use Rattle.level_text.specs.Games.{spelled_game}
-use Rattle.view_commands.specs.Paging.{IsDoneLog, IsPageFault, IsShort, IsShowingFault, IsWhole, Pages, PagesPart, PagesSome, PagesSomePart, Sources, page_for}
+use Rattle.view_commands.specs.Paging.{IsDoneLog, IsPageFault, IsShort, IsShowingFault, IsWhole, Pages, PagesPart, PagesSome, PagesSomePart, PageSources, page_for}
 
 -- ---- the page of what is filmed
 
-module _ (g : Game) (log : List ℕ) (settings : Numbers) (events : List Event) (filmed : Filmed) (sources : Sources) (span : FrameSpan)
+module _ (g : Game) (log : List ℕ) (settings : Numbers) (events : List Event) (filmed : Filmed) (sources : PageSources) (span : FrameSpan)
     (reading : IsLog log settings events) (film : IsFilmOf g settings events filmed) where
   page_is : page_of sources.name sources.level sources.script settings events filmed.done filmed.shown filmed.film.items span ++ sources.live
       ≡ page_for g sources settings events filmed.done span
@@ -78,13 +78,13 @@ module _ (g : Game) (log : List ℕ) (settings : Numbers) (events : List Event) 
 
 -- ---- all that is written is a part
 
-pages_part : (old new : Option (List ℕ)) (sources : Sources) (span : FrameSpan) (log : List ℕ) (g : Game) → Pages old new sources span log g
+pages_part : (old new : Option (List ℕ)) (sources : PageSources) (span : FrameSpan) (log : List ℕ) (g : Game) → Pages old new sources span log g
     → PagesPart old new sources span log g
 pages_part old new sources span log g h =
     let page = page_for g sources h.0 h.1 (length h.1) span in
     inr (h.0, h.1, length h.1, h.2, (page, [], sym (append-nil page), h.4))
 
-in_game : (old new : Option (List ℕ)) (sources : Sources) (span : FrameSpan) (log : List ℕ) (game : Option Game) → IsSomeAnd game (Pages old new sources span log)
+in_game : (old new : Option (List ℕ)) (sources : PageSources) (span : FrameSpan) (log : List ℕ) (game : Option Game) → IsSomeAnd game (Pages old new sources span log)
     → IsSomeAnd game (PagesPart old new sources span log)
 in_game old new sources span log None h = absurd h
 in_game old new sources span log (Some g) h = pages_part old new sources span log g h
@@ -93,12 +93,12 @@ pub pages_some_part : (old new : Option (List ℕ)) (span : FrameSpan) → Pages
 pages_some_part old new span h = inr (h.0, h.1, in_game old new h.0 span h.1 (spelled_game h.0.level h.0.script) h.2)
 
 -- of bytes that may spell no game
-some_page : (old new : Option (List ℕ)) (sources : Sources) (span : FrameSpan) (log : List ℕ) (game : Option Game) → spelled_game sources.level sources.script ≡ game
+some_page : (old new : Option (List ℕ)) (sources : PageSources) (span : FrameSpan) (log : List ℕ) (game : Option Game) → spelled_game sources.level sources.script ≡ game
     → MatchOption game (Keeps old new) (PagesPart old new sources span log) → PagesSomePart old new span
 some_page old new sources span log None e h = inl h
 some_page old new sources span log (Some g) e h =
     inr (sources, log, subst (λ game. IsSomeAnd game (PagesPart old new sources span log)) (sym e) h)
 
-pub page_of_some : (old new : Option (List ℕ)) (sources : Sources) (span : FrameSpan) (log : List ℕ)
+pub page_of_some : (old new : Option (List ℕ)) (sources : PageSources) (span : FrameSpan) (log : List ℕ)
     → MatchOption (spelled_game sources.level sources.script) (Keeps old new) (PagesPart old new sources span log) → PagesSomePart old new span
 page_of_some old new sources span log h = some_page old new sources span log (spelled_game sources.level sources.script) refl h

@@ -20,21 +20,18 @@ use Rattle.command_line.specs.Faults.{IsReadingFault}
 use Rattle.level_text.specs.Games.{spelled_game}
 
 -- what the files of a level, a script and a live part hold, and what the level is called
-pub record Sources : Type 0 where
+pub record PageSources : Type 0 where
   pub name : List ℕ
   pub level : List ℕ
   pub script : List ℕ
   pub live : List ℕ
-
-abbrev pub sources_of : (name level script live : List ℕ) → Sources
-sources_of name level script live = record { name = name; level = level; script = script; live = live }
 
 -- the frames that so many events show, kept as changes
 abbrev pub film_to : Game → List Event → (done : ℕ) → List ℕ
 film_to g events done = film_of (frames_to g (emits (take done events)))
 
 -- the page of a game and a list of events, so many of which are done, and behind it the live part as it is
-abbrev pub page_for : Game → Sources → Numbers → List Event → (done : ℕ) → FrameSpan → List ℕ
+abbrev pub page_for : Game → PageSources → Numbers → List Event → (done : ℕ) → FrameSpan → List ℕ
 page_for g sources settings events done span =
     page_of sources.name sources.level sources.script settings events done (emits (take done events)) (film_to g events done) span
     ++ sources.live
@@ -46,7 +43,7 @@ pub record IsDoneLog (g : Game) (log : List ℕ) (settings : Numbers) (events : 
   pub end : (done ≡ length events) ⊎ IsIllegalAt (setup_for g settings) events done
 
 -- the page of the log was written, of which all events are legal and show all frames
-abbrev pub Pages : (old new : Option (List ℕ)) → Sources → FrameSpan → (log : List ℕ) → Game → Type 0
+abbrev pub Pages : (old new : Option (List ℕ)) → PageSources → FrameSpan → (log : List ℕ) → Game → Type 0
 Pages old new sources span log g = (settings : Numbers) × (events : List Event) × IsDoneLog g log settings events (length events)
     × (settings.frames ≤ emits events) × Appends old new (page_for g sources settings events (length events) span)
 
@@ -62,12 +59,12 @@ IsShort settings events filmed fault =
     ⊎ ((length events ≤ filmed.done) × (filmed.shown < settings.frames) × (fault ≡ Incomplete filmed.shown settings.frames))
 
 -- nothing was written, or a first part of the page of the log
-abbrev pub PagesPart : (old new : Option (List ℕ)) → Sources → FrameSpan → (log : List ℕ) → Game → Type 0
+abbrev pub PagesPart : (old new : Option (List ℕ)) → PageSources → FrameSpan → (log : List ℕ) → Game → Type 0
 PagesPart old new sources span log g = Keeps old new ⊎ ((settings : Numbers) × (events : List Event) × (done : ℕ)
     × IsDoneLog g log settings events done × AppendsPart old new (page_for g sources settings events done span))
 
 -- the page of what is legal of the log was written
-abbrev pub PagesFew : (old new : Option (List ℕ)) → Sources → FrameSpan → (log : List ℕ) → Game → Type 0
+abbrev pub PagesFew : (old new : Option (List ℕ)) → PageSources → FrameSpan → (log : List ℕ) → Game → Type 0
 PagesFew old new sources span log g = (settings : Numbers) × (events : List Event) × (done : ℕ)
     × IsDoneLog g log settings events done × Appends old new (page_for g sources settings events done span)
 
@@ -91,8 +88,8 @@ IsPageFault log fault g = IsReadingFault log fault
 
 -- of some level, script and log, for words that name files, of which no contract says what they hold
 abbrev pub PagesSome : (old new : Option (List ℕ)) → FrameSpan → Type 0
-PagesSome old new span = (sources : Sources) × (log : List ℕ) × IsSomeAnd (spelled_game sources.level sources.script) (Pages old new sources span log)
+PagesSome old new span = (sources : PageSources) × (log : List ℕ) × IsSomeAnd (spelled_game sources.level sources.script) (Pages old new sources span log)
 
 abbrev pub PagesSomePart : (old new : Option (List ℕ)) → FrameSpan → Type 0
 PagesSomePart old new span = Keeps old new
-    ⊎ ((sources : Sources) × (log : List ℕ) × IsSomeAnd (spelled_game sources.level sources.script) (PagesPart old new sources span log))
+    ⊎ ((sources : PageSources) × (log : List ℕ) × IsSomeAnd (spelled_game sources.level sources.script) (PagesPart old new sources span log))

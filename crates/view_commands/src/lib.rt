@@ -3,6 +3,7 @@
 
 mod arguments;
 pub mod laws;
+mod page_sources;
 mod paging;
 mod program;
 mod request;
@@ -10,6 +11,7 @@ mod tracing;
 mod view_words_reading;
 
 pub use command_line::{refuse_unread_words, words_given};
+pub use page_sources::PageSources;
 pub use paging::page_bytes;
 pub use program::view_command;
 pub use request::ViewWords;

@@ -4,7 +4,7 @@ use Rattle.view_commands.proofs.paging.page_text.Goals as goal
 
 pub returns : goal.returns
 returns c =
-    c.in_ok-extend_from_slice.ensures.items ∙ ap (λ l. l ++ c.args.sources.3.now)
-    (in_three c.args.sources.0.now c.args.sources.1.now c.args.sources.2.now c.args.settings c.args.events.now c.args.filmed.now.done c.args.filmed.now.shown
+    c.in_ok-extend_from_slice.ensures.items ∙ ap (λ l. l ++ c.args.sources.live)
+    (in_three c.args.sources.name c.args.sources.level c.args.sources.script c.args.settings c.args.events.now c.args.filmed.now.done c.args.filmed.now.shown
     c.args.filmed.now.film.items c.args.frames c.new-page.result.items c.push_sources.new.page.items c.push_run.new.page.items c.push_jobs.new.page.items
     c.new-page.ensures.items c.in_ok-push_sources.ensures (rw c.deref.ensures.value at c.in_ok-push_run.ensures) c.in_ok-push_jobs.ensures)
