@@ -43,7 +43,7 @@ def goal_of(said):
     # rt cuts long lines, perhaps within the name.
     if "the `invariant` of the struct" in said:
         return "invariant"
-    found = re.search(r"\(`([\w-]+)`?", said) or re.search(r"`([\w-]+)`", said)
+    found = re.match(r"error: `([\w-]+)`: ", said) or re.search(r"\(`([\w-]+)`?", said) or re.search(r"`([\w-]+)`", said)
     return found[1] if found else ""
 
 
@@ -110,6 +110,7 @@ def look_at_itself():
         (False, "size ensures", "./proofs/node/Node/+size/Answers.antt:3:9: error: `depth-returns`: it is not so"),
         (True, "least invariant", "note: src/marks.rt:4:5: it is not proved that the `invariant` of the struct's `impl Model` holds of its fields (`invaria"),
         (True, "least invariant", note.format(4, "the invariant of the loop holds", "places-init")),
+        (True, "least invariant", "./proofs/marks/least/Answers.antt:3:9: error: `invariant_of-self`: `rw`: no occurrence: the positions of the goal (`d`)"),
         (False, "least ensures", note.format(9, "what the function ensures holds when it returns", "returns")),
         (False, "first_with has", note.format(9, "what the function ensures holds when it returns", "returns-clause-first")),
         (False, "first_with first", note.format(9, "what nearer requires holds", "nearer-requires")),
