@@ -96,14 +96,14 @@ module _ (v : View) (places : List ℕ) where
     grows = λ s. (p ∷ [], asks_one p s.left s);
     within = λ s. within_given v places n (tick v (Move p) n s).reply;
     fed = λ s fed leads.
-      let e : length (s.asked ++ p ∷ []) ≡ length s.asked + 1 = length-append s.asked (p ∷ []) in
-      uses_one p s.left s refl ∙ ap (drop 1) fed ∙ drop-drop 1 (length s.asked) (ways_there v places)
-      ∙ ap (λ k. drop k (ways_there v places)) (sym e) ∙ ap (λ l. drop (length l) (ways_there v places)) (sym (asks_one p s.left s));
+        let e : length (s.asked ++ p ∷ []) ≡ length s.asked + 1 = length-append s.asked (p ∷ []) in
+        uses_one p s.left s refl ∙ ap (drop 1) fed ∙ drop-drop 1 (length s.asked) (ways_there v places)
+        ∙ ap (λ k. drop k (ways_there v places)) (sym e) ∙ ap (λ l. drop (length l) (ways_there v places)) (sym (asks_one p s.left s));
     wants = λ s told un long fed leads.
-      let first = first_left p s fed (subst (λ l. BeginsWith l places) (asks_one p s.left s) leads) in
-      subst (λ left. IsMet (Move p) n s told (ask p left s)) (sym first)
-      (follows p n s (record s { asked = s.asked ++ p ∷ []; left = map (way v.world v.signals (cell_of v)) (subst (λ l. BeginsWith l places) (asks_one p s.left s) leads).0 }) told (omega (arith, long)) refl
-      (way v.world v.signals (cell_of v) p) refl);
+        let first = first_left p s fed (subst (λ l. BeginsWith l places) (asks_one p s.left s) leads) in
+        subst (λ left. IsMet (Move p) n s told (ask p left s)) (sym first)
+        (follows p n s (record s { asked = s.asked ++ p ∷ []; left = map (way v.world v.signals (cell_of v)) (subst (λ l. BeginsWith l places) (asks_one p s.left s) leads).0 }) told (omega (arith, long)) refl
+        (way v.world v.signals (cell_of v) p) refl);
   }
 
   same_result : (d : LeafResult) (s : State) → ((act d s).state.asked ≡ s.asked) × ((act d s).state.left ≡ s.left)

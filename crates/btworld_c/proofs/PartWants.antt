@@ -129,17 +129,17 @@ module _ (v : View) (places : List ℕ) where
   node part tells p nodes n stays t = record {
     grows = t.grows;
     within = λ s. within_append n (n + length (p ∷ nodes)) (tells s) (given n (part s).reply)
-      (within_wider (n + 1) (n + 1 + length nodes) n (n + length (p ∷ nodes)) (tells s) (omega arith) (omega arith) (t.within s))
-      (within_wider n (n + 1) n (n + length (p ∷ nodes)) (given n (part s).reply) (omega arith) (omega arith) (within_given n (part s).reply));
+        (within_wider (n + 1) (n + 1 + length nodes) n (n + length (p ∷ nodes)) (tells s) (omega arith) (omega arith) (t.within s))
+        (within_wider n (n + 1) n (n + length (p ∷ nodes)) (given n (part s).reply) (omega arith) (omega arith) (within_given n (part s).reply));
     fed = t.fed;
     wants = λ s told un long fed leads.
-      let now : Told = written (tells s) told in
-      let all : Told = written (tells s ++ given n (part s).reply) told in
-      let more : all ≡ written (given n (part s).reply) now = written_more (tells s) (given n (part s).reply) told in
-      t.wants s told (λ k a b. un k (omega (arith, a)) (omega (arith, b))) (omega (arith, long)) fed leads
-      ∙ ap (λ l. s.wants ++ l)
-      (picked_local v nodes (n + 1) now all (λ k a b. sym (ap (λ (l : Told). get_or l k None) more ∙ outside n (n + 1) (given n (part s).reply) now k (λ j x y e. omega (arith, a, x, y, e)) (within_given n (part s).reply)))
-      ∙ ap (λ l. l ++ picked v nodes (n + 1) all) (sym (does_not_act p (is_running (get_or all n None)) stays)));
+        let now : Told = written (tells s) told in
+        let all : Told = written (tells s ++ given n (part s).reply) told in
+        let more : all ≡ written (given n (part s).reply) now = written_more (tells s) (given n (part s).reply) told in
+        t.wants s told (λ k a b. un k (omega (arith, a)) (omega (arith, b))) (omega (arith, long)) fed leads
+        ∙ ap (λ l. s.wants ++ l)
+        (picked_local v nodes (n + 1) now all (λ k a b. sym (ap (λ (l : Told). get_or l k None) more ∙ outside n (n + 1) (given n (part s).reply) now k (λ j x y e. omega (arith, a, x, y, e)) (within_given n (part s).reply)))
+        ∙ ap (λ l. l ++ picked v nodes (n + 1) all) (sym (does_not_act p (is_running (get_or all n None)) stays)));
   }
 
   -- ---- a part, and the next where it goes on
@@ -158,11 +158,11 @@ module _ (v : View) (places : List ℕ) where
       within = λ s. within_wider mid (mid + length ys) lo (lo + length (xs ++ ys)) (tells s) (omega (arith, there)) (let e = length_both in omega (arith, e)) (t.within s);
       fed = t.fed;
       wants = λ s told un long fed leads.
-        let all : Told = written (tells s) told in
-        let e = length_both in
-        let free : picked v xs lo all ≡ [] = picked_none v xs lo all (λ k a b. outside mid (mid + length ys) (tells s) told k (λ j x y z. omega (arith, there, b, x, z)) (t.within s) ∙ un k a (omega (arith, there, b, e))) in
-        t.wants s told (λ k a b. un k (omega (arith, there, a)) (omega (arith, b, e))) (omega (arith, long, e)) fed leads
-        ∙ ap (λ l. s.wants ++ l) (sym (picked_both all ∙ ap (λ l. l ++ picked v ys mid all) free));
+          let all : Told = written (tells s) told in
+          let e = length_both in
+          let free : picked v xs lo all ≡ [] = picked_none v xs lo all (λ k a b. outside mid (mid + length ys) (tells s) told k (λ j x y z. omega (arith, there, b, x, z)) (t.within s) ∙ un k a (omega (arith, there, b, e))) in
+          t.wants s told (λ k a b. un k (omega (arith, there, a)) (omega (arith, b, e))) (omega (arith, long, e)) fed leads
+          ∙ ap (λ l. s.wants ++ l) (sym (picked_both all ∙ ap (λ l. l ++ picked v ys mid all) free));
     }
 
     module _ (t : Tells part tells xs lo) (goes : Reply → Bool) (next : Reply → State → Result) (tells_next : Reply → State → List (ℕ × Status)) (whole : State → Result)
@@ -207,14 +207,14 @@ module _ (v : View) (places : List ℕ) where
           let all : Told = written (tells s ++ tells_on s true) told in
           let more : all ≡ written (tells_on s true) now = written_more (tells s) (tells_on s true) told in
           let first : u.wants ≡ s.wants ++ picked v xs lo now =
-              t.wants s told (λ k a b. un k a (omega (arith, b, h, there))) (omega (arith, long, h, there)) fed (leads_first s true e leads) in
+          t.wants s told (λ k a b. un k a (omega (arith, b, h, there))) (omega (arith, long, h, there)) fed (leads_first s true e leads) in
           let still : picked v xs lo now ≡ picked v xs lo all =
-              picked_local v xs lo now all (λ k a b. sym (ap (λ (l : Told). get_or l k None) more
-              ∙ outside mid (mid + length ys) (tells_on s true) now k (λ j x y z. omega (arith, there, b, x, z)) ((after (part s).reply e).within u))) in
+          picked_local v xs lo now all (λ k a b. sym (ap (λ (l : Told). get_or l k None) more
+          ∙ outside mid (mid + length ys) (tells_on s true) now k (λ j x y z. omega (arith, there, b, x, z)) ((after (part s).reply e).within u))) in
           let free : Untold mid (mid + length ys) now =
-              λ k a b. outside lo (lo + length xs) (tells s) told k (λ j x y z. omega (arith, there, a, y, z)) (t.within s) ∙ un k (omega (arith, a, there)) (omega (arith, b, h)) in
+          λ k a b. outside lo (lo + length xs) (tells s) told k (λ j x y z. omega (arith, there, a, y, z)) (t.within s) ∙ un k (omega (arith, a, there)) (omega (arith, b, h)) in
           let second : (next (part s).reply u).state.wants ≡ u.wants ++ picked v ys mid (written (tells_on s true) now) =
-              (after (part s).reply e).wants u now free (let q = length-written (tells s) told in omega (arith, q, long, h)) (t.fed s fed (leads_first s true e leads)) (leads_next s e leads) in
+          (after (part s).reply e).wants u now free (let q = length-written (tells s) told in omega (arith, q, long, h)) (t.fed s fed (leads_first s true e leads)) (leads_next s e leads) in
           ap (λ (r : Result). r.state.wants) (on_go s e) ∙ second ∙ ap (λ (l : Told). u.wants ++ picked v ys mid l) (sym more)
           ∙ ap (λ l. l ++ picked v ys mid all) (first ∙ ap (λ l. s.wants ++ l) still)
           ∙ append_assoc s.wants (picked v xs lo all) (picked v ys mid all) ∙ ap (λ l. s.wants ++ l) (sym (picked_both all))
@@ -224,9 +224,9 @@ module _ (v : View) (places : List ℕ) where
           let all : Told = written (tells s ++ []) told in
           let more : all ≡ now = written_more (tells s) [] told in
           let first : (part s).state.wants ≡ s.wants ++ picked v xs lo now =
-              t.wants s told (λ k a b. un k a (omega (arith, b, h, there))) (omega (arith, long, h, there)) fed (leads_first s false e leads) in
+          t.wants s told (λ k a b. un k a (omega (arith, b, h, there))) (omega (arith, long, h, there)) fed (leads_first s false e leads) in
           let free : picked v ys mid now ≡ [] =
-              picked_none v ys mid now (λ k a b. outside lo (lo + length xs) (tells s) told k (λ j x y z. omega (arith, there, a, y, z)) (t.within s) ∙ un k (omega (arith, a, there)) (omega (arith, b, h))) in
+          picked_none v ys mid now (λ k a b. outside lo (lo + length xs) (tells s) told k (λ j x y z. omega (arith, there, a, y, z)) (t.within s) ∙ un k (omega (arith, a, there)) (omega (arith, b, h))) in
           (on_stop s e).wants ∙ first
           ∙ ap (λ l. s.wants ++ l) (sym (append-nil (picked v xs lo now)) ∙ ap (λ l. picked v xs lo now ++ l) (sym free) ∙ sym (picked_both now) ∙ ap (picked v (xs ++ ys) lo) (sym more))
 

@@ -19,7 +19,7 @@ returns c =
       row = told.row;
       granted = subst (λ (b : Bool). TellsGranted p on a b) (sym told.granted) c.in_ok-granted.ensures;
       wanted =
-        intent_there p.position.world on p.game.trees p.position.memories c.intents.ensures.one_each a c.requires ∙ c.in_ok-node.ensures.wanted
-        ∙ ap (λ (n : ℕ). wanted_by p on a n) (sym told.node);
+          intent_there p.position.world on p.game.trees p.position.memories c.intents.ensures.one_each a c.requires ∙ c.in_ok-node.ensures.wanted
+          ∙ ap (λ (n : ℕ). wanted_by p on a n) (sym told.node);
       node = subst (λ (n : ℕ). IsWantingNode (actors (slice_index_or p.game.trees a (Does Carrying))) (answers_under p on a) n) (sym told.node) c.in_ok-node.ensures.node;
     }
