@@ -45,7 +45,7 @@ pub static SUBCOMMANDS: [Subcommand; 2] = [
             Argument {
                 name: "log",
                 value: "LOG",
-                help: "The log file, as `btworld play --log` writes it",
+                help: "The log file, as `btworld play --log` or btjobs writes it",
                 form: Form::Place,
             },
             FROM,
