@@ -80,7 +80,7 @@ pub fn unrolled(alloc: Global, played: &Played) -> Result<Vec<u8>> {
         first: 1,
         last: 9999,
     };
-    page_bytes(alloc, sources, played.log.clone()?, frames, &mut out)
+    page_bytes(alloc, &sources, played.log.clone()?, frames, &mut out)
         .ok()
         .context("no page")?;
     let page = str::from_utf8(&out.bytes).ok().context("not UTF-8")?;

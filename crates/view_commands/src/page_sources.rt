@@ -1,7 +1,7 @@
 use std::marker::Model;
 
 /// What the files of a page's level, script and live part hold, and what the level is called.
-#[derive(Clone, Copy)]
+#[derive(Drop)]
 pub struct PageSources<'p> {
     pub name: &'p [u8],
     pub level: &'p [u8],

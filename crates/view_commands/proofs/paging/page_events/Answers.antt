@@ -16,7 +16,7 @@ returns-in-Err-page_text-clause-fault g c = λ log reading. inr (c.args.settings
 pub returns-in-Err-put-clause-part : goal.returns-in-Err-put-clause-part
 returns-in-Err-put-clause-part g c = λ log reading.
     first_page c.args.session.now log c.args.settings c.args.events.now c.in-Ok.filmed
-    c.args.sources c.args.frames reading c.in-Ok.ensures c.deref.result.now
+    c.args.sources.now c.args.frames reading c.in-Ok.ensures c.deref.result.now
     (c.deref.ensures.value ∙ c.in-Ok-page_text.ensures) (g.W.Write.contents c.args.out.now) (g.W.Write.contents c.put.new.out) c.in-Err-put.ensures.err
 
 pub returns-in-Err-put-clause-fault : goal.returns-in-Err-put-clause-fault
@@ -26,7 +26,7 @@ pub returns-clause-ok : goal.returns-clause-ok
 returns-clause-ok g c = λ log reading.
     on_ok_map c.said_of.result _ _
     (whole_page c.args.session.now log c.args.settings c.args.events.now c.in-Ok.filmed
-    c.args.sources c.args.frames reading c.in-Ok.ensures c.deref.result.now
+    c.args.sources.now c.args.frames reading c.in-Ok.ensures c.deref.result.now
     (c.deref.ensures.value ∙ c.in-Ok-page_text.ensures) (g.W.Write.contents c.args.out.now) (g.W.Write.contents c.put.new.out) c.in-Ok-put.ensures.ok)
     c.said_of.ensures.whole
 
@@ -34,11 +34,11 @@ pub returns-clause-part : goal.returns-clause-part
 returns-clause-part g c = λ log reading.
     on_err c.said_of.result _
     (all_page c.args.session.now log c.args.settings c.args.events.now c.in-Ok.filmed
-    c.args.sources c.args.frames reading c.in-Ok.ensures c.deref.result.now
+    c.args.sources.now c.args.frames reading c.in-Ok.ensures c.deref.result.now
     (c.deref.ensures.value ∙ c.in-Ok-page_text.ensures) (g.W.Write.contents c.args.out.now) (g.W.Write.contents c.put.new.out) c.in-Ok-put.ensures.ok)
 
 pub returns-clause-fault : goal.returns-clause-fault
 returns-clause-fault g c = λ log reading.
     said c.args.session.now log c.args.settings c.args.events.now c.in-Ok.filmed
-    c.args.sources c.args.frames reading c.in-Ok.ensures c.said_of.result
+    c.args.sources.now c.args.frames reading c.in-Ok.ensures c.said_of.result
     c.said_of.ensures.fault
