@@ -16,7 +16,6 @@ With --long there are 1,000 random games, 10,000 orders of each clean game, and 
 printed. Without it, it takes some two minutes on four processors. What wants a tool that isn't there is left out; the last line but one
 says what, and the last one counts."""
 import argparse
-import json
 import os
 import re
 import shutil
@@ -58,6 +57,17 @@ impl Game for G {
     fn draw(&self, w: &Vec<u8>, band: u32) -> u8 { w[band as usize] }
 }
 fn main() {}
+"""
+
+# Writes the log of a run by 20 threads, of 300 thinks a frame, each of which asks once.
+WIDE_RUN = """
+import sys
+from btjobs import Ask, Game, Settings, run, write_log
+class Asking(Game):
+    def think(self, view, answers): return sum(answers) if answers else Ask(view.agent)
+    def answer(self, view, question): return question
+n = Settings(frames=3, agents=300, bands=20, most_questions=1)
+write_log(open(sys.argv[1], "w"), n, 20, run(Asking(), n, 20).log, "of a run")
 """
 
 
@@ -247,19 +257,15 @@ class Tried:
             self.run("node", "--check", script)
 
     def traced(self):
-        """A log whose numbers are within those of btworld's logs is one of them, but for its first line and remarks."""
-        btview = TOP / "crates/btview/out/btview"
-        log, of_btworld = self.room / "traced.log", self.room / "of_btworld.log"
-        self.run(sys.executable, EXAMPLES / "epidemic.py", "random", "--log", log, "--seeds", "4", status=1)
-        lines = [line for line in log.read_text().splitlines() if not line.startswith("#")]
-        head = lines[0].split()
-        number = dict(zip(head[3::2], map(int, head[4::2])))
-        most = {"workers": 16, "small": 16, "large": 63}
-        lines[0] = "btworld log 2 " + " ".join(f"{name} {min(number[name], most.get(name, 9999))}" for name in ("frames", "workers", "small", "large", "slots"))
-        of_btworld.write_text("\n".join(lines) + "\n")
-        trace = json.loads(self.run(btview, "trace", of_btworld))
-        if not trace:
-            raise Failed("the trace is empty")
+        """`btview trace` shows a log that the finder wrote, and one of more agents and workers than btworld has: each stretch, frame and question is there."""
+        found, wide, trace, said = self.room / "found.log", self.room / "wide.log", self.room / "trace.json", []
+        self.run(sys.executable, EXAMPLES / "epidemic.py", "random", "--log", found, "--seeds", "4", status=1)
+        self.env["PYTHONPATH"] = str(TOP / "python/src")
+        self.run(sys.executable, "-c", WIDE_RUN, wide)
+        for log in found, wide:
+            trace.write_text(self.run(TOP / "crates/btview/out/btview", "trace", log))
+            said.append(self.run(sys.executable, TOP / "scripts/pages/read_trace.py", trace, log).strip())
+        return "; ".join(said)
 
     def log_writer(self):
         program = self.room / "writes_log"

@@ -16,16 +16,18 @@ from pathlib import Path
 
 TOP = Path(__file__).resolve().parents[2]
 FIELDS = {"M": {"name", "args"}, "X": {"tid", "ts", "dur", "cat", "name", "args"}}
-PRINTER = 17
+# (the printer's lane, by the first word of the log)
+PRINTER = {"btworld": 17, "btjobs": 65}
 
 
 def begins_of(log):
     """Returns what the slices of a log have to be: of each lane and event the kind of job, and what an arrow leads into."""
     begins, ends = {}, {}
-    for at, line in enumerate(log.splitlines()[1:]):
+    printer = PRINTER[log.split()[0]]
+    for at, line in enumerate(it for it in log.splitlines()[1:] if not it.startswith("#")):
         words = line.split()
         if words[0] == "emit":
-            begins[PRINTER, at] = "emit"
+            begins[printer, at] = "emit"
         elif words[1:] and words[1] in ("start", "resume"):
             here = int(words[0]) + 1, at
             begins[here] = words[2]

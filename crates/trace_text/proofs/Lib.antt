@@ -1,3 +1,4 @@
 pub mod OneMore
 pub mod Apart
 pub mod Ends
+pub mod Joined

@@ -1,19 +1,18 @@
 -- What an entry of a trace says of a slice: where it stands, which job it is of, how that was begun and left, and what joins it with others.
-use Rattle.std.specs.Prelude.{ℕ, ◌+◌, ◌*◌, ◌%◌, Bool, true, if◌then◌else◌, List, [], ◌∷◌, ◌++◌, codes, decimal, Option, Some, None}
+use Rattle.std.specs.Prelude.{ℕ, ◌+◌, ◌*◌, Bool, true, if◌then◌else◌, List, [], ◌++◌, codes, decimal, Option, Some, None}
 use Rattle.job_core.specs.declared.names.JobName.{JobName}
 use Rattle.job_core.specs.declared.names.JobName.TheVariants.{Logic, Think, Path, Draw}
 use Rattle.job_core.specs.declared.names.Event.{Event}
 use Rattle.job_core.specs.declared.names.Event.TheVariants.{Start, Resume, Ask, Spread, Hold, Finish, Emit, Stop}
-
-abbrev pub letter : ℕ → List ℕ
-letter agent = (65 + agent % 26) ∷ []
+use Rattle.trace_text.specs.declared.board.Board.{Board}
+use Rattle.trace_text.specs.Boards.{agent_text, joined_in}
 
 -- what a job is called
-abbrev pub name_text : JobName → List ℕ
-name_text (Logic frame) = codes "Logic " ++ decimal frame
-name_text (Think frame agent) = codes "Think " ++ decimal frame ++ letter agent
-name_text (Path frame agent question) = codes "Path " ++ decimal frame ++ letter agent ++ codes "." ++ decimal question
-name_text (Draw frame band) = codes "Draw " ++ decimal frame ++ codes "." ++ decimal band
+abbrev pub name_text : Board → JobName → List ℕ
+name_text board (Logic frame) = codes "Logic " ++ decimal frame
+name_text board (Think frame agent) = codes "Think " ++ decimal frame ++ agent_text board agent
+name_text board (Path frame agent question) = codes "Path " ++ decimal frame ++ agent_text board agent ++ codes "." ++ decimal question
+name_text board (Draw frame band) = codes "Draw " ++ decimal frame ++ codes "." ++ decimal band
 
 abbrev pub kind_text : JobName → List ℕ
 kind_text (Logic frame) = codes "logic"
@@ -52,20 +51,20 @@ unfoldable pub where_text : (thread begin long : ℕ) → List ℕ
 where_text thread begin long = entry_text ++ codes ",\"tid\":" ++ decimal thread ++ codes ",\"ts\":" ++ decimal begin ++ codes ",\"dur\":" ++ decimal long
 
 -- the job
-unfoldable pub what_text : JobName → List ℕ
-what_text job = codes ",\"cat\":\"" ++ kind_text job ++ codes "\",\"name\":\"" ++ name_text job ++ codes "\",\"args\":{" ++ numbers_text job
+unfoldable pub what_text : Board → JobName → List ℕ
+what_text board job = codes ",\"cat\":\"" ++ kind_text job ++ codes "\",\"name\":\"" ++ name_text board job ++ codes "\",\"args\":{" ++ numbers_text job
 
 -- how it was begun and left, which ends what is told of the job
 unfoldable pub how_text : Bool → Option Event → List ℕ
 how_text goes_on next = codes ",\"begun\":\"" ++ begun_text goes_on ++ codes "\",\"left\":\"" ++ left_text next ++ codes "\"}"
 
--- The number that joins the slices of a Logic, or of a Think and the Paths that it asks: frame f's Logic has 100 f, and agent a's Think 100 f + a + 1. A
--- Draw is joined with nothing.
-abbrev pub joined_by : JobName → Option ℕ
-joined_by (Logic frame) = Some (100 * frame)
-joined_by (Think frame agent) = Some (100 * frame + agent + 1)
-joined_by (Path frame agent question) = Some (100 * frame + agent + 1)
-joined_by (Draw frame band) = None
+-- The number that joins the slices of a Logic, or of a Think and the Paths that it asks: where a frame has 100 numbers, frame f's Logic has 100 f, and
+-- agent a's Think 100 f + a + 1. A Draw is joined with nothing.
+abbrev pub joined_by : Board → JobName → Option ℕ
+joined_by board (Logic frame) = Some (frame * joined_in board)
+joined_by board (Think frame agent) = Some (frame * joined_in board + agent + 1)
+joined_by board (Path frame agent question) = Some (frame * joined_in board + agent + 1)
+joined_by board (Draw frame band) = None
 
 -- whether an arrow leads into the slice: a Path's comes from its Think, that of a job which goes on from what it waited for
 abbrev pub is_led_into : JobName → Bool → Bool
@@ -80,5 +79,5 @@ abbrev pub arrow_from : Option ℕ → Bool → List ℕ
 arrow_from None led = codes "}"
 arrow_from (Some number) led = (codes ",\"bind_id\":\"" ++ decimal number) ++ codes "\",\"flow_out\":true" ++ into_text led ++ codes "}"
 
-abbrev pub arrow_text : JobName → Bool → List ℕ
-arrow_text job goes_on = arrow_from (joined_by job) (is_led_into job goes_on)
+abbrev pub arrow_text : Board → JobName → Bool → List ℕ
+arrow_text board job goes_on = arrow_from (joined_by board job) (is_led_into job goes_on)

@@ -1,8 +1,11 @@
--- What is said of the slices of a list.
-use Rattle.std.specs.Prelude.{ℕ, zero, suc, ◌≡◌, ◌≤◌, ◌<◌, ◌⊎◌, List, [], ◌∷◌, length}
+-- What is said of the slices of a list, and of the numbers that join some of them.
+use Rattle.std.specs.Prelude.{ℕ, zero, suc, ◌+◌, ◌≡◌, ◌≤◌, ◌<◌, ◌⊎◌, List, [], ◌∷◌, length}
 use Rattle.job_core.specs.declared.names.JobName.{JobName}
 use Rattle.job_core.specs.declared.names.Event.{Event}
 use Rattle.job_core.specs.declared.names.Event.TheVariants.{Start, Resume, Ask, Spread, Hold, Finish}
+use Rattle.job_core.specs.declared.names.JobName.TheVariants.{Think, Path}
+use Rattle.trace_text.specs.declared.board.Board.{Board}
+use Rattle.trace_text.specs.declared.board.Board.TheVariants.{Play, Jobs}
 use Rattle.trace_text.specs.declared.slice.Slice.{Slice}
 
 -- one ends before the other begins, where one worker runs both
@@ -38,3 +41,17 @@ IsLeft worker job event = (event ≡ Ask worker job) ⊎ ((event ≡ Spread work
 -- the slice ends where its worker leaves its job, or the list ends before that
 abbrev pub EndsIn : List Event → Slice → Type 0
 EndsIn events slice = (slice.end ≡ length events) ⊎ ((event : Event) × StandsAt slice.end event events × IsLeft slice.worker slice.job event)
+
+-- how many agents there are, or may be
+abbrev pub agents_of : Board → ℕ
+agents_of (Play workers) = 26
+agents_of (Jobs workers agents) = agents
+
+-- the agent, from 1 on, whose Think or Path the job is; 0 for none
+abbrev pub agent_in : JobName → ℕ
+agent_in (Think frame agent) = agent + 1
+agent_in (Path frame agent question) = agent + 1
+agent_in _ = 0
+
+abbrev pub IsOf : Board → JobName → Type 0
+IsOf board job = agent_in job ≤ agents_of board

@@ -1,3 +1,4 @@
+pub mod Boards
 pub mod Jobs
 pub mod Trace
 pub mod Slices

@@ -2,6 +2,7 @@
 ghost use Rattle.std.specs.Prelude.{◌≡◌, ◌++◌, decimal, codes, OnOk};
 ghost use Rattle.trace_text.specs.Jobs.{joined_by, is_led_into, into_text, arrow_from, arrow_text};
 
+use crate::board::Board;
 use byte_streams::push_number;
 use job_core::names::JobName;
 use std::alloc::AllocError;
@@ -12,13 +13,14 @@ const OUT: &str = "\",\"flow_out\":true";
 
 const INTO: &str = ",\"flow_in\":true";
 
-fn joined_by(job: JobName) -> Option<u64>
-    ensures { result ≡ joined_by job }
+fn joined_by(board: Board, job: JobName) -> Option<u128>
+    ensures { result ≡ joined_by board job }
 {
+    let joined = u128::from(board.joined());
     match job {
-        JobName::Logic { frame } => Some(100 * u64::from(frame)),
+        JobName::Logic { frame } => Some(u128::from(frame) * joined),
         JobName::Think { frame, agent } | JobName::Path { frame, agent, .. } => {
-            Some(100 * u64::from(frame) + u64::from(agent) + 1)
+            Some(u128::from(frame) * joined + u128::from(agent) + 1)
         }
         JobName::Draw { .. } => None,
     }
@@ -42,7 +44,7 @@ fn into_text(led: bool) -> &'static str
 fn push_joined(
     text: &mut Vec<u8>,
     joined: &str,
-    number: u64,
+    number: u128,
     out: &str,
     into: &str,
 ) -> Result<(), AllocError>
@@ -55,7 +57,7 @@ fn push_joined(
     text.extend_from_slice(b"}")
 }
 
-fn push_arrow_from(text: &mut Vec<u8>, joined: Option<u64>, led: bool) -> Result<(), AllocError>
+fn push_arrow_from(text: &mut Vec<u8>, joined: Option<u128>, led: bool) -> Result<(), AllocError>
     ensures { OnOk result (text.new.items ≡ text.old.items ++ arrow_from joined led) }
 {
     match joined {
@@ -65,8 +67,13 @@ fn push_arrow_from(text: &mut Vec<u8>, joined: Option<u64>, led: bool) -> Result
 }
 
 /// Appends the arrows from and to a slice, and the end of its entry.
-pub fn push_arrow(text: &mut Vec<u8>, job: JobName, goes_on: bool) -> Result<(), AllocError>
-    ensures { OnOk result (text.new.items ≡ text.old.items ++ arrow_text job goes_on) }
+pub fn push_arrow(
+    text: &mut Vec<u8>,
+    board: Board,
+    job: JobName,
+    goes_on: bool,
+) -> Result<(), AllocError>
+    ensures { OnOk result (text.new.items ≡ text.old.items ++ arrow_text board job goes_on) }
 {
-    push_arrow_from(text, joined_by(job), is_led_into(job, goes_on))
+    push_arrow_from(text, joined_by(board, job), is_led_into(job, goes_on))
 }

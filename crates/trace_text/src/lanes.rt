@@ -1,7 +1,8 @@
 // The names of the lanes, and their order.
 ghost use Rattle.std.specs.Prelude.{◌≡◌, ◌+◌, ◌++◌, decimal, OnOk};
-ghost use Rattle.trace_text.specs.Trace.{worker_text, printer_text, place_text, lane_text, workers_text, lanes_text};
+ghost use Rattle.trace_text.specs.Trace.{worker_text, printer_text, place_text, lane_text, workers_text, printer_lane_text, lanes_text};
 
+use crate::board::Board;
 use crate::parts::{push_two, thread_of};
 use byte_streams::push_number;
 use std::alloc::AllocError;
@@ -39,10 +40,10 @@ fn push_worker(text: &mut Vec<u8>, thread: u64, worker: u32) -> Result<(), Alloc
     push_two(text, LANE, thread, WORKER, u64::from(worker), NAME_END)
 }
 
-fn push_printer(text: &mut Vec<u8>) -> Result<(), AllocError>
-    ensures { OnOk result (text.new.items ≡ text.old.items ++ printer_text) }
+fn push_printer(text: &mut Vec<u8>, thread: u64) -> Result<(), AllocError>
+    ensures { OnOk result (text.new.items ≡ text.old.items ++ printer_text thread) }
 {
-    push_named(text, LANE, 17, PRINTER, NAME_END)
+    push_named(text, LANE, thread, PRINTER, NAME_END)
 }
 
 fn push_place(text: &mut Vec<u8>, thread: u64) -> Result<(), AllocError>
@@ -67,11 +68,17 @@ fn push_workers(text: &mut Vec<u8>, workers: u32) -> Result<(), AllocError>
     Ok(())
 }
 
-/// Appends the names of so many workers' lanes, and that of the printer's.
-pub fn push_lanes(text: &mut Vec<u8>, workers: u32) -> Result<(), AllocError>
-    ensures { OnOk result (text.new.items ≡ text.old.items ++ lanes_text workers) }
+fn push_printer_lane(text: &mut Vec<u8>, thread: u64) -> Result<(), AllocError>
+    ensures { OnOk result (text.new.items ≡ text.old.items ++ printer_lane_text thread) }
 {
-    push_workers(text, workers)?;
-    push_printer(text)?;
-    push_place(text, 17)
+    push_printer(text, thread)?;
+    push_place(text, thread)
+}
+
+/// Appends the names of the workers' lanes, and that of the printer's.
+pub fn push_lanes(text: &mut Vec<u8>, board: Board) -> Result<(), AllocError>
+    ensures { OnOk result (text.new.items ≡ text.old.items ++ lanes_text board) }
+{
+    push_workers(text, board.workers())?;
+    push_printer_lane(text, board.printer())
 }

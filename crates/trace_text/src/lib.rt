@@ -2,6 +2,7 @@
 #![tactic(auto)]
 
 mod arrows;
+mod board;
 mod emits;
 mod lanes;
 mod parts;
@@ -12,6 +13,7 @@ mod span;
 mod whole;
 mod worker_slices;
 
+pub use board::Board;
 pub use slice::Slice;
 pub use span::FrameSpan;
 pub use whole::trace;

@@ -1,8 +1,10 @@
 ghost use Rattle.std.specs.Prelude.{◌≡◌, ◌+◌, ◌-◌, ◌++◌, OnOk};
-ghost use Rattle.trace_text.specs.Jobs.{letter, name_text, kind_text, numbers_text, left_text, begun_text, what_text, how_text};
+ghost use Rattle.trace_text.specs.Boards.{letter, agent_text};
+ghost use Rattle.trace_text.specs.Jobs.{name_text, kind_text, numbers_text, left_text, begun_text, what_text, how_text};
 ghost use Rattle.trace_text.specs.Trace.{slice_text, text_within, slices_text};
 
 use crate::arrows::push_arrow;
+use crate::board::Board;
 use crate::parts::{push_text, push_where, thread_of};
 use crate::slice::Slice;
 use crate::span::FrameSpan;
@@ -16,14 +18,23 @@ fn push_letter(text: &mut Vec<u8>, agent: u32) -> Result<(), AllocError>
     text.extend_from_slice(&[b'A' + (agent % 26) as u8])
 }
 
-fn push_name(text: &mut Vec<u8>, job: JobName) -> Result<(), AllocError>
-    ensures { OnOk result (text.new.items ≡ text.old.items ++ name_text job) }
+fn push_agent(text: &mut Vec<u8>, board: Board, agent: u32) -> Result<(), AllocError>
+    ensures { OnOk result (text.new.items ≡ text.old.items ++ agent_text board agent) }
+{
+    match board {
+        Board::Play { .. } => push_letter(text, agent),
+        Board::Jobs { .. } => push_number(text, b".", agent),
+    }
+}
+
+fn push_name(text: &mut Vec<u8>, board: Board, job: JobName) -> Result<(), AllocError>
+    ensures { OnOk result (text.new.items ≡ text.old.items ++ name_text board job) }
 {
     match job {
         JobName::Logic { frame } => push_number(text, b"Logic ", u64::from(frame)),
         JobName::Think { frame, agent } => {
             push_number(text, b"Think ", u64::from(frame))?;
-            push_letter(text, agent)
+            push_agent(text, board, agent)
         }
         JobName::Path {
             frame,
@@ -31,7 +42,7 @@ fn push_name(text: &mut Vec<u8>, job: JobName) -> Result<(), AllocError>
             question,
         } => {
             push_number(text, b"Path ", u64::from(frame))?;
-            push_letter(text, agent)?;
+            push_agent(text, board, agent)?;
             push_number(text, b".", u64::from(question))
         }
         JobName::Draw { frame, band } => {
@@ -103,12 +114,12 @@ fn long(slice: &Slice) -> usize
 }
 
 #[tactic(auto, unfolding(crate::specs::Jobs::what_text))]
-fn push_what(text: &mut Vec<u8>, job: JobName) -> Result<(), AllocError>
-    ensures { OnOk result (text.new.items ≡ text.old.items ++ what_text job) }
+fn push_what(text: &mut Vec<u8>, board: Board, job: JobName) -> Result<(), AllocError>
+    ensures { OnOk result (text.new.items ≡ text.old.items ++ what_text board job) }
 {
     push_text(text, b",\"cat\":\"", kind_of(job))?;
     text.extend_from_slice(b"\",\"name\":\"")?;
-    push_name(text, job)?;
+    push_name(text, board, job)?;
     text.extend_from_slice(b"\",\"args\":{")?;
     push_numbers(text, job)
 }
@@ -122,30 +133,40 @@ fn push_how(text: &mut Vec<u8>, goes_on: bool, next: Option<Event>) -> Result<()
     text.extend_from_slice(b"\"}")
 }
 
-fn push_slice(text: &mut Vec<u8>, slice: &Slice) -> Result<(), AllocError>
-    ensures { OnOk result (text.new.items ≡ text.old.items ++ slice_text slice.now) }
+fn push_slice(text: &mut Vec<u8>, board: Board, slice: &Slice) -> Result<(), AllocError>
+    ensures { OnOk result (text.new.items ≡ text.old.items ++ slice_text board slice.now) }
 {
     push_where(text, thread_of(slice.worker), slice.begin, long(slice))?;
-    push_what(text, slice.job)?;
+    push_what(text, board, slice.job)?;
     push_how(text, slice.goes_on, slice.next)?;
-    push_arrow(text, slice.job, slice.goes_on)
+    push_arrow(text, board, slice.job, slice.goes_on)
 }
 
-fn push_within(text: &mut Vec<u8>, span: FrameSpan, slice: &Slice) -> Result<(), AllocError>
-    ensures { OnOk result (text.new.items ≡ text.old.items ++ text_within span slice.now) }
+fn push_within(
+    text: &mut Vec<u8>,
+    board: Board,
+    span: FrameSpan,
+    slice: &Slice,
+) -> Result<(), AllocError>
+    ensures { OnOk result (text.new.items ≡ text.old.items ++ text_within board span slice.now) }
 {
     if span.has(slice.job.frame()) {
-        return push_slice(text, slice);
+        return push_slice(text, board, slice);
     }
     Ok(())
 }
 
 /// Appends an entry for each slice of a job of these frames.
-pub fn push_slices(text: &mut Vec<u8>, span: FrameSpan, slices: &[Slice]) -> Result<(), AllocError>
-    ensures { OnOk result (text.new.items ≡ text.old.items ++ slices_text span slices.now) }
+pub fn push_slices(
+    text: &mut Vec<u8>,
+    board: Board,
+    span: FrameSpan,
+    slices: &[Slice],
+) -> Result<(), AllocError>
+    ensures { OnOk result (text.new.items ≡ text.old.items ++ slices_text board span slices.now) }
 {
     'slices: for slice in slices {
-        push_within(text, span, slice)?;
+        push_within(text, board, span, slice)?;
     }
     Ok(())
 }

@@ -4,27 +4,26 @@ use Rattle.std.specs.Prelude.{Result, Ok, Err, OnOk}
 use Rattle.std.specs.Io.KnownBytes.{Appends}
 use Rattle.byte_streams.specs.Streams.{AppendsPart}
 use Rattle.job_core.specs.declared.names.Event.{Event}
-use Rattle.job_scheduler.specs.Numbers.{Numbers}
-use Rattle.log_text.specs.Readings.{IsLog}
+use Rattle.trace_text.specs.declared.board.Board.{Board}
 use Rattle.trace_text.specs.declared.span.FrameSpan.{FrameSpan}
 use Rattle.trace_text.specs.Trace.{trace_of}
-use Rattle.view_commands.specs.Doing.{Traces, TracesPart, TracesSome, TracesSomePart}
+use Rattle.view_commands.specs.Doing.{IsLogOn, Traces, TracesPart, TracesSome, TracesSomePart}
 
 pub on_ok_map : {T E : Type 0} (r : Result T E) (P Q : Type 0) → (P → Q) → OnOk r P → OnOk r Q
 on_ok_map (Ok x) P Q f p = f p
 on_ok_map (Err e) P Q f p = tt
 
 -- the text of the events that a log has, which were read
-module _ (frames : FrameSpan) (log : List ℕ) (settings : Numbers) (events given : List Event) (text : List ℕ) (reading : IsLog log settings events) (are : given ≡ events)
-    (is : text ≡ trace_of settings given frames) (old new : Option (List ℕ)) where
-  of_log : text ≡ trace_of settings events frames
-  of_log = is ∙ ap (λ es. trace_of settings es frames) are
+module _ (frames : FrameSpan) (log : List ℕ) (board : Board) (events given : List Event) (text : List ℕ) (reading : IsLogOn log board events) (are : given ≡ events)
+    (is : text ≡ trace_of board given frames) (old new : Option (List ℕ)) where
+  of_log : text ≡ trace_of board events frames
+  of_log = is ∙ ap (λ es. trace_of board es frames) are
 
   pub whole_text : Appends old new text → Traces old new frames log
-  whole_text wrote = (settings, events, reading, subst (Appends old new) of_log wrote)
+  whole_text wrote = (board, events, reading, subst (Appends old new) of_log wrote)
 
   pub first_text : AppendsPart old new text → TracesPart old new frames log
-  first_text wrote = inr (settings, events, reading, subst (AppendsPart old new) of_log wrote)
+  first_text wrote = inr (board, events, reading, subst (AppendsPart old new) of_log wrote)
 
 -- all that is written is a part
 traces_part : (old new : Option (List ℕ)) (frames : FrameSpan) (log : List ℕ) → Traces old new frames log → TracesPart old new frames log

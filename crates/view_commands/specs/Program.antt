@@ -1,5 +1,5 @@
 -- The viewer's words, and what they ask for.
-use Rattle.std.specs.Prelude.{◌≡◌, ◌≢◌, List, [], Some, codes}
+use Rattle.std.specs.Prelude.{ℕ, ◌≡◌, ◌≢◌, List, [], Some, codes}
 use Rattle.clap.specs.Words.{App, IsAmong, Row, Text, fault_of, first_of, new_app, subcommand_of, subcommand_rows_of, with_rule, with_subcommand}
 use Rattle.clap.specs.declared.error.kind.ErrorKind.TheVariants as kinds
 use Rattle.clap.specs.declared.parser.matches.ArgMatches.{ArgMatches}
@@ -9,13 +9,17 @@ use Rattle.command_line.specs.Program.{default_rule, new_program, path_rule, wor
 use Rattle.view_commands.specs.declared.request.ViewWords.{ViewWords}
 use Rattle.view_commands.specs.declared.request.ViewWords.TheVariants.{Trace, Page}
 
--- `[--from F] [--to T]`
+-- `[--from F] [--to T]`, up to this frame
+abbrev pub with_frames_to : (most : ℕ) (last : Text) → App → App
+with_frames_to most last a = with_rule (with_rule a (default_rule (codes "from") 1 most (codes "1"))) (default_rule (codes "to") 1 most last)
+
+-- those of a run of a level
 abbrev pub with_frames : App → App
-with_frames a = with_rule (with_rule a (default_rule (codes "from") 1 9999 (codes "1"))) (default_rule (codes "to") 1 9999 (codes "9999"))
+with_frames a = with_frames_to 9999 (codes "9999") a
 
 -- `trace LOG [--from F] [--to T]`
 abbrev pub trace : App
-trace = with_frames (with_rule (new_app (codes "trace")) (word_rule (codes "log")))
+trace = with_frames_to 4294967295 (codes "4294967295") (with_rule (new_app (codes "trace")) (word_rule (codes "log")))
 
 -- `page LEVEL LOG [--script FILE] [--live FILE] [--from F] [--to T]`
 abbrev pub page : App

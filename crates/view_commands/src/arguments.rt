@@ -36,6 +36,29 @@ const TO: Argument = Argument {
     },
 };
 
+// A run of a board of jobs alone may have more frames than that of a level.
+const FROM_ANY: Argument = Argument {
+    name: "from",
+    value: "F",
+    help: "The first frame whose jobs are shown, from 1",
+    form: Form::Default {
+        least: 1,
+        most: 4_294_967_295,
+        value: "1",
+    },
+};
+
+const TO_ANY: Argument = Argument {
+    name: "to",
+    value: "T",
+    help: "The last frame whose jobs are shown",
+    form: Form::Default {
+        least: 1,
+        most: 4_294_967_295,
+        value: "4294967295",
+    },
+};
+
 pub static SUBCOMMANDS: [Subcommand; 2] = [
     Subcommand {
         name: "trace",
@@ -45,11 +68,11 @@ pub static SUBCOMMANDS: [Subcommand; 2] = [
             Argument {
                 name: "log",
                 value: "LOG",
-                help: "The log file, as `btworld play --log` writes it",
+                help: "The log file, as `btworld play --log` or btjobs writes it",
                 form: Form::Place,
             },
-            FROM,
-            TO,
+            FROM_ANY,
+            TO_ANY,
         ],
     },
     Subcommand {
