@@ -45,7 +45,7 @@ def loop():
 
 
 def proved():
-    of_dist = subprocess.run([os.path.join(TOP, 'scripts', 'in_dist'), 'btworld'], stdout=subprocess.PIPE, stderr=subprocess.DEVNULL)
+    of_dist = subprocess.run([os.path.join(TOP, 'scripts', 'programs', 'in_dist.sh'), 'btworld'], stdout=subprocess.PIPE, stderr=subprocess.DEVNULL)
     return of_dist.stdout.decode().strip() if of_dist.returncode == 0 else os.path.join(TOP, 'crates', 'btworld', 'out', 'btworld')
 
 
