@@ -26,6 +26,13 @@ impl Rows {
         Rows { text }
     }
 
+    /// The text of all its rows, which is not copied.
+    pub fn into_text(self) -> Vec<u8>
+        ensures { result.items ≡ self }
+    {
+        self.text
+    }
+
     /// The text of all its rows, in ASCII.
     pub fn as_bytes(&self) -> &[u8]
         ensures { result.now ≡ self.now }

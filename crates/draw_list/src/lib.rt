@@ -10,7 +10,7 @@ mod item;
 mod lines;
 
 pub use band::{BAND_ROWS, Band, Rows};
-pub use draw::draw_band;
+pub use draw::{draw_band, draw_band_in};
 pub use draw_fault::DrawFault;
 pub use frame::{draw_frame, frame_text};
 pub use gap::band_count;

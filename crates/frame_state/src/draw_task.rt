@@ -4,7 +4,7 @@ ghost use Rattle.frame_state.specs.Contents.{bands_in};
 use crate::band_out::BandOut;
 use crate::turn::Turn;
 use crate::turned_world::TurnedWorld;
-use draw_list::{DrawFault, draw_band};
+use draw_list::{DrawFault, draw_band_in};
 use game_session::Session;
 use grid_world::World;
 use job_core::names::JobName;
@@ -96,8 +96,15 @@ impl<'t> DrawTask<'t> {
     pub fn work(&self, alloc: Global) -> Result<BandOut<'t>, AllocError>
         ensures { IfOk result (λ band. band ≡ self.now) }
     {
+        self.work_in(Vec::new(alloc))
+    }
+
+    /// The same in the memory of `room`, such as that of a band that is printed, in place of what it holds.
+    pub fn work_in(&self, room: Vec<u8>) -> Result<BandOut<'t>, AllocError>
+        ensures { IfOk result (λ band. band ≡ self.now) }
+    {
         let signals = self.session.script().signals(self.frame);
-        match draw_band(alloc, &self.world, signals, self.band) {
+        match draw_band_in(room, &self.world, signals, self.band) {
             Ok(band) => Ok(BandOut {
                 session: self.session,
                 frame: self.frame,

@@ -159,10 +159,10 @@ impl Ground {
 }
 
 impl Ground {
-    /// The text of some rows with nobody and no item there, from row `first` on.
+    /// The text of some rows with nobody and no item there, from row `first` on, in place of what `room` holds.
     pub fn rows(
         &self,
-        alloc: Global,
+        room: Vec<u8>,
         signals: Signals,
         first: u32,
         count: u32,
@@ -174,7 +174,9 @@ impl Ground {
         let from = first as usize * stride;
         let end = (first + count) as usize * stride;
         let shut = &self.text[from..end];
-        let mut rows = Vec::from_slice(alloc, shut)?;
+        let mut rows = room;
+        rows.clear();
+        rows.extend_from_slice(shut)?;
         signals.open_doors(&mut rows);
         Ok(rows)
     }

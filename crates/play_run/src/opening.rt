@@ -92,7 +92,8 @@ pub fn open<'t, L: RunLedger, M: Ledger, D: Ledger, R: Threads>(
     let (emitted, emits) = emitted;
     let (drawn, draws) = drawn;
     let bands = band_count(session.world().height());
-    let printed = Vec::with_capacity(alloc, bands as usize)?;
+    let most = (bands as usize).saturating_mul(settings.slots() as usize);
+    let printed = Vec::with_capacity(alloc, most)?;
     let board = open_board(alloc, session, settings, named, emitted, drawn)?;
     let (mail, putters, printer) = open_mail(alloc, session, settings)?;
     let shared = Shared::new(rt, board, mail, printed, settings.workers());

@@ -7,7 +7,6 @@ use crate::locked_board::LockedBoard;
 use crate::run_band::RunBand;
 use band_mail::{BandMail, Putter, Taker};
 use draw_list::Band;
-use std::mem;
 use std::sync::ledger::Ledger;
 use std::sync::{Mutex, Wait};
 use std::thread::Threads;
@@ -20,7 +19,7 @@ pub struct Shared<'t, L: RunLedger, M: Ledger, D: Ledger> {
     pub mail: BandMail<RunBand<'t, L>>,
     /// Who sleeps.
     pub wakeups: Wakeups,
-    // Bands of a printed frame, for the workers to let go: they take the same memory again.
+    // Bands of printed frames: the workers draw the next ones in their memory.
     printed: Mutex<Vec<Band>>,
 }
 
@@ -36,7 +35,8 @@ impl<'t, L: RunLedger, M: Ledger, D: Ledger> Drop for Shared<'t, L, M, D> {
 }
 
 impl<'t, L: RunLedger, M: Ledger, D: Ledger> Shared<'t, L, M, D> {
-    /// A board and a mail for so many workers, of which nobody waits yet. `printed` has room for the bands of a frame.
+    /// A board and a mail for so many workers, of which nobody waits yet. `printed` has room for the bands of the frames that can be
+    /// under way.
     pub fn new<R: Threads>(
         rt: &R,
         board: SharedBoard<'t, L, M, D>,
@@ -65,10 +65,16 @@ impl<'t, L: RunLedger, M: Ledger, D: Ledger> Shared<'t, L, M, D> {
         self.wakeups.call_all();
     }
 
-    /// Leaves the bands of a printed frame to the workers, for those that they left, which the next frame's replace.
+    /// Leaves the bands of a printed frame to the workers, as far as there is room for them.
     pub fn leave_printed<R: Wait>(&self, rt: &R, bands: &mut Vec<Band>) {
-        let mut printed = self.printed.lock(rt);
-        mem::swap(&mut *printed, bands);
+        let mut lent = self.printed.lock(rt);
+        let printed = &mut *lent;
+        while let Some(band) = bands.pop() {
+            if printed.len() == printed.capacity() {
+                return;
+            }
+            printed.push_reserved(band);
+        }
     }
 
     /// A band of a printed frame, if there is one and nobody else is about to take one.

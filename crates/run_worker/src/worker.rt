@@ -208,6 +208,7 @@ impl<'h, 't, L: RunLedger, M: Ledger, D: Ledger, G: Gate, R: Wait> Worker<'h, 't
     fn put_drawn(
         &self,
         step: Step<'t>,
+        scratch: &mut Scratch,
         putter: &mut Putter<RunBand<'t, L>>,
     ) -> Option<BoardStep<'t>>
         requires own { IsWorkIn self.now.session.now step }
@@ -220,8 +221,9 @@ impl<'h, 't, L: RunLedger, M: Ledger, D: Ledger, G: Gate, R: Wait> Worker<'h, 't
     {
         let (told, band) = step.deliver();
         if let Some(band) = band {
-            // Its memory is there for the next one.
-            drop(self.shared.take_printed());
+            if let Some(printed) = self.shared.take_printed() {
+                scratch.reuse(printed);
+            }
             if !self.put_band(putter, RunBand::new(band)) {
                 return None;
             }
@@ -269,6 +271,7 @@ impl<'h, 't, L: RunLedger, M: Ledger, D: Ledger, G: Gate, R: Wait> Worker<'h, 't
     fn deliver(
         &self,
         step: Step<'t>,
+        scratch: &mut Scratch,
         putter: &mut Putter<RunBand<'t, L>>,
         share: &mut Share<L>,
         draws: &mut Share<D>,
@@ -284,7 +287,7 @@ impl<'h, 't, L: RunLedger, M: Ledger, D: Ledger, G: Gate, R: Wait> Worker<'h, 't
         ensures stopped { IfOk result (λ d. d.0 ≡ Stopped → share.new.amount ≡ share.old.amount) }
         ensures told { OnOk result (length putter.new.put ≤ draws.new.amount) }
     {
-        let Some(told) = self.put_drawn(step, putter) else {
+        let Some(told) = self.put_drawn(step, scratch, putter) else {
             return Ok((Delivered::Stopped, None));
         };
         self.tell(told, share, draws)
@@ -315,7 +318,7 @@ impl<'h, 't, L: RunLedger, M: Ledger, D: Ledger, G: Gate, R: Wait> Worker<'h, 't
             };
             let step = self.work_of(scratch, &task.task)?;
             task.task.give_back(lease);
-            let (delivered, retired) = self.deliver(step, putter, share, draws)?;
+            let (delivered, retired) = self.deliver(step, scratch, putter, share, draws)?;
             if delivered == Delivered::Stopped {
                 return Ok(());
             }

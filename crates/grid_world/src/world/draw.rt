@@ -21,9 +21,23 @@ impl World {
         requires { first + count ≤ self.now.height }
         ensures { IfOk result (λ rows. rows.items ≡ lines self.now signals first count) }
     {
+        Ok(self.draw_rows_in(Vec::new(alloc), signals, first, count)?)
+    }
+
+    /// The same in the memory of `room`, in place of what it holds. Where that is enough, it takes no memory.
+    pub fn draw_rows_in(
+        &self,
+        room: Vec<u8>,
+        signals: Signals,
+        first: u32,
+        count: u32,
+    ) -> Result<Vec<u8>, AllocError>
+        requires { first + count ≤ self.now.height }
+        ensures { IfOk result (λ rows. rows.items ≡ lines self.now signals first count) }
+    {
         let width = self.width() as usize;
         let stride = width + 1;
-        let mut rows = self.ground.rows(alloc, signals, first, count)?;
+        let mut rows = self.ground.rows(room, signals, first, count)?;
         'rows: for k in 0..count {
             let from = k as usize * stride;
             let row = &mut rows[from..from + width];

@@ -1,5 +1,5 @@
 use super::maps::world_of;
-use draw_list::{Band, DrawFault, DrawItem, draw_band, frame_text};
+use draw_list::{Band, DrawFault, DrawItem, draw_band, draw_band_in, frame_text};
 use grid_world::{Signals, World};
 use std::alloc::Global;
 
@@ -13,8 +13,23 @@ fn drawn(alloc: Global, number: u32) -> Option<Result<Band, DrawFault>> {
     Some(draw_band(alloc, &world, Signals::off(), number))
 }
 
-fn is_band(alloc: Global, number: u32, rows: &[u8]) -> bool {
-    match drawn(alloc, number) {
+// The same in the memory of a longer band of other rows.
+fn redrawn(alloc: Global, number: u32) -> Option<Result<Band, DrawFault>> {
+    let other = twenty_rows(alloc, "##")?;
+    let world = twenty_rows(alloc, ".")?;
+    let Ok(band) = draw_band(alloc, &other, Signals::off(), 0) else {
+        return None;
+    };
+    let Band {
+        number: _,
+        width: _,
+        rows,
+    } = band;
+    Some(draw_band_in(rows.into_text(), &world, Signals::off(), number))
+}
+
+fn is_band(found: Option<Result<Band, DrawFault>>, number: u32, rows: &[u8]) -> bool {
+    match found {
         Some(Ok(band)) => {
             (band.number, band.width) == (number, 1) && band.rows.as_bytes() == rows
         }
@@ -63,7 +78,9 @@ fn twenty_rows_are_three_bands(rt: HostRuntime) {
     let alloc = rt.alloc();
     let first = b"frame 1\n.\n.\n.\n.\n.\n.\n.\n.\n.\n.\n.\n.\n.\n.\n.\n.\n.\n.\n.\n.\n";
     let last = b"frame 9999\n.\n.\n.\n.\n.\n.\n.\n.\n.\n.\n.\n.\n.\n.\n.\n.\n.\n.\n.\n.\n";
-    assert!(rt; is_band(alloc, 2, b".\n.\n.\n.\n"));
+    let third = b".\n.\n.\n.\n";
+    assert!(rt; is_band(drawn(alloc, 2), 2, third));
+    assert!(rt; is_band(redrawn(alloc, 2), 2, third));
     assert!(rt; band_fault(alloc, 3) == Some(DrawFault::NoBand));
     assert!(rt; first.len() == 48 && is_text(alloc, 1, first));
     assert!(rt; is_text(alloc, 9999, last));

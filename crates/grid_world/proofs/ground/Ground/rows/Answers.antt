@@ -1,4 +1,4 @@
-use Rattle.std.proofs.Common.{◌≡◌, ◌≤◌, ◌+◌, ◌-◌, ◌*◌, map, take, drop, length, ap, ap₂, ◌∙◌, arith}
+use Rattle.std.proofs.Common.{◌≡◌, ◌≤◌, ◌+◌, ◌-◌, ◌*◌, ◌++◌, map, take, drop, length, ap, ap₂, ◌∙◌, arith}
 use Rattle.std.proofs.Math.Nat.{mul-le-mul_right}
 use Rattle.grid_world.specs.Ground.{bare, emptied, no_signals}
 use Rattle.grid_world.specs.Rows.{lines, opened}
@@ -25,12 +25,13 @@ returns c =
     let stride = i.columns + 1 in
     let high : i.rows ≡ c.args.self.now.height = ap (λ h. h.height) c.self.view_is in
     let size : (first + count) * stride - first * stride ≡ count * stride = omega arith in
-    let shut : c.in_ok-rows.rows.items ≡ lines g no_signals first count =
-    c.in_ok-rows.ensures.items
+    let shut : c.extend_from_slice.new.self.items ≡ lines g no_signals first count =
+    c.in_ok-extend_from_slice.ensures.items
+    ∙ ap (λ l. l ++ take ((first + count) * stride - first * stride) (drop (first * stride) c.deref.result.now)) c.clear.ensures.items
     ∙ ap₂ (λ n l. take n (drop (first * stride) l)) size (c.deref.ensures.value ∙ c.self.invariant.drawn)
     ∙ lines-cut g no_signals first count i.rows (omega (arith, c.requires, high)) in
     let opens : c.open_doors.new.text ≡ lines (emptied c.args.self.now) on first count =
     c.open_doors.ensures ∙ ap (map (opened on)) (c.deref_mut.ensures.value ∙ shut)
     ∙ opened-lines g c.self.invariant.placed on first count ∙ ap (λ h. lines (emptied h) on first count) c.self.view_is in
-    let long : length c.open_doors.new.text ≡ length c.in_ok-rows.rows.items = c.open_doors.auto.text ∙ ap length c.deref_mut.ensures.value in
-    written_back c.in_ok-rows.rows.len c.open_doors.new.text c.in_ok-rows.rows.items c.in_ok-rows.rows.ok.0 long ∙ opens
+    let long : length c.open_doors.new.text ≡ length c.extend_from_slice.new.self.items = c.open_doors.auto.text ∙ ap length c.deref_mut.ensures.value in
+    written_back c.extend_from_slice.new.self.len c.open_doors.new.text c.extend_from_slice.new.self.items c.extend_from_slice.new.self.ok.0 long ∙ opens

@@ -6,8 +6,8 @@ use Rattle.grid_world.specs.declared.cell.Agent.{Agent}
 use Rattle.grid_world.proofs.Drawn.{row_glyphs-drawn_over, row_within, part_of_row, with_crew}
 use Rattle.grid_world.proofs.Lined.{length-row_glyphs, lines-none, row_inside, row_read, row_written}
 use Rattle.grid_world.proofs.Written.{drawn-elsewhere, drawn-here, letter_within}
-use Rattle.grid_world.proofs.world.World.draw_rows.Goals as goal
-use Rattle.grid_world.proofs.world.World.draw_rows.Goals.{then-contains, else-contains}
+use Rattle.grid_world.proofs.world.World.draw_rows_in.Goals as goal
+use Rattle.grid_world.proofs.world.World.draw_rows_in.Goals.{then-contains, else-contains}
 
 abbrev nobody : Agent
 nobody = record { x = 0; y = 0; carrying = false }

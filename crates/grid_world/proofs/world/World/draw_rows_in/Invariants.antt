@@ -2,7 +2,7 @@ use Rattle.std.proofs.Common.{◌≡◌, ◌++◌, ◌+◌, ◌-◌, [], take}
 use Rattle.grid_world.specs.Ground.{emptied}
 use Rattle.grid_world.specs.Rows.{lines}
 use Rattle.grid_world.proofs.Drawn.{with_crew}
-use Rattle.grid_world.proofs.world.World.draw_rows.Given as goal
+use Rattle.grid_world.proofs.world.World.draw_rows_in.Given as goal
 
 abbrev pub invariant-rows : goal.invariant-rows
 invariant-rows l =
