@@ -23,7 +23,7 @@ crate_of() {
 sum_of_sources() { "$top/scripts/programs/sums.sh" "$(crate_of "$1")" | sha256sum | cut -d ' ' -f 1; }
 
 sum_of_command_line() {
-    (cd "$top" && find crates/{words,view_commands}/{src,specs} -type f | LC_ALL=C sort | xargs -d '\n' sha256sum) | sha256sum | cut -d ' ' -f 1
+    (cd "$top" && find crates/{command_line,view_commands}/{src,specs} -type f | LC_ALL=C sort | xargs -d '\n' sha256sum) | sha256sum | cut -d ' ' -f 1
 }
 
 # Prints a column of the line that SUMS has of a file.

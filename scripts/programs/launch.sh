@@ -26,7 +26,7 @@ is_whole() { [ -x "$1" ] && [ -e "${1%/*}/built_from" ] && [ "$(sha256sum < "$1"
 is_of_these_sources() { [ "$("$top/scripts/programs/sums.sh" "$name")" = "$(head -n -1 "${1%/*}/built_from")" ]; }
 
 # Prints the lines of a record that are of the command line.
-of_the_command_line() { grep -E '  crates/(words|view_commands)/(src|specs)/'; }
+of_the_command_line() { grep -E '  crates/(command_line|view_commands)/(src|specs)/'; }
 
 # Whoever gives no words at a terminal may not know that a level is read from there.
 if [ "$name" = btworld ] && [ $# -eq 0 ] && [ -t 0 ]; then
