@@ -24,7 +24,7 @@ USES = """#![tactic(auto)]
 use bt_tick::Pending;
 use bumpalo::Bump;
 use frame_params::Lease;
-use run_shared::{Hold, RunLedger};
+use run_shared::{LockedBoard, RunLedger};
 use std::alloc::Global;
 use std::sync::ledger::{Ledger, Share};
 use std::thread::{Threads, join};
@@ -47,7 +47,7 @@ pub fn elsewhere<R: Threads>(rt: &R, alloc: Global) -> bool {
     first && second
 }
 
-pub fn twice<'t, L: RunLedger, M: Ledger, D: Ledger>(hold: Hold<'_, 't, L, M, D>, lease: &mut Lease<'t>, mine: &mut Share<L>) -> bool {
+pub fn twice<'t, L: RunLedger, M: Ledger, D: Ledger>(hold: LockedBoard<'_, 't, L, M, D>, lease: &mut Lease<'t>, mine: &mut Share<L>) -> bool {
     let first = hold.take(0, true, lease, mine).is_ok();
     first
 }
