@@ -238,7 +238,6 @@ fn wanting_node(acts: &[bool], answers: &[Option<Status>]) -> u32
 }
 
 // The node of an agent's tree that wants something: what it wants is the tick's intent.
-#[tactic(auto, using(crate::proofs::FirstWant::wanted))]
 fn node_of(alloc: Global, held: &Stepping, signals: Signals, agent: u32) -> Result<u32, AllocError>
     requires { agent < length held.now.game.trees }
     ensures wanted { IfOk result (λ node. (thought_under held.now signals agent).intent ≡ wanted_by held.now signals agent node) }
