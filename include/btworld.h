@@ -7,12 +7,12 @@
  *    used any more: a copy of a handle is no second game (btworld_fork makes one);
  *  - the handles, the buffers and the other pointers of one call don't overlap, and none is null, but for bytes of length 0;
  *  - a buffer has the room that its length says, and a length is at most PTRDIFF_MAX;
- *  - a game is used by one thread at a time, and games, forks too, side by side on as many as there are. Where another thread goes
- *    on with a game, a lock, or the start or the join of a thread, lies between;
+ *  - while a call changes a game, no other call has it; several threads may read one game at once, by the calls that take it as
+ *    `const`. Games, forks too, are used side by side on as many threads as there are. Between a change of a game and what another
+ *    thread does with it lies a lock, or the start or the join of a thread;
  *  - malloc, realloc and free come from one allocator, and align to 16 bytes; no call comes from a signal handler.
  *
- * `const` at a game means that the call leaves the game as it was. Inside it writes to the handle, so the handle is no object that
- * is itself defined `const`, and two threads can't read one game at once.
+ * `const` at a game means that the call reads it and writes nothing of it: from 2.1.0 on, for libraries before wrote to the handle.
  *
  * Each call but btworld_version and btworld_close answers a status, and says below what it *fails with*, in the order in which it looks; NO_MEMORY may
  * come in between. After any failure each handle and each buffer is as it was, and the same call may come again, but for what is

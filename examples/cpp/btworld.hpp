@@ -1,5 +1,5 @@
 // The calls of btworld.h as a class, by the same names. A game can be moved and forked, but not copied, and closes itself; what fails
-// throws. As in btworld.h a game is used by one thread at a time, and forks are games of their own. It needs C++11.
+// throws. As in btworld.h several threads may read a game, by its `const` calls, while none changes it; forks are games of their own. It needs C++11.
 #ifndef BTWORLD_HPP
 #define BTWORLD_HPP
 

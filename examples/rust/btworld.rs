@@ -1,9 +1,8 @@
 //! A safe wrapper of include/btworld.h. A game owns its handle and closes it; what the calls ask of a caller in C is kept by the
 //! types here.
 //!
-//! `Game` is `Send`: what a game and its clones share never changes, and is counted atomically, so each may be on a thread of its
-//! own. It isn't `Sync`, since a call that only reads writes to the handle while it does.
-use std::cell::UnsafeCell;
+//! `Game` is `Send`: what a game and its forks share never changes, and is counted atomically, so each may be on a thread of its
+//! own. It is `Sync`: a call that reads writes nothing of the game, so several threads may.
 use std::fmt;
 use std::ptr;
 
@@ -349,24 +348,27 @@ pub struct Look {
 /// assert_eq!(Game::open(b"{}", b"").err(), Some(Fault::Refused("level: shape".into())));
 /// # Ok::<(), Fault>(())
 /// ```
-// The calls that only read write to the handle while they do, so it lies in a cell. Games side by side are handles side by side.
+// Games side by side are handles side by side.
 #[repr(transparent)]
-pub struct Game(UnsafeCell<Handle>);
+pub struct Game(Handle);
 
 // SAFETY: the library is proved for this: what a game shares with its clones never changes, and is counted atomically, and nothing
 // of it belongs to a thread.
 unsafe impl Send for Game {}
 
+// SAFETY: the calls that take a game as `const` write nothing of it, as btworld.h says.
+unsafe impl Sync for Game {}
+
 impl Game {
     fn closed() -> Game {
-        Game(UnsafeCell::new(Handle { at: ptr::null_mut(), is_open: false }))
+        Game(Handle { at: ptr::null_mut(), is_open: false })
     }
 
     /// The game of a level before its first frame, with a script for `step_script`; an empty one turns nothing.
     pub fn open(level: &[u8], script: &[u8]) -> Result<Game, Fault> {
-        let game = Game::closed();
+        let mut game = Game::closed();
         // SAFETY: the handle is closed and lives through the call; a slice has as many bytes as it says, and is never null.
-        match unsafe { btworld_open_script(game.0.get(), level.as_ptr(), level.len(), script.as_ptr(), script.len()) } {
+        match unsafe { btworld_open_script(&mut game.0, level.as_ptr(), level.len(), script.as_ptr(), script.len()) } {
             16.. => Err(Fault::Refused(fault_text(level, script)?)),
             status => done(status).map(|()| game),
         }
@@ -374,9 +376,9 @@ impl Game {
 
     /// The game of a level in the state that `state` wrote, with a script for `step_script`; an empty one turns nothing.
     pub fn load(level: &[u8], state: &str, script: &[u8]) -> Result<Game, Fault> {
-        let (game, text) = (Game::closed(), state.as_ptr());
+        let (mut game, text) = (Game::closed(), state.as_ptr());
         // SAFETY: as in `open`.
-        match unsafe { btworld_load_script(game.0.get(), level.as_ptr(), level.len(), script.as_ptr(), script.len(), text, state.len()) } {
+        match unsafe { btworld_load_script(&mut game.0, level.as_ptr(), level.len(), script.as_ptr(), script.len(), text, state.len()) } {
             64 => Err(Fault::Refused("state: no text of a state".into())),
             65 => Err(Fault::Refused("state: of another level".into())),
             66 => Err(Fault::Refused("state: no world of the level".into())),
@@ -387,41 +389,41 @@ impl Game {
 
     /// The next frame, with these signals on: bit 0 is `a`. After a fault no frame is stepped.
     pub fn step(&mut self, signals: u32) -> Result<(), Fault> {
-        // SAFETY: no other call has this handle: none comes from another thread, since the type is not `Sync`, or from within one.
-        done(unsafe { btworld_step(self.0.get(), signals) })
+        // SAFETY: no other call has a handle that one changes, since that takes the only reference to it.
+        done(unsafe { btworld_step(&mut self.0, signals) })
     }
 
     /// The next frame, with the signals of the script. After a fault no frame is stepped.
     pub fn step_script(&mut self) -> Result<(), Fault> {
         // SAFETY: as in `step`.
-        done(unsafe { btworld_step_script(self.0.get()) })
+        done(unsafe { btworld_step_script(&mut self.0) })
     }
 
     /// A frame with each of these signals, in their order. After a fault `frame` tells how many were stepped.
     pub fn run(&mut self, signals: &[u32]) -> Result<(), Fault> {
         let mut stepped = 0;
         // SAFETY: as in `step`; a slice has as many numbers as it says, and is never null.
-        done(unsafe { btworld_run(self.0.get(), signals.as_ptr(), signals.len(), &mut stepped) })
+        done(unsafe { btworld_run(&mut self.0, signals.as_ptr(), signals.len(), &mut stepped) })
     }
 
     /// The text of the frame.
     pub fn text(&self) -> Result<String, Fault> {
         // SAFETY: as in `step`; the buffer is as long as it says, and overlaps neither the handle nor the size.
-        written(|text, capacity, size| unsafe { btworld_text(self.0.get(), text, capacity, size) })
+        written(|text, capacity, size| unsafe { btworld_text(&self.0, text, capacity, size) })
     }
 
     /// An agent after the frame, 0 for `A`.
     pub fn agent(&self, number: u32) -> Result<Agent, Fault> {
         let mut state = AgentState::default();
         // SAFETY: as in `step`.
-        done(unsafe { btworld_agent(self.0.get(), number, &mut state) })?;
+        done(unsafe { btworld_agent(&self.0, number, &mut state) })?;
         Ok(Agent::of(state))
     }
 
     /// All agents after the frame, or before the first one, `A` first.
     pub fn agents(&self) -> Vec<Agent> {
         // SAFETY: as in `text`. The handle is open, so there is no fault.
-        let states = filled(|agents, capacity, size| unsafe { btworld_agents(self.0.get(), agents, capacity, size) });
+        let states = filled(|agents, capacity, size| unsafe { btworld_agents(&self.0, agents, capacity, size) });
         states.expect("an open game has agents").into_iter().map(Agent::of).collect()
     }
 
@@ -429,7 +431,7 @@ impl Game {
     pub fn map(&self) -> Size {
         let mut size = Size { width: 0, height: 0, agents: 0 };
         // SAFETY: as in `step`; the three numbers don't overlap. The handle is open, so there is no fault.
-        done(unsafe { btworld_map(self.0.get(), &mut size.width, &mut size.height, &mut size.agents) })
+        done(unsafe { btworld_map(&self.0, &mut size.width, &mut size.height, &mut size.agents) })
             .expect("an open game has a map");
         size
     }
@@ -438,21 +440,21 @@ impl Game {
     pub fn cell(&self, x: u32, y: u32) -> Result<Cell, Fault> {
         let mut state = CellState::default();
         // SAFETY: as in `step`.
-        done(unsafe { btworld_cell(self.0.get(), x, y, &mut state) })?;
+        done(unsafe { btworld_cell(&self.0, x, y, &mut state) })?;
         Ok(Cell::of(state))
     }
 
     /// All cells after the frame, or before the first one, row after row.
     pub fn cells(&self) -> Vec<Cell> {
         // SAFETY: as in `text`. The handle is open, so there is no fault.
-        let states = filled(|cells, capacity, size| unsafe { btworld_cells(self.0.get(), cells, capacity, size) });
+        let states = filled(|cells, capacity, size| unsafe { btworld_cells(&self.0, cells, capacity, size) });
         states.expect("an open game has cells").into_iter().map(Cell::of).collect()
     }
 
     /// The memory of an agent after the frame, 0 for `A`: a number for each node of its tree, in preorder.
     pub fn memory(&self, number: u32) -> Result<Vec<u16>, Fault> {
         // SAFETY: as in `text`.
-        filled(|numbers, capacity, size| unsafe { btworld_memory(self.0.get(), number, numbers, capacity, size) })
+        filled(|numbers, capacity, size| unsafe { btworld_memory(&self.0, number, numbers, capacity, size) })
     }
 
     /// What each node of an agent's tree, 0 for `A`, answers in the next frame if that has these signals, in preorder; `None` for one
@@ -460,27 +462,27 @@ impl Game {
     pub fn nodes(&self, signals: u32, number: u32) -> Result<Vec<Option<Answer>>, Fault> {
         // SAFETY: as in `text`.
         let answers: Vec<u8> =
-            filled(|answers, capacity, size| unsafe { btworld_nodes(self.0.get(), signals, number, answers, capacity, size) })?;
+            filled(|answers, capacity, size| unsafe { btworld_nodes(&self.0, signals, number, answers, capacity, size) })?;
         Ok(answers.into_iter().map(Answer::of).collect())
     }
 
     /// The names of an agent's nodes, 0 for `A`, in preorder: of each a line, with two spaces for each level above it.
     pub fn node_names(&self, number: u32) -> Result<String, Fault> {
         // SAFETY: as in `text`.
-        written(|text, capacity, size| unsafe { btworld_node_names(self.0.get(), number, text, capacity, size) })
+        written(|text, capacity, size| unsafe { btworld_node_names(&self.0, number, text, capacity, size) })
     }
 
     /// What `btworld why` writes of an agent, 0 for `A`, if the next frame has these signals.
     pub fn why(&self, signals: u32, number: u32) -> Result<String, Fault> {
         // SAFETY: as in `text`.
-        written(|text, capacity, size| unsafe { btworld_why(self.0.get(), signals, number, text, capacity, size) })
+        written(|text, capacity, size| unsafe { btworld_why(&self.0, signals, number, text, capacity, size) })
     }
 
     /// The signals of the frame, and those that the script has in the next one: bit 0 is `a`.
     pub fn signals(&self) -> Result<(u32, u32), Fault> {
         let (mut shown, mut scripted) = (0, 0);
         // SAFETY: as in `step`; the two numbers don't overlap.
-        done(unsafe { btworld_signals(self.0.get(), &mut shown, &mut scripted) })?;
+        done(unsafe { btworld_signals(&self.0, &mut shown, &mut scripted) })?;
         Ok((shown, scripted))
     }
 
@@ -489,7 +491,7 @@ impl Game {
     pub fn way(&self, signals: u32, number: u32, place: u32) -> Result<Way, Fault> {
         let mut state = WayState::default();
         // SAFETY: as in `step`.
-        done(unsafe { btworld_way(self.0.get(), signals, number, place, &mut state) })?;
+        done(unsafe { btworld_way(&self.0, signals, number, place, &mut state) })?;
         Ok(match Direction::of(state.direction) {
             Some(direction) => Way::Steps(direction, state.steps),
             None if state.direction == 4 => Way::Here,
@@ -501,7 +503,7 @@ impl Game {
     pub fn intent(&self, signals: u32, number: u32) -> Result<Intent, Fault> {
         let mut state = IntentState::default();
         // SAFETY: as in `step`.
-        done(unsafe { btworld_intent(self.0.get(), signals, number, &mut state) })?;
+        done(unsafe { btworld_intent(&self.0, signals, number, &mut state) })?;
         let deed = match (state.deed, Direction::of(state.direction.into())) {
             (1, Some(direction)) => Deed::Move(direction),
             (2, _) => Deed::Take,
@@ -516,14 +518,14 @@ impl Game {
     /// The signals of the frames so far, as a script.
     pub fn script(&self) -> Result<String, Fault> {
         // SAFETY: as in `text`.
-        written(|text, capacity, size| unsafe { btworld_script(self.0.get(), text, capacity, size) })
+        written(|text, capacity, size| unsafe { btworld_script(&self.0, text, capacity, size) })
     }
 
     /// How many frames were stepped.
     pub fn frame(&self) -> u32 {
         let mut frame = 0;
         // SAFETY: as in `step`. The handle is open, so there is no fault.
-        done(unsafe { btworld_frame(self.0.get(), &mut frame) }).expect("an open game has a frame");
+        done(unsafe { btworld_frame(&self.0, &mut frame) }).expect("an open game has a frame");
         frame
     }
 
@@ -531,7 +533,7 @@ impl Game {
     pub fn digest(&self) -> u64 {
         let mut digest = 0;
         // SAFETY: as in `step`. It takes no memory, and the handle is open, so there is no fault.
-        done(unsafe { btworld_digest(self.0.get(), &mut digest) }).expect("an open game has a digest");
+        done(unsafe { btworld_digest(&self.0, &mut digest) }).expect("an open game has a digest");
         digest
     }
 
@@ -539,21 +541,21 @@ impl Game {
     pub fn level_digest(&self) -> u64 {
         let mut digest = 0;
         // SAFETY: as in `step`. It takes no memory, and the handle is open, so there is no fault.
-        done(unsafe { btworld_level_digest(self.0.get(), &mut digest) }).expect("an open game has a level's digest");
+        done(unsafe { btworld_level_digest(&self.0, &mut digest) }).expect("an open game has a level's digest");
         digest
     }
 
     /// The state by lines, after the frame or before the first one, to be compared with another machine's by `diff`, or loaded.
     pub fn state(&self) -> Result<String, Fault> {
         // SAFETY: as in `text`.
-        written(|text, capacity, size| unsafe { btworld_state(self.0.get(), text, capacity, size) })
+        written(|text, capacity, size| unsafe { btworld_state(&self.0, text, capacity, size) })
     }
 
     /// The same game at the same frame, to be gone on with apart from this one.
     pub fn fork(&self) -> Result<Game, Fault> {
-        let copy = Game::closed();
+        let mut copy = Game::closed();
         // SAFETY: as in `step`; the other handle is closed.
-        done(unsafe { btworld_fork(self.0.get(), copy.0.get()) })?;
+        done(unsafe { btworld_fork(&self.0, &mut copy.0) })?;
         Ok(copy)
     }
 }
@@ -601,7 +603,7 @@ impl PartialEq for Game {
         // Two handles of one call don't overlap, and a game is in its own state.
         if !ptr::eq(self, other) {
             // SAFETY: as in `step`. It takes no memory, and both handles are open, so there is no fault.
-            done(unsafe { btworld_same(self.0.get(), other.0.get(), &mut same) }).expect("open games can be compared");
+            done(unsafe { btworld_same(&self.0, &other.0, &mut same) }).expect("open games can be compared");
         }
         same
     }
@@ -618,6 +620,6 @@ impl fmt::Debug for Game {
 impl Drop for Game {
     fn drop(&mut self) {
         // SAFETY: as in `step`, and it is not used again.
-        unsafe { btworld_close(self.0.get()) }
+        unsafe { btworld_close(&mut self.0) }
     }
 }

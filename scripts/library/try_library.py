@@ -13,7 +13,7 @@ The C caller of logs completes a first line alone, and shows the same frames of 
 in the middle, whose completion is the whole log again; PROGRAM replays both to the same bytes. With each growth of memory refused in
 turn games and buffers are as they were; a library with hooks takes memory of its program alone. Each call of 2.1.0 tells what single calls
 or the plain player tell (look_at_calls.py). Threads that take turns at a game are
-well under helgrind, and so is a job system that steps many games and forks; with 1,000 games on 4 threads it comes to the digests of one
+well under helgrind, so are two that read one at once, and a job system that steps many games and forks; with 1,000 games on 4 threads it comes to the digests of one
 thread. Levels and scripts with each fault are refused by their line. The header compiles alone and with each of its calls by each
 standard, and each call fails of a closed handle; the shared library has its calls and no others. C++ opens games of texts of all kinds by
 each standard, and the tests of the Rust crate pass by cargo, offline, with the archive and with the shared library. The Python package
@@ -232,7 +232,8 @@ class Callers:
         return tried + 1
 
     def try_threads(self):
-        """Games go from thread to thread, and side by side with their forks; where no lock lies between, helgrind has to tell."""
+        """Games go from thread to thread, side by side with their forks, and are read by two at once; where a lock is missing, or one steps
+        what another reads, helgrind has to tell."""
         many = self.c("many_games", EXAMPLES / "c/many_games.c", self.shared, "-pthread")
         made = call(many, TOP / "levels/warehouse.json", 1000, 100, 4)
         look(made.returncode == 0, f"many_games: status {made.returncode}, {made.stderr!r}")
@@ -247,10 +248,11 @@ class Callers:
                 if made.returncode == 0:
                     break
             look(made.returncode == 0, f"many_games: status {made.returncode}, {made.stderr[-2000:]!r}")
-        for name, flags in [("hand_over", []), ("race", ["-DWITHOUT_LOCK"])]:
-            caller = self.c(name, HERE / "hand_over.c", self.archive, "-pthread", *flags)
+        for source, name, flags in [("hand_over.c", "hand_over", []), ("hand_over.c", "race", ["-DWITHOUT_LOCK"]),
+                                    ("read_at_once.c", "read_at_once", []), ("read_at_once.c", "step_meanwhile", ["-DWITH_STEP"])]:
+            caller = self.c(name, HERE / source, self.archive, "-pthread", *flags)
             made = call(*RACES, caller, TOP / "levels/warehouse.json", 9)
-            is_so = made.returncode == 0 if name == "hand_over" else b"Possible data race" in made.stderr
+            is_so = b"Possible data race" in made.stderr if flags else made.returncode == 0
             look(is_so, f"{name}: status {made.returncode}, {made.stderr[-2000:]!r}")
 
     def refuse_growths(self, games):

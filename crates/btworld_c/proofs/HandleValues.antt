@@ -1,5 +1,5 @@
 -- The machine values of a `Handle`. Assumes `Logic`.
-use Rattle.std.proofs.Common.{◌≡◌, ℕ, List, [], ◌∷◌, ◌++◌, refl, subst, lit<, Some, None}
+use Rattle.std.proofs.Common.{◌≡◌, ◌≢◌, ℕ, Option, List, [], ◌∷◌, ◌++◌, refl, subst, lit<, Some, None}
 use mathlib.Core.Bool.{true, ◌&&◌}
 use lib.Dec.{T}
 use seplogic.Ra.Ura.{Ura}
@@ -43,6 +43,10 @@ LZ = heap_laws.the_row_laws
 
 abbrev pub Handle : RattleType
 Handle = handle.the_row
+
+pub some_of : {X : Type 0} (o : Option X) → o ≢ None → (x : X) × (o ≡ Some x)
+some_of None ne = absurd (ne refl)
+some_of (Some x) ne = (x, refl)
 
 pub null_good : (h : Val) → Good (layout Z) h → T (has_ty (layout Z) h && true) × WT (both (vint w64 0) h)
 null_good h fits = (and_tt (has_ty (layout Z) h) fits.0, (record { fits = lit< tt }, (fits.1, tt)))

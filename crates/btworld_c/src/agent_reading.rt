@@ -4,10 +4,9 @@ ghost use Rattle.btworld_c.specs.Buffers.{IsFilled, IsShort};
 ghost use Rattle.btworld_c.specs.Statuses.{done, closed, short, IsLookStatus};
 ghost use Rattle.btworld_c.specs.Agents.{answer_seen, agent_seen, agents_seen, AreAgents, AreTooManyAgents};
 
-use crate::game::{Agent, Game, put, take};
+use crate::game::{Agent, Game};
 use crate::game_reading::status_number;
 use crate::status::{CLOSED, OK, SHORT};
-use std::alloc::Global;
 use stepping::Stepping;
 
 // How many agents a game has.
@@ -79,12 +78,7 @@ fn fill_agents(held: &Stepping, agents: &mut [Agent], size: &mut usize) -> u32
 /// short for them: then the status is 5. Before the first frame the status of an agent is 3. It is 2 for a closed handle. Where it
 /// is not 0 the buffer is as it was. It takes time linear in the number of agents, and no memory.
 #[unsafe(no_mangle)]
-pub extern "C" fn btworld_agents(
-    alloc: Global,
-    game: &mut Game,
-    agents: &mut [Agent],
-    size: &mut usize,
-) -> u32
+pub extern "C" fn btworld_agents(game: &mut Game, agents: &mut [Agent], size: &mut usize) -> u32
     ensures ok { result ≡ done → AreAgents game.old.handle.value size.new agents.old agents.new }
     ensures short { result ≡ short → AreTooManyAgents game.old.handle.value size.new agents.old }
     ensures untouched { result ≢ done → agents.new ≡ agents.old }
@@ -94,10 +88,8 @@ pub extern "C" fn btworld_agents(
     ensures status { IsLookStatus result }
     ensures kept { game.new.handle.value ≡ game.old.handle.value }
 {
-    let Some(held) = take(alloc, game) else {
+    if !game.is_open {
         return CLOSED;
-    };
-    let status = fill_agents(&held, agents, size);
-    put(game, held);
-    status
+    }
+    fill_agents(game.handle.get_mut(), agents, size)
 }

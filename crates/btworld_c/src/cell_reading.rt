@@ -5,11 +5,10 @@ ghost use Rattle.btworld_c.specs.Buffers.{IsFilled, IsShort};
 ghost use Rattle.btworld_c.specs.Statuses.{done, closed, short, IsLookStatus};
 ghost use Rattle.btworld_c.specs.Maps.{world_of, cell_told, cells_told, AreCells, AreTooManyCells};
 
-use crate::game::{CellState, Game, put, take};
+use crate::game::{CellState, Game};
 use crate::map_reading::cell_in;
 use crate::status::{CLOSED, OK, SHORT};
 use grid_world::World;
-use std::alloc::Global;
 use stepping::Stepping;
 
 // How many cells a world has.
@@ -66,12 +65,7 @@ fn fill_cells(held: &Stepping, cells: &mut [CellState], size: &mut usize) -> u32
 /// too short for them: then the status is 5. It is 2 for a closed handle. Where it is not 0 the buffer is as it was. It takes
 /// time linear in the number of cells, and no memory.
 #[unsafe(no_mangle)]
-pub extern "C" fn btworld_cells(
-    alloc: Global,
-    game: &mut Game,
-    cells: &mut [CellState],
-    size: &mut usize,
-) -> u32
+pub extern "C" fn btworld_cells(game: &mut Game, cells: &mut [CellState], size: &mut usize) -> u32
     ensures ok { result ≡ done → AreCells game.old.handle.value size.new cells.old cells.new }
     ensures short { result ≡ short → AreTooManyCells game.old.handle.value size.new cells.old }
     ensures untouched { result ≢ done → cells.new ≡ cells.old }
@@ -81,10 +75,8 @@ pub extern "C" fn btworld_cells(
     ensures status { IsLookStatus result }
     ensures kept { game.new.handle.value ≡ game.old.handle.value }
 {
-    let Some(held) = take(alloc, game) else {
+    if !game.is_open {
         return CLOSED;
-    };
-    let status = fill_cells(&held, cells, size);
-    put(game, held);
-    status
+    }
+    fill_cells(game.handle.get_mut(), cells, size)
 }

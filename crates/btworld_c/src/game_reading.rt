@@ -6,7 +6,7 @@ ghost use Rattle.btworld_c.specs.Readings.{IsText, IsTooLong, IsAgent, IsBeyondA
 ghost use Rattle.stepping.specs.Played.{most_text, text_of};
 
 use crate::buffer::fill;
-use crate::game::{Agent, Game, put, read, take};
+use crate::game::{Agent, Game, read};
 use crate::status::{CLOSED, NO_AGENT, NO_FRAME, NO_MEMORY, OK};
 use bt_nodes::Status;
 use std::alloc::Global;
@@ -50,7 +50,7 @@ pub extern "C" fn btworld_text(
     ensures status { IsTextStatus result }
     ensures kept { game.new.handle.value ≡ game.old.handle.value }
 {
-    match read(alloc, game, |held| text_of(alloc, held)) {
+    match read(game, |held| text_of(alloc, held)) {
         Some(Ok(written)) => fill(&written, text, size),
         Some(Err(status)) => status,
         None => CLOSED,
@@ -97,7 +97,7 @@ fn agent_of(held: &Stepping, number: u32) -> Result<Agent, u32>
 /// An agent after the frame, 0 for `A`. The status is 2 for a closed handle, 4 before the first frame, 6 where there is no
 /// such agent. Where it is not 0 nothing is written. It takes constant time.
 #[unsafe(no_mangle)]
-pub extern "C" fn btworld_agent(alloc: Global, game: &mut Game, number: u32, out: &mut Agent) -> u32
+pub extern "C" fn btworld_agent(game: &mut Game, number: u32, out: &mut Agent) -> u32
     ensures ok { result ≡ done → IsAgent game.old.handle.value number out.new }
     ensures beyond { result ≡ beyond_agents → IsBeyondAgents game.old.handle.value number }
     ensures untouched { result ≢ done → out.new ≡ out.old }
@@ -108,7 +108,7 @@ pub extern "C" fn btworld_agent(alloc: Global, game: &mut Game, number: u32, out
     ensures status { IsAgentStatus result }
     ensures kept { game.new.handle.value ≡ game.old.handle.value }
 {
-    match read(alloc, game, |held| agent_of(held, number)) {
+    match read(game, |held| agent_of(held, number)) {
         Some(Ok(agent)) => {
             *out = agent;
             OK
@@ -120,7 +120,7 @@ pub extern "C" fn btworld_agent(alloc: Global, game: &mut Game, number: u32, out
 
 /// How many frames were stepped. The status is 0, or 2 for a closed handle, and then nothing is written.
 #[unsafe(no_mangle)]
-pub extern "C" fn btworld_frame(alloc: Global, game: &mut Game, frame: &mut u32) -> u32
+pub extern "C" fn btworld_frame(game: &mut Game, frame: &mut u32) -> u32
     ensures ok { result ≡ done → IsFrame game.old.handle.value frame.new }
     ensures untouched { result ≢ done → frame.new ≡ frame.old }
     ensures closed { game.old.handle.value ≡ None → result ≡ closed }
@@ -128,7 +128,7 @@ pub extern "C" fn btworld_frame(alloc: Global, game: &mut Game, frame: &mut u32)
     ensures answered { (result ≡ done) ⊎ (result ≡ closed) }
     ensures kept { game.new.handle.value ≡ game.old.handle.value }
 {
-    let Some(now) = read(alloc, game, Stepping::frame) else {
+    let Some(now) = read(game, Stepping::frame) else {
         return CLOSED;
     };
     *frame = now;
@@ -139,7 +139,7 @@ pub extern "C" fn btworld_frame(alloc: Global, game: &mut Game, frame: &mut u32)
 /// have the same digest. The status is 0, or 2 for a closed handle, and then nothing is written. It takes time linear in the
 /// number of cells and of nodes, and no memory.
 #[unsafe(no_mangle)]
-pub extern "C" fn btworld_digest(alloc: Global, game: &mut Game, digest: &mut u64) -> u32
+pub extern "C" fn btworld_digest(game: &mut Game, digest: &mut u64) -> u32
     ensures ok { result ≡ done → IsDigest game.old.handle.value digest.new }
     ensures untouched { result ≢ done → digest.new ≡ digest.old }
     ensures closed { game.old.handle.value ≡ None → result ≡ closed }
@@ -147,7 +147,7 @@ pub extern "C" fn btworld_digest(alloc: Global, game: &mut Game, digest: &mut u6
     ensures answered { (result ≡ done) ⊎ (result ≡ closed) }
     ensures kept { game.new.handle.value ≡ game.old.handle.value }
 {
-    let Some(now) = read(alloc, game, Stepping::digest) else {
+    let Some(now) = read(game, Stepping::digest) else {
         return CLOSED;
     };
     *digest = now;
@@ -158,12 +158,7 @@ pub extern "C" fn btworld_digest(alloc: Global, game: &mut Game, digest: &mut u6
 /// signals in the next frame. Games in the same state go on alike. The status is 0, or 2 where a handle is closed, and then
 /// nothing is written. It reads both until they differ, and takes no memory.
 #[unsafe(no_mangle)]
-pub extern "C" fn btworld_same(
-    alloc: Global,
-    game: &mut Game,
-    other: &mut Game,
-    same: &mut bool,
-) -> u32
+pub extern "C" fn btworld_same(game: &mut Game, other: &mut Game, same: &mut bool) -> u32
     ensures ok { result ≡ done → TellsSame game.old.handle.value other.old.handle.value same.new }
     ensures untouched { result ≢ done → same.new ≡ same.old }
     ensures closed { (game.old.handle.value ≡ None) ⊎ (other.old.handle.value ≡ None) → result ≡ closed }
@@ -172,15 +167,9 @@ pub extern "C" fn btworld_same(
     ensures kept { game.new.handle.value ≡ game.old.handle.value }
     ensures other_kept { other.new.handle.value ≡ other.old.handle.value }
 {
-    let Some(held) = take(alloc, game) else {
+    if !game.is_open || !other.is_open {
         return CLOSED;
-    };
-    let Some(twin) = take(alloc, other) else {
-        put(game, held);
-        return CLOSED;
-    };
-    *same = held.is_same(&twin);
-    put(game, held);
-    put(other, twin);
+    }
+    *same = game.handle.get_mut().is_same(other.handle.get_mut());
     OK
 }

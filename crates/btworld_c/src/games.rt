@@ -176,7 +176,7 @@ pub extern "C" fn btworld_fork(alloc: Global, game: &mut Game, copy: &mut Game) 
     if copy.is_open {
         return OPEN;
     }
-    match read(alloc, game, |held| forked(alloc, held)) {
+    match read(game, |held| forked(alloc, held)) {
         Some(Ok(other)) => {
             put(copy, other);
             OK

@@ -28,6 +28,9 @@ impl Model for Handle {
 }
 
 impl Handle {
+    ghost use Rattle.btworld_c.specs.Lends.{lends_game};
+    ghost use types.Logic.{sem};
+
     fn of_loose(loose: Loose<Stepping, Global>) -> Handle
         ensures { result.value ≡ Some loose.value }
     {
@@ -62,6 +65,15 @@ impl Handle {
         ensures { Some result.value ≡ self.value }
     {
         self.into_loose().into_box()
+    }
+
+    /// The game that it holds, where it lies.
+    pub fn get_mut(&mut self) -> &mut Stepping
+        requires { self.old.value ≢ None }
+        ensures* writes_back { sem 𝓛 (lends_game self.entry result) }
+        ensures value { Some result.now ≡ self.old.value }
+    {
+        unsafe { &mut *(self.at as *mut Stepping) }
     }
 
     /// A handle that holds nothing. Its pointer is null.

@@ -332,7 +332,7 @@ pub extern "C" fn btworld_intent(
     ensures status { IsIntentStatus result }
     ensures kept { game.new.handle.value ≡ game.old.handle.value }
 {
-    match read(alloc, game, |held| wish_of(alloc, held, mask, agent)) {
+    match read(game, |held| wish_of(alloc, held, mask, agent)) {
         Some(Ok(wish)) => {
             *out = wish;
             OK

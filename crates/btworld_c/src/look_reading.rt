@@ -6,14 +6,12 @@ ghost use Rattle.btworld_c.specs.Many.{held_by, held_at, cells_in, agents_in, al
 
 use crate::agent_reading::{agent_count, btworld_agents};
 use crate::cell_reading::{btworld_cells, cell_count};
-use crate::game::{Agent, CellState, Game, put, take};
+use crate::game::{Agent, CellState, Game};
 use crate::status::{CLOSED, OK, SHORT};
-use std::alloc::Global;
 use stepping::Stepping;
 
 // Writes all cells and all agents of a game at the start of two buffers, and tells how many they are.
 fn look(
-    alloc: Global,
     game: &mut Game,
     cells: &mut [CellState],
     agents: &mut [Agent],
@@ -28,12 +26,12 @@ fn look(
     ensures kept { game.new.handle.value ≡ game.old.handle.value }
 {
     let mut cell_count = 0;
-    let seen = btworld_cells(alloc, game, cells, &mut cell_count);
+    let seen = btworld_cells(game, cells, &mut cell_count);
     if seen != OK {
         return Err(seen);
     }
     let mut agent_count = 0;
-    let met = btworld_agents(alloc, game, agents, &mut agent_count);
+    let met = btworld_agents(game, agents, &mut agent_count);
     if met != OK {
         return Err(met);
     }
@@ -42,7 +40,6 @@ fn look(
 
 // The same of one of many games.
 fn look_at(
-    alloc: Global,
     games: &mut [Game],
     number: usize,
     cells: &mut [CellState],
@@ -58,16 +55,11 @@ fn look_at(
     ensures status { IfErr result (λ status. (status ≡ closed) ⊎ (status ≡ short)) }
     ensures kept { held_by games.new ≡ held_by games.old }
 {
-    look(alloc, &mut games[number], cells, agents)
+    look(&mut games[number], cells, agents)
 }
 
 // Writes all cells of each game behind one another at the start of a buffer, and all agents at the start of another.
-fn write_all(
-    alloc: Global,
-    games: &mut [Game],
-    cells: &mut [CellState],
-    agents: &mut [Agent],
-) -> u32
+fn write_all(games: &mut [Game], cells: &mut [CellState], agents: &mut [Agent]) -> u32
     ensures cells { result ≡ done → IsFilled (all_cells games.old) (length (all_cells games.old)) cells.old cells.new }
     ensures agents { result ≡ done → IsFilled (all_agents games.old) (length (all_agents games.old)) agents.old agents.new }
     ensures held { result ≡ closed → (k : ℕ) × (k < length games.old) × (held_at games.old k ≡ None) }
@@ -79,7 +71,6 @@ fn write_all(
     let mut agents_at = 0;
     'games: for number in 0..games.len() {
         match look_at(
-            alloc,
             games,
             number,
             &mut cells[cells_at..],
@@ -104,21 +95,21 @@ fn counts_of(held: &Stepping) -> (usize, usize)
 }
 
 // How many cells and agents a game has.
-fn counts(alloc: Global, game: &mut Game) -> Option<(usize, usize)>
+fn counts(game: &mut Game) -> Option<(usize, usize)>
     ensures cells { IfSome result (λ counts. counts.0 ≡ length (cells_in game.old.handle.value)) }
     ensures agents { IfSome result (λ counts. counts.1 ≡ length (agents_in game.old.handle.value)) }
     ensures open { OnSome result (game.old.handle.value ≢ None) }
     ensures none { IfNone result (game.old.handle.value ≡ None) }
     ensures kept { game.new.handle.value ≡ game.old.handle.value }
 {
-    let held = take(alloc, game)?;
-    let counts = counts_of(&held);
-    put(game, held);
-    Some(counts)
+    if !game.is_open {
+        return None;
+    }
+    Some(counts_of(game.handle.get_mut()))
 }
 
 // The same of one of many games.
-fn counts_at(alloc: Global, games: &mut [Game], number: usize) -> Option<(usize, usize)>
+fn counts_at(games: &mut [Game], number: usize) -> Option<(usize, usize)>
     requires { number < length games.old }
     ensures cells { IfSome result (λ counts. counts.0 ≡ length (cells_in (held_at games.old number))) }
     ensures agents { IfSome result (λ counts. counts.1 ≡ length (agents_in (held_at games.old number))) }
@@ -126,11 +117,11 @@ fn counts_at(alloc: Global, games: &mut [Game], number: usize) -> Option<(usize,
     ensures none { IfNone result (held_at games.old number ≡ None) }
     ensures kept { held_by games.new ≡ held_by games.old }
 {
-    counts(alloc, &mut games[number])
+    counts(&mut games[number])
 }
 
 // Whether all hold games, whose cells and agents are no more than these.
-fn room_for(alloc: Global, games: &mut [Game], cells: usize, agents: usize) -> u32
+fn room_for(games: &mut [Game], cells: usize, agents: usize) -> u32
     ensures open { result ≡ done → (k : ℕ) → k < length games.old → held_at games.old k ≢ None }
     ensures cells { result ≡ done → length (all_cells games.old) ≤ cells }
     ensures agents { result ≡ done → length (all_agents games.old) ≤ agents }
@@ -142,7 +133,7 @@ fn room_for(alloc: Global, games: &mut [Game], cells: usize, agents: usize) -> u
     let mut cells_left = cells;
     let mut agents_left = agents;
     'games: for number in 0..games.len() {
-        let Some(counts) = counts_at(alloc, games, number) else {
+        let Some(counts) = counts_at(games, number) else {
             return CLOSED;
         };
         let more_cells = counts.0;
@@ -164,7 +155,6 @@ fn room_for(alloc: Global, games: &mut [Game], cells: usize, agents: usize) -> u
 /// whichever comes at the first game. Where it is not 0 the buffers are as they were.
 #[unsafe(no_mangle)]
 pub extern "C" fn btworld_look_all(
-    alloc: Global,
     games: &mut [Game],
     cells: &mut [CellState],
     agents: &mut [Agent],
@@ -178,11 +168,11 @@ pub extern "C" fn btworld_look_all(
     ensures status { IsLookStatus result }
     ensures kept { held_by games.new ≡ held_by games.old }
 {
-    let status = room_for(alloc, games, cells.len(), agents.len());
+    let status = room_for(games, cells.len(), agents.len());
     if status != OK {
         return status;
     }
-    let written = write_all(alloc, games, cells, agents);
+    let written = write_all(games, cells, agents);
     if written != OK {
         unreachable!()
     }

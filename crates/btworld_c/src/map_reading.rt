@@ -8,7 +8,6 @@ ghost use Rattle.btworld_c.specs.Maps.{IsMap, IsCell, IsOffMap, mark_told, agent
 use crate::game::{CellState, Game, read};
 use crate::status::{CLOSED, NO_CELL, OK};
 use grid_world::{Agent, Cell, World};
-use std::alloc::Global;
 use stepping::Stepping;
 
 // How many columns and rows the map has, and how many agents stand on it.
@@ -23,7 +22,6 @@ fn size_of(held: &Stepping) -> (u32, u32, u32)
 /// is written. It takes constant time.
 #[unsafe(no_mangle)]
 pub extern "C" fn btworld_map(
-    alloc: Global,
     game: &mut Game,
     width: &mut u32,
     height: &mut u32,
@@ -36,7 +34,7 @@ pub extern "C" fn btworld_map(
     ensures answered { (result ≡ done) ⊎ (result ≡ closed) }
     ensures kept { game.new.handle.value ≡ game.old.handle.value }
 {
-    let Some((columns, rows, many)) = read(alloc, game, size_of) else {
+    let Some((columns, rows, many)) = read(game, size_of) else {
         return CLOSED;
     };
     *width = columns;
@@ -99,13 +97,7 @@ fn cell_at(held: &Stepping, x: u32, y: u32) -> Option<CellState>
 /// What lies and stands on a cell after the frame, at a column from the left and a row from the top, both from 0. The status is
 /// 2 for a closed handle, and 8 where there is no such cell. Where it is not 0 nothing is written. It takes constant time.
 #[unsafe(no_mangle)]
-pub extern "C" fn btworld_cell(
-    alloc: Global,
-    game: &mut Game,
-    x: u32,
-    y: u32,
-    out: &mut CellState,
-) -> u32
+pub extern "C" fn btworld_cell(game: &mut Game, x: u32, y: u32, out: &mut CellState) -> u32
     ensures ok { result ≡ done → IsCell game.old.handle.value x y out.new }
     ensures off { result ≡ off_map → IsOffMap game.old.handle.value x y }
     ensures untouched { result ≢ done → out.new ≡ out.old }
@@ -114,7 +106,7 @@ pub extern "C" fn btworld_cell(
     ensures status { IsCellStatus result }
     ensures kept { game.new.handle.value ≡ game.old.handle.value }
 {
-    match read(alloc, game, |held| cell_at(held, x, y)) {
+    match read(game, |held| cell_at(held, x, y)) {
         Some(Some(cell)) => {
             *out = cell;
             OK

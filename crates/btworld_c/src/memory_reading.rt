@@ -45,7 +45,7 @@ pub extern "C" fn btworld_memory(
     ensures status { IsMemoryStatus result }
     ensures kept { game.new.handle.value ≡ game.old.handle.value }
 {
-    match read(alloc, game, |held| memory_of(alloc, held, agent)) {
+    match read(game, |held| memory_of(alloc, held, agent)) {
         Some(Ok(found)) => fill(&found, numbers, size),
         Some(Err(status)) => status,
         None => CLOSED,

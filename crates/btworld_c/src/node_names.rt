@@ -85,7 +85,7 @@ pub extern "C" fn btworld_node_names(
     ensures status { IsMemoryStatus result }
     ensures kept { game.new.handle.value ≡ game.old.handle.value }
 {
-    match read(alloc, game, |held| names_of(alloc, held, agent)) {
+    match read(game, |held| names_of(alloc, held, agent)) {
         Some(Ok(found)) => fill(&found, text, size),
         Some(Err(status)) => status,
         None => CLOSED,

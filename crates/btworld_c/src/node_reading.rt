@@ -70,7 +70,7 @@ pub extern "C" fn btworld_nodes(
     ensures status { IsMemoryStatus result }
     ensures kept { game.new.handle.value ≡ game.old.handle.value }
 {
-    match read(alloc, game, |held| answers_of(alloc, held, mask, agent)) {
+    match read(game, |held| answers_of(alloc, held, mask, agent)) {
         Some(Ok(found)) => fill(&found, answers, size),
         Some(Err(status)) => status,
         None => CLOSED,

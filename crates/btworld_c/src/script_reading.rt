@@ -42,7 +42,7 @@ pub extern "C" fn btworld_script(
     ensures status { IsScriptStatus result }
     ensures kept { game.new.handle.value ≡ game.old.handle.value }
 {
-    match read(alloc, game, |held| script_so_far(alloc, held)) {
+    match read(game, |held| script_so_far(alloc, held)) {
         Some(Ok(written)) => fill(&written, text, size),
         Some(Err(status)) => status,
         None => CLOSED,

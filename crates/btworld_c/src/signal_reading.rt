@@ -5,7 +5,6 @@ ghost use Rattle.btworld_c.specs.Readings.{AreSignals};
 
 use crate::game::{Game, read};
 use crate::status::{CLOSED, LAST_FRAME, OK};
-use std::alloc::Global;
 use stepping::{Stepping, mask_of};
 
 // The signals of the frame and those that the script has in the next one, if there is a next one.
@@ -24,12 +23,7 @@ fn signals_of(held: &Stepping) -> Result<(u32, u32), u32>
 /// a closed handle, and 7 after 2^32 - 1 frames. Where it is not 0 nothing is written. It takes a time that grows with the
 /// logarithm of the script's length.
 #[unsafe(no_mangle)]
-pub extern "C" fn btworld_signals(
-    alloc: Global,
-    game: &mut Game,
-    shown: &mut u32,
-    scripted: &mut u32,
-) -> u32
+pub extern "C" fn btworld_signals(game: &mut Game, shown: &mut u32, scripted: &mut u32) -> u32
     ensures ok { result ≡ done → AreSignals game.old.handle.value shown.new scripted.new }
     ensures untouched { result ≢ done → (shown.new ≡ shown.old) × (scripted.new ≡ scripted.old) }
     ensures closed { game.old.handle.value ≡ None → result ≡ closed }
@@ -39,7 +33,7 @@ pub extern "C" fn btworld_signals(
     ensures status { IsSignalsStatus result }
     ensures kept { game.new.handle.value ≡ game.old.handle.value }
 {
-    match read(alloc, game, signals_of) {
+    match read(game, signals_of) {
         Some(Ok((now, next))) => {
             *shown = now;
             *scripted = next;

@@ -13,7 +13,7 @@ use stepping::Stepping;
 /// their files look like. The status is 0, or 2 for a closed handle, and then nothing is written. It takes time linear in the
 /// number of cells and of nodes, and no memory.
 #[unsafe(no_mangle)]
-pub extern "C" fn btworld_level_digest(alloc: Global, game: &mut Game, digest: &mut u64) -> u32
+pub extern "C" fn btworld_level_digest(game: &mut Game, digest: &mut u64) -> u32
     ensures ok { result ≡ done → IsLevelDigest game.old.handle.value digest.new }
     ensures untouched { result ≢ done → digest.new ≡ digest.old }
     ensures closed { game.old.handle.value ≡ None → result ≡ closed }
@@ -21,7 +21,7 @@ pub extern "C" fn btworld_level_digest(alloc: Global, game: &mut Game, digest: &
     ensures answered { (result ≡ done) ⊎ (result ≡ closed) }
     ensures kept { game.new.handle.value ≡ game.old.handle.value }
 {
-    let Some(told) = read(alloc, game, Stepping::level_digest) else {
+    let Some(told) = read(game, Stepping::level_digest) else {
         return CLOSED;
     };
     *digest = told;
@@ -47,7 +47,7 @@ pub extern "C" fn btworld_state(
     ensures status { IsStateStatus result }
     ensures kept { game.new.handle.value ≡ game.old.handle.value }
 {
-    match read(alloc, game, |held| held.state_text(alloc)) {
+    match read(game, |held| held.state_text(alloc)) {
         Some(Ok(written)) => fill(&written, text, size),
         Some(Err(_)) => NO_MEMORY,
         None => CLOSED,

@@ -53,7 +53,7 @@ pub extern "C" fn btworld_why(
     ensures status { IsTickStatus result }
     ensures kept { game.new.handle.value ≡ game.old.handle.value }
 {
-    match read(alloc, game, |held| told(alloc, held, mask, agent)) {
+    match read(game, |held| told(alloc, held, mask, agent)) {
         Some(Ok(written)) => fill(&written, text, size),
         Some(Err(status)) => status,
         None => CLOSED,

@@ -108,7 +108,7 @@ pub extern "C" fn btworld_way(
     ensures status { IsWayStatus result }
     ensures kept { game.new.handle.value ≡ game.old.handle.value }
 {
-    match read(alloc, game, |held| way_of(alloc, held, mask, agent, place)) {
+    match read(game, |held| way_of(alloc, held, mask, agent, place)) {
         Some(Ok(way)) => {
             *out = way;
             OK

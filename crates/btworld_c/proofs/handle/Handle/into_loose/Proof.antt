@@ -1,5 +1,5 @@
 -- a walk of its MIR
-use Rattle.std.proofs.Common.{◌≡◌, ◌≢◌, List, [], ◌∷◌, ◌++◌, refl, sym, subst, Some, None, Option}
+use Rattle.std.proofs.Common.{◌≡◌, ◌≢◌, List, [], ◌∷◌, ◌++◌, refl, sym, subst, Some, None}
 use mir.Val.{Val, vptr}
 use base.Logic.{SProp, ent, emp, id⊢}
 use base.Fml.{ftrue}
@@ -19,15 +19,11 @@ use denote.Triple.Walked.{Stays, stay_dropped, walk_of, Goes-dropped}
 use Rattle.std.proofs.raw_atomic.Walks.{proved_at, leaves}
 use Rattle.std.specs.contracts.impls.GlobalAllocator.TheImpl.{ghosts}
 use Rattle.btworld_c.proofs.Values.{both, loose_good, loose_in}
-use Rattle.btworld_c.proofs.HandleValues.{R, Z, LZ, Handle, handle_out}
+use Rattle.btworld_c.proofs.HandleValues.{R, Z, LZ, Handle, handle_out, some_of}
 use Rattle.btworld_c.specs.contracts.handle.Handle.into_loose.{ended, clauses}
 use Rattle.btworld_c.specs.contracts.handle.Handle.into_loose.Key.{name as #self}
 use Rattle.btworld_c.proofs.handle.Handle.into_loose.Statement.{statement}
 use Rattle.btworld_c.proofs.handle.Handle.into_loose.Code as code
-
-some_of : {X : Type 0} (o : Option X) → o ≢ None → (x : X) × (o ≡ Some x)
-some_of None ne = absurd (ne refl)
-some_of (Some x) ne = (x, refl)
 
 pub into_loose_spec : {M : Type 1} → statement M
 into_loose_spec 𝓤 𝓛 𝓜 𝓡 wired =
