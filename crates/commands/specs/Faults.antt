@@ -8,9 +8,11 @@ use Rattle.run_shared.specs.declared.fault.Cause.{Cause}
 use Rattle.run_shared.specs.declared.fault.Cause.TheVariants as causes
 use Rattle.play_run.specs.declared.play_fault.PlayFault.{PlayFault}
 use Rattle.play_run.specs.declared.play_fault.PlayFault.TheVariants.{Level, Script, Run}
+use Rattle.commands.specs.declared.record_fault.RecordFault.{RecordFault}
+use Rattle.commands.specs.declared.record_fault.RecordFault.TheVariants as records
 use Rattle.command_line.specs.declared.program_fault.Fault.{Fault}
 use Rattle.command_line.specs.declared.program_fault.Fault.TheVariants.{Write, Spawn, GateClosed, Stranger, OutOfMemory}
-use Rattle.command_line.specs.Faults.{IsOfLevel, IsOfScript}
+use Rattle.command_line.specs.Faults.{IsFileFault, IsOfLevel, IsOfScript}
 use Rattle.command_line.specs.Sessions.{IsLevelFault}
 
 abbrev pub IsOfCause : Cause → Fault → Type 0
@@ -24,6 +26,12 @@ abbrev pub IsOfPlay : PlayFault → Fault → Type 0
 IsOfPlay (Level f) fault = IsOfLevel f fault
 IsOfPlay (Script f) fault = IsOfScript f fault
 IsOfPlay (Run f) fault = IsOfCause f.cause fault
+
+-- of a run that isn't recorded in the file of this path
+abbrev pub IsOfRecord : (path : List ℕ) → RecordFault → Fault → Type 0
+IsOfRecord path records.OutOfMemory fault = fault ≡ OutOfMemory
+IsOfRecord path (records.Run f) fault = IsOfCause f.cause fault
+IsOfRecord path records.Journal fault = IsFileFault path fault
 
 abbrev pub IsPlayFault : (level script : List ℕ) → PlayFault → Type 0
 IsPlayFault level script (Level f) = IsFaultOfBoth level script (faults.Level f)
